@@ -1,0 +1,6 @@
+-- Laws of the definitions of specs/, which belong to no one function.
+pub mod Rounding
+pub mod Exponent
+pub mod Suggested
+pub mod Program
+pub mod Limits

@@ -1,0 +1,16 @@
+use Rattle.capability.specs.Capability.{moveOf}
+use borrow.Author.Needs.{needs}
+use Rattle.capability.proofs.changing.move_address.Statement.{statement}
+use Rattle.capability.proofs.changing.move_address.Tie as tie
+
+returns : tie.Need-returns
+unfolding moveOf
+returns c =
+    let b = c .before .before .before in
+    simp
+    (c .choose .ensures .0, c .before .both .ensures, c .before .before .same-bounds .ensures, b .is-unsealed .ensures)
+
+pub move-address-spec : {M : Type 1} → statement M
+move-address-spec =
+    tie.close
+    (tie.spec (λ c κs. search needs) (λ c κs. search needs) (λ c κs. search needs) (λ c κs. search needs) returns)

@@ -1,0 +1,32 @@
+use Rattle.capability.specs.Sealing.{authorizes}
+use borrow.Author.Needs.{needs}
+use Rattle.capability.proofs.sealing.has_authority.Statement.{statement}
+use Rattle.capability.proofs.sealing.has_authority.Tie as tie
+
+returns : tie.Need-returns
+unfolding authorizes
+returns c =
+    let b = c .before .before .before in
+    let d = b .before .before .before in
+    simp (
+      c .both3 .ensures,
+      c .before .both2 .ensures,
+      c .before .before .is-sealed .ensures,
+      b .is-tagged .ensures,
+      b .before .both .ensures,
+      b .before .before .in-bounds .ensures,
+      d .has-right .ensures,
+    )
+
+pub has-authority-spec : {M : Type 1} → statement M
+has-authority-spec =
+    tie.close
+    (tie.spec
+    (λ c κs. search needs)
+    (λ c κs. search needs)
+    (λ c κs. search needs)
+    (λ c κs. search needs)
+    (λ c κs. search needs)
+    (λ c κs. search needs)
+    (λ c κs. search needs)
+    returns)

@@ -1,0 +1,30 @@
+use Rattle.capability.specs.Sealing.{objectType}
+use borrow.Author.Needs.{needs}
+use Rattle.capability.proofs.sealing.object_type.Statement.{statement}
+use Rattle.capability.proofs.sealing.object_type.Tie as tie
+
+returns : tie.Need-returns
+unfolding objectType
+returns c =
+    let b = c .before .before .before in (
+      simp (
+        c .choose .ensures .0,
+        c .before .both .ensures,
+        c .before .before .has-right .ensures,
+        b .is-sealed .ensures,
+        b .before .otype .ensures .0,
+      ),
+      search needs,
+    )
+
+pub object-type-spec : {M : Type 1} → statement M
+object-type-spec =
+    tie.close
+    (tie.spec
+    (λ c κs. search needs)
+    (λ c κs. search needs)
+    (λ c κs. search needs)
+    (λ c κs. search needs)
+    (λ c. search needs)
+    (λ c κs. search needs)
+    returns)

@@ -1,0 +1,3 @@
+pub mod Capability
+pub mod Sealing
+pub mod Loading

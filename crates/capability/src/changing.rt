@@ -1,0 +1,94 @@
+// Another address, other bounds, fewer rights: each keeps the tag only by its own rule.
+use crate::Capability;
+use crate::choosing::both;
+use crate::choosing::choose;
+use crate::reading::bounds_of;
+use crate::reading::covers_range;
+use crate::reading::is_unsealed;
+use bounds::Region;
+ghost use mathlib.Core.Path.{_≡_};
+ghost use mathlib.Core.Bool.{_&&_};
+ghost use lib.Dec.{eqb};
+ghost use Rattle.capability.specs.Capability.{clearTag, sameBounds, moveOf, setBoundsOf, setBoundsExactOf, narrowOf};
+
+// The capability without its tag.
+pub fn clear_tag(c: Capability) -> Capability
+    ensures { λ r. ⌜ r ≡ clearTag c ⌝ }
+{
+    Capability {
+        address: c.address,
+        metadata: c.metadata,
+        tag: 0,
+    }
+}
+
+// Whether two regions have the same bounds.
+fn same_region(x: Region, y: Region) -> bool
+    ensures { λ r. ⌜ r ≡ (eqb (x .low) (y .low) && eqb (x .high) (y .high)) ⌝ }
+{
+    both(x.low == y.low, x.high == y.high)
+}
+
+// Whether both bounds are the same at another address.
+fn same_bounds(c: Capability, to: u32) -> bool
+    ensures { λ r. ⌜ r ≡ sameBounds c to ⌝ }
+{
+    same_region(bounds::bounds(to, c.metadata), bounds_of(c))
+}
+
+// The capability at another address.
+pub fn move_address(c: Capability, to: u32) -> Capability
+    ensures { λ r. ⌜ r ≡ moveOf c to ⌝ }
+{
+    let unsealed = is_unsealed(c);
+    let tag = choose(both(unsealed, same_bounds(c, to)), c.tag, 0);
+    Capability {
+        address: to,
+        metadata: c.metadata,
+        tag,
+    }
+}
+
+// CSetBounds.
+pub fn set_bounds(c: Capability, length: u32) -> Capability
+    ensures { λ r. ⌜ r ≡ setBoundsOf c length ⌝ }
+{
+    let start = c.address as u64;
+    let inside = covers_range(c, start, start + length as u64);
+    let tag = choose(both(is_unsealed(c), inside), c.tag, 0);
+    let metadata = bounds::with_cut(c.metadata, c.address, length);
+    Capability {
+        address: c.address,
+        metadata,
+        tag,
+    }
+}
+
+// CSetBoundsExact.
+pub fn set_bounds_exact(c: Capability, length: u32) -> Capability
+    ensures { λ r. ⌜ r ≡ setBoundsExactOf c length ⌝ }
+{
+    let start = c.address as u64;
+    let inside = covers_range(c, start, start + length as u64);
+    let exact = both(inside, bounds::is_unrounded(c.address, length));
+    let tag = choose(both(is_unsealed(c), exact), c.tag, 0);
+    let metadata = bounds::with_cut(c.metadata, c.address, length);
+    Capability {
+        address: c.address,
+        metadata,
+        tag,
+    }
+}
+
+// CAndPerm: the rights that both the capability and the mask have.
+pub fn narrow_rights(c: Capability, mask: u32) -> Capability
+    ensures { λ r. ⌜ r ≡ narrowOf c mask ⌝ }
+{
+    let tag = choose(is_unsealed(c), c.tag, 0);
+    let metadata = metadata::narrow(c.metadata, mask);
+    Capability {
+        address: c.address,
+        metadata,
+        tag,
+    }
+}

@@ -1,0 +1,32 @@
+// A capability as a register holds it, and what may be asked of it and done to it.
+mod changing;
+mod choosing;
+mod loading;
+mod reading;
+mod sealing;
+
+pub use changing::clear_tag;
+pub use changing::move_address;
+pub use changing::narrow_rights;
+pub use changing::set_bounds;
+pub use changing::set_bounds_exact;
+pub use loading::is_revocable;
+pub use loading::loaded;
+pub use reading::bounds_of;
+pub use reading::covers_range;
+pub use reading::has_right;
+pub use reading::is_sealed;
+pub use reading::is_tagged;
+pub use reading::rights_of;
+pub use sealing::is_sentry;
+pub use sealing::object_type;
+pub use sealing::seal;
+pub use sealing::unseal;
+pub use sealing::with_object_type;
+
+// Address, metadata word, and tag, 0 or 1.
+pub struct Capability {
+    pub address: u32,
+    pub metadata: u32,
+    pub tag: u32,
+}

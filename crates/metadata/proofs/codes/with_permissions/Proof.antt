@@ -1,0 +1,13 @@
+use mathlib.Core.Path.{refl}
+use Rattle.metadata.specs.Word.{withPermissions}
+use borrow.Author.Needs.{needs}
+use Rattle.metadata.proofs.codes.with_permissions.Statement.{statement}
+use Rattle.metadata.proofs.codes.with_permissions.Tie as tie
+
+returns : tie.Need-returns
+unfolding withPermissions
+returns c = refl
+
+pub with-permissions-spec : {M : Type 1} → statement M
+with-permissions-spec =
+    tie.close (tie.spec (λ c. search needs) (λ c. search needs) (λ c. search needs) (λ c. search needs) returns)

@@ -1,0 +1,12 @@
+use mathlib.Core.Path.{refl}
+use native.Mathlib.Omega.{arith}
+use Rattle.metadata.specs.Word.{permissionsOf}
+use Rattle.metadata.proofs.word.permissions.Statement.{statement}
+use Rattle.metadata.proofs.word.permissions.Tie as tie
+
+returns : tie.Need-returns
+unfolding permissionsOf
+returns c = (refl, omega arith)
+
+pub permissions-spec : {M : Type 1} → statement M
+permissions-spec = tie.close (tie.spec returns)

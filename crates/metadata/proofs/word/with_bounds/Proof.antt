@@ -1,0 +1,14 @@
+use mathlib.Core.Path.{refl}
+use Rattle.metadata.specs.Word.{withBounds}
+use borrow.Author.Needs.{needs}
+use Rattle.metadata.proofs.word.with_bounds.Statement.{statement}
+use Rattle.metadata.proofs.word.with_bounds.Tie as tie
+
+returns : tie.Need-returns
+unfolding withBounds
+returns c = refl
+
+pub with-bounds-spec : {M : Type 1} → statement M
+with-bounds-spec =
+    tie.close
+    (tie.spec (λ c. search needs) (λ c. search needs) (λ c. search needs) (λ c. search needs) (λ c. search needs) (λ c. search needs) returns)

@@ -1,0 +1,4 @@
+pub mod Tests
+pub mod Word
+pub mod Bytes
+pub mod Bits

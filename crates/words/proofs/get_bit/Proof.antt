@@ -1,0 +1,11 @@
+use Rattle.words.specs.Words.{bitAt}
+use borrow.Author.Needs.{needs}
+use Rattle.words.proofs.get_bit.Statement.{statement}
+use Rattle.words.proofs.get_bit.Tie as tie
+
+returns : tie.Need-returns
+unfolding bitAt
+returns c = search needs
+
+pub get-bit-spec : {M : Type 1} → statement M
+get-bit-spec = tie.close (tie.spec (λ c. search needs) (λ c. search needs) (λ c. search needs) (λ c κs. search needs) returns)

@@ -1,0 +1,33 @@
+use native.Mathlib.Omega.{arith}
+use native.Mathlib.Nat.{add-zero}
+use Rattle.words.specs.Words.{leBytes}
+use borrow.Author.Needs.{needs}
+use Rattle.words.proofs.load32.Statement.{statement}
+use Rattle.words.proofs.load32.Tie as tie
+
+returns : tie.Need-returns
+unfolding leBytes
+returns c = rw add-zero (omega arith)
+
+pub load32-spec : {M : Type 1} → statement M
+load32-spec =
+    tie.close
+    (tie.spec
+    (λ c. search needs)
+    (λ c κs. search needs)
+    (λ c. search needs)
+    (λ c. search needs)
+    (λ c κs. search needs)
+    (λ c. search needs)
+    (λ c. search needs)
+    (λ c. search needs)
+    (λ c. search needs)
+    (λ c κs. search needs)
+    (λ c. search needs)
+    (λ c. search needs)
+    (λ c. search needs)
+    (λ c. search needs)
+    (λ c κs. search needs)
+    (λ c. search needs)
+    (λ c. search needs)
+    returns)

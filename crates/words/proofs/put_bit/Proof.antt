@@ -1,0 +1,21 @@
+use Rattle.words.specs.Words.{putBit}
+use borrow.Author.Needs.{needs}
+use Rattle.words.proofs.put_bit.Statement.{statement}
+use Rattle.words.proofs.put_bit.Tie as tie
+
+returns : tie.Need-returns
+unfolding putBit
+returns c = simp (c .with-bit .ensures .0, c .before .wide .ensures .0)
+
+pub put-bit-spec : {M : Type 1} → statement M
+put-bit-spec =
+    tie.close
+    (tie.spec
+    (λ c. search needs)
+    (λ c κs. search needs)
+    (λ c. search needs)
+    (λ c κs. search needs)
+    (λ c. search needs)
+    (λ c. search needs)
+    (λ c. search needs)
+    returns)

@@ -1,0 +1,12 @@
+use native.Mathlib.Nat.{add-zero, div-one}
+use Rattle.words.specs.Words.{setBytes}
+use borrow.Author.Needs.{needs}
+use Rattle.words.proofs.store8.Statement.{statement}
+use Rattle.words.proofs.store8.Tie as tie
+
+returns : tie.Need-returns
+unfolding setBytes
+returns c = simp (add-zero, div-one)
+
+pub store8-spec : {M : Type 1} → statement M
+store8-spec = tie.close (tie.spec (λ c. search needs) (λ c. search needs) (λ c. search needs) returns)

@@ -1,0 +1,166 @@
+// Words of 32 bits as numbers: shifts, signed order, sign extension; little-endian bytes; one bit of a byte buffer.
+ghost use mathlib.Core.Path.{_≡_};
+ghost use mathlib.Core.Bool.{cond};
+ghost use Prim.Native.Nat.{_+_, _-_, _*_, _<_, _≤_, _%_, _^_};
+ghost use lib.ListN.{length};
+ghost use lib.Dec.{ltb};
+ghost use lib.Bits.{bitAnd, bitXor, bitOr};
+ghost use Rattle.words.specs.Words.{signExtend, sllOf, srlOf, sraOf, lessSigned, sltOf, sltuOf, le8, le16, le32, set8, set16, set32, bitAt, withBit, putBit};
+
+pub fn and(a: u32, b: u32) -> u32
+    ensures { λ r. ⌜ r ≡ bitAnd a b ⌝ }
+{
+    a & b
+}
+
+pub fn or(a: u32, b: u32) -> u32
+    ensures { λ r. ⌜ r ≡ bitOr a b ⌝ }
+{
+    a | b
+}
+
+pub fn xor(a: u32, b: u32) -> u32
+    ensures { λ r. ⌜ r ≡ bitXor a b ⌝ }
+{
+    a ^ b
+}
+
+pub fn sll(a: u32, k: u32) -> u32
+    ensures { λ r. ⌜ r ≡ sllOf a k ⌝ }
+{
+    a << (k % 32)
+}
+
+pub fn srl(a: u32, k: u32) -> u32
+    ensures { λ r. ⌜ r ≡ srlOf a k ⌝ }
+{
+    a >> (k % 32)
+}
+
+pub fn sra(a: u32, k: u32) -> u32
+    ensures { λ r. ⌜ r ≡ sraOf a k ⌝ }
+{
+    if a < 2147483648 {
+        a >> (k % 32)
+    } else {
+        4294967295 - (4294967295 - a >> (k % 32))
+    }
+}
+
+pub fn less_signed(a: u32, b: u32) -> bool
+    ensures { λ r. ⌜ r ≡ lessSigned a b ⌝ }
+{
+    std::num::wrapping_add_u32(a, 2147483648) < std::num::wrapping_add_u32(b, 2147483648)
+}
+
+pub fn slt(a: u32, b: u32) -> u32
+    ensures { λ r. ⌜ r ≡ sltOf a b ⌝ }
+{
+    if less_signed(a, b) { 1 } else { 0 }
+}
+
+pub fn sltu(a: u32, b: u32) -> u32
+    ensures { λ r. ⌜ r ≡ sltuOf a b ⌝ }
+{
+    if a < b { 1 } else { 0 }
+}
+
+fn power(k: u32) -> u32
+    requires { ⌜ k < 32 ⌝ }
+    ensures { λ r. ⌜ (r ≡ 2 ^ k) × (0 < r) × (r ≤ 2147483648) ⌝ }
+{
+    1 << k
+}
+
+// The low bits of x, p = 2 ^ bits.
+fn extend(x: u32, p: u32) -> u32
+    requires { ⌜ (0 < p) × (p ≤ 2147483648) ⌝ }
+    ensures { λ r. ⌜ r ≡ cond (ltb (2 * (x % p)) p) (x % p) (x % p + (2 ^ 32 - p)) ⌝ }
+{
+    let low = x % p;
+    if 2 * low < p {
+        low
+    } else {
+        low + (4294967295 - p + 1)
+    }
+}
+
+pub fn sign_extend(x: u32, bits: u32) -> u32
+    ensures { λ r. ⌜ r ≡ signExtend x bits ⌝ }
+{
+    if bits < 32 { extend(x, power(bits)) } else { x }
+}
+
+fn wide(x: u8) -> u32
+    ensures { λ r. ⌜ (r ≡ x) × (r < 256) ⌝ }
+{
+    x as u32
+}
+
+pub fn load8(m: &[u8], at: usize) -> u32
+    requires { ⌜ at < length (now m) ⌝ }
+    ensures { λ r. ⌜ r ≡ le8 (now (m .entry)) at ⌝ }
+{
+    wide(m[at])
+}
+
+pub fn load16(m: &[u8], at: usize) -> u32
+    requires { ⌜ at + 2 ≤ length (now m) ⌝ }
+    ensures { λ r. ⌜ r ≡ le16 (now (m .entry)) at ⌝ }
+{
+    wide(m[at]) + wide(m[at + 1]) * 256
+}
+
+pub fn load32(m: &[u8], at: usize) -> u32
+    requires { ⌜ at + 4 ≤ length (now m) ⌝ }
+    ensures { λ r. ⌜ r ≡ le32 (now (m .entry)) at ⌝ }
+{
+    wide(m[at]) + wide(m[at + 1]) * 256 + wide(m[at + 2]) * 65536 + wide(m[at + 3]) * 16777216
+}
+
+pub fn store8(m: &mut [u8], at: usize, v: u32)
+    requires { ⌜ at < length (now m) ⌝ }
+    ensures { λ _. ⌜ now (m .exit) ≡ set8 (now (m .entry)) at v ⌝ }
+{
+    m[at] = (v % 256) as u8;
+}
+
+pub fn store16(m: &mut [u8], at: usize, v: u32)
+    requires { ⌜ at + 2 ≤ length (now m) ⌝ }
+    ensures { λ _. ⌜ now (m .exit) ≡ set16 (now (m .entry)) at v ⌝ }
+{
+    m[at] = (v % 256) as u8;
+    m[at + 1] = (v / 256 % 256) as u8;
+}
+
+pub fn store32(m: &mut [u8], at: usize, v: u32)
+    requires { ⌜ at + 4 ≤ length (now m) ⌝ }
+    ensures { λ _. ⌜ now (m .exit) ≡ set32 (now (m .entry)) at v ⌝ }
+{
+    m[at] = (v % 256) as u8;
+    m[at + 1] = (v / 256 % 256) as u8;
+    m[at + 2] = (v / 65536 % 256) as u8;
+    m[at + 3] = (v / 16777216 % 256) as u8;
+}
+
+pub fn get_bit(t: &[u8], g: usize) -> u32
+    requires { ⌜ g < 8 * length (now t) ⌝ }
+    ensures { λ r. ⌜ r ≡ bitAt (now (t .entry)) g ⌝ }
+{
+    wide((t[g / 8] >> (g % 8)) % 2)
+}
+
+fn with_bit(b: u32, k: u32, v: u32) -> u32
+    requires { ⌜ (b < 256) × (k < 8) ⌝ }
+    ensures { λ r. ⌜ (r ≡ withBit b k v) × (r < 256) ⌝ }
+{
+    let p = power(k);
+    (b / p / 2 * 2 + v % 2) * p + b % p
+}
+
+pub fn put_bit(t: &mut [u8], g: usize, v: u32)
+    requires { ⌜ g < 8 * length (now t) ⌝ }
+    ensures { λ _. ⌜ now (t .exit) ≡ putBit (now (t .entry)) g v ⌝ }
+{
+    t[g / 8] = with_bit(wide(t[g / 8]), (g % 8) as u32, v) as u8;
+}

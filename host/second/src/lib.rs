@@ -1,0 +1,22 @@
+//! The second bench machine: plain Rust, written from document 01 (the scope) and the CHERIoT
+//! report alone, so that comparing it in bulk with the proved program means something.
+//!
+//! Every public function is total: slices of any length, any words, no panic.
+
+#![forbid(unsafe_code)]
+
+pub mod calls;
+pub mod capability;
+pub mod decode;
+pub mod machine;
+pub mod text;
+
+pub use calls::calls;
+pub use capability::{bounds, cut, Capability, Cut};
+pub use machine::{run, step};
+pub use text::cutting_program;
+
+#[cfg(test)]
+mod assemble;
+#[cfg(test)]
+mod sample;

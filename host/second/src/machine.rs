@@ -1,0 +1,745 @@
+//! The machine: lent state and its refusals, fetch, every instruction, traps, a step and a
+//! run (document 01, "What is lent", "Answers" and "Traps"; the CHERIoT report, 7 and 9).
+
+#[cfg(test)]
+mod tests;
+
+use crate::capability::{
+    self, bounds, has, in_bounds, is_sealed, move_address, rights, seal_type, with_type,
+    Capability, EX, GL, LD, MC, NULL, SD, SL, SR,
+};
+use crate::decode::{
+    decode, Arithmetic, Condition, Csr, CsrOperation, Derivation, Instruction, LoadWidth, Operand,
+    Pairing, Query, Register, Special, StoreWidth, CGP,
+};
+
+// Places in the register file, counted in capabilities, then in words.
+const PCC: usize = 16;
+const MTCC: usize = 17;
+const MTDC: usize = 18;
+const MSCRATCHC: usize = 19;
+const MEPCC: usize = 20;
+const CAPABILITIES: usize = 21;
+const MSTATUS: usize = 63;
+const MCAUSE: usize = 64;
+const MTVAL: usize = 65;
+const WORDS: usize = 66;
+
+// The two bits of mstatus that mean anything here.
+const MIE: u32 = 1 << 3;
+const MPIE: u32 = 1 << 7;
+
+// Ordinary trap causes (RISC-V privileged standard).
+const FETCH_MISALIGNED: u32 = 0;
+const FETCH_ACCESS: u32 = 1;
+const ILLEGAL: u32 = 2;
+const BREAKPOINT: u32 = 3;
+const LOAD_MISALIGNED: u32 = 4;
+const LOAD_ACCESS: u32 = 5;
+const STORE_MISALIGNED: u32 = 6;
+const STORE_ACCESS: u32 = 7;
+const ECALL: u32 = 11;
+const CAPABILITY_TRAP: u32 = 28;
+
+// Capability causes (CHERIoT report, Table 7.3).
+const BOUNDS: u32 = 1;
+const TAG: u32 = 2;
+const SEAL: u32 = 3;
+const EXECUTE: u32 = 17;
+const LOAD: u32 = 18;
+const STORE: u32 = 19;
+const STORE_CAPABILITY: u32 = 21;
+const STORE_LOCAL_CAPABILITY: u32 = 22;
+const SYSTEM_REGISTERS: u32 = 24;
+
+/// The name of PCC in mtval; a special register n is named by this plus n (CHERIoT report,
+/// Figure 7.1).
+const PCC_NAME: u32 = 32;
+
+// Sentry types (CHERIoT report, 7.13.2); 1 is the sentry that leaves MIE alone.
+const DISABLING_SENTRY: u32 = 2;
+const ENABLING_SENTRY: u32 = 3;
+
+/// Instructions have four bytes and no fewer: there is no compressed code.
+const INSTRUCTION_BYTES: u32 = 4;
+/// The bytes that must be in bounds at a jump target, min_instruction_bytes in the CHERIoT
+/// report's CJAL and CJALR. Its prose says 2 (7.5), for a core that always has compressed
+/// code; in this configuration the smallest instruction has four.
+const TARGET_BYTES: u32 = INSTRUCTION_BYTES;
+const CAPABILITY_BYTES: u32 = 8;
+
+const MOST_STEPS: u32 = 1_000_000;
+
+/// A trap about to be taken: what mcause and mtval will hold.
+#[derive(Clone, Copy)]
+struct Trap {
+    cause: u32,
+    value: u32,
+}
+
+/// The trap of a capability check that names a register.
+fn capability_trap(register: u32, cause: u32) -> Trap {
+    Trap {
+        cause: CAPABILITY_TRAP,
+        value: register * 32 + cause,
+    }
+}
+
+/// One check: its trap unless the condition holds.
+fn require(condition: bool, trap: Trap) -> Result<(), Trap> {
+    if condition {
+        Ok(())
+    } else {
+        Err(trap)
+    }
+}
+
+/// The first checks of every use of a capability: tag, seal, right.
+fn usable(authority: Capability, name: u32, right: u32, cause: u32) -> Result<(), Trap> {
+    require(authority.tag != 0, capability_trap(name, TAG))?;
+    require(!is_sealed(authority.metadata), capability_trap(name, SEAL))?;
+    require(has(authority.metadata, right), capability_trap(name, cause))
+}
+
+/// The bounds check of an access.
+fn within(authority: Capability, name: u32, address: u32, size: u32) -> Result<(), Trap> {
+    require(
+        in_bounds(authority, address, size),
+        capability_trap(name, BOUNDS),
+    )
+}
+
+/// The alignment check of an access; sizes are powers of two.
+fn aligned(address: u32, size: u32, cause: u32) -> Result<(), Trap> {
+    require(
+        address & (size - 1) == 0,
+        Trap {
+            cause,
+            value: address,
+        },
+    )
+}
+
+/// The two checks of a jump target, bounds and alignment.
+fn target_allowed(authority: Capability, name: u32, target: u32) -> Result<(), Trap> {
+    within(authority, name, target, TARGET_BYTES)?;
+    aligned(target, INSTRUCTION_BYTES, FETCH_MISALIGNED)
+}
+
+/// An integer result: the NULL capability with that address (CHERIoT report, 7.3).
+fn integer(value: u32) -> Capability {
+    Capability {
+        address: value,
+        ..NULL
+    }
+}
+
+/// A capability as it passes through MTCC or MEPCC: the low two address bits cleared by the
+/// address-move rule, even where the address stays (document 01, "Traps").
+fn legalised(capability: Capability) -> Capability {
+    move_address(capability, capability.address & !3)
+}
+
+/// The lent state, checked.
+struct Machine<'a> {
+    words: &'a mut [u32; WORDS],
+    start: u32,
+    memory: &'a mut [u8],
+    tags: &'a mut [u8],
+    revoked: &'a [u8],
+}
+
+/// Whether the memory's start and size keep the limits.
+fn memory_allowed(start: u32, size: usize) -> bool {
+    (64..=65_536).contains(&size)
+        && size.is_multiple_of(64)
+        && start.is_multiple_of(8)
+        && u64::from(start) + size as u64 <= capability::SPACE
+}
+
+/// Whether every tag word is 0 or 1 and c0 is all zero.
+fn words_allowed(words: &[u32; WORDS]) -> bool {
+    let tags_allowed = (0..CAPABILITIES).all(|place| words[3 * place + 2] <= 1);
+    tags_allowed && words[..3] == [0, 0, 0]
+}
+
+impl<'a> Machine<'a> {
+    /// Checks lent state: the machine, or the number of the refusal, the lowest first.
+    fn lent(
+        words: &'a mut [u32],
+        start: u32,
+        memory: &'a mut [u8],
+        tags: &'a mut [u8],
+        revoked: &'a [u8],
+    ) -> Result<Machine<'a>, u64> {
+        let words: &mut [u32; WORDS] = words.try_into().map_err(|_| 1u64)?;
+        let size = memory.len();
+        if !memory_allowed(start, size) {
+            return Err(2);
+        }
+        if tags.len() != size / 64 || revoked.len() != size / 64 {
+            return Err(3);
+        }
+        if !words_allowed(words) {
+            return Err(4);
+        }
+        Ok(Machine {
+            words,
+            start,
+            memory,
+            tags,
+            revoked,
+        })
+    }
+
+    /// The capability at a place of the register file.
+    fn capability(&self, place: usize) -> Capability {
+        match self.words.get(3 * place..) {
+            Some(&[address, metadata, tag, ..]) => Capability {
+                address,
+                metadata,
+                tag,
+            },
+            _ => NULL,
+        }
+    }
+
+    fn set_capability(&mut self, place: usize, value: Capability) {
+        if let Some([address, metadata, tag, ..]) = self.words.get_mut(3 * place..) {
+            *address = value.address;
+            *metadata = value.metadata;
+            *tag = value.tag;
+        }
+    }
+
+    fn register(&self, register: Register) -> Capability {
+        self.capability(register.number() as usize)
+    }
+
+    /// Writes a general register; c0 stays zero.
+    fn set_register(&mut self, register: Register, value: Capability) {
+        if register.number() != 0 {
+            self.set_capability(register.number() as usize, value);
+        }
+    }
+
+    /// The integer that an operand stands for.
+    fn operand(&self, operand: Operand) -> u32 {
+        match operand {
+            Operand::Register(register) => self.register(register).address,
+            Operand::Immediate(value) => value,
+        }
+    }
+
+    /// The bytes at an address, if all of them are in memory.
+    fn read<const N: usize>(&self, address: u32) -> Option<[u8; N]> {
+        let offset = address.checked_sub(self.start)? as usize;
+        self.memory.get(offset..)?.first_chunk().copied()
+    }
+
+    /// Writes aligned bytes and the tag of their granule, or nothing if they are not all in
+    /// memory.
+    fn write<const N: usize>(&mut self, address: u32, bytes: [u8; N], tag: u32) -> Option<()> {
+        let offset = address.checked_sub(self.start)? as usize;
+        *self.memory.get_mut(offset..)?.first_chunk_mut()? = bytes;
+        let byte = self.tags.get_mut(offset / 64)?;
+        let bit = 1 << (offset / 8 % 8);
+        *byte = if tag == 0 { *byte & !bit } else { *byte | bit };
+        Some(())
+    }
+
+    /// The bit of the granule that holds an address, 0 outside memory; `bits` are the tags or
+    /// the revocation bits, both ordered alike.
+    fn granule_bit(&self, bits: &[u8], address: u32) -> u32 {
+        let Some(offset) = address.checked_sub(self.start) else {
+            return 0;
+        };
+        let byte = bits.get(offset as usize / 64).copied().unwrap_or(0);
+        u32::from(byte >> (offset / 8 % 8) & 1)
+    }
+
+    /// One step: true if it retired, false if it trapped.
+    fn step(&mut self) -> bool {
+        match self.fetch().and_then(|word| self.execute(word)) {
+            Ok(next) => {
+                self.set_capability(PCC, next);
+                true
+            }
+            Err(trap) => {
+                self.enter_trap(trap);
+                false
+            }
+        }
+    }
+
+    /// The instruction word at PCC (document 01, "Traps", "A fetch checks").
+    fn fetch(&self) -> Result<u32, Trap> {
+        let pcc = self.capability(PCC);
+        usable(pcc, PCC_NAME, EX, EXECUTE)?;
+        within(pcc, PCC_NAME, pcc.address, INSTRUCTION_BYTES)?;
+        aligned(pcc.address, INSTRUCTION_BYTES, FETCH_MISALIGNED)?;
+        let bytes = self.read(pcc.address).ok_or(Trap {
+            cause: FETCH_ACCESS,
+            value: pcc.address,
+        })?;
+        Ok(u32::from_le_bytes(bytes))
+    }
+
+    /// Trap entry. MTCC itself stays; no trap is vectored.
+    fn enter_trap(&mut self, trap: Trap) {
+        self.set_capability(MEPCC, legalised(self.capability(PCC)));
+        self.set_capability(PCC, legalised(self.capability(MTCC)));
+        let enabled = self.interrupts_enabled();
+        self.set_status(MPIE, enabled);
+        self.set_status(MIE, false);
+        self.words[MCAUSE] = trap.cause;
+        self.words[MTVAL] = trap.value;
+    }
+
+    fn interrupts_enabled(&self) -> bool {
+        self.words[MSTATUS] & MIE != 0
+    }
+
+    fn set_status(&mut self, bit: u32, value: bool) {
+        if value {
+            self.words[MSTATUS] |= bit;
+        } else {
+            self.words[MSTATUS] &= !bit;
+        }
+    }
+
+    /// The capability of the next instruction in order.
+    fn next(&self) -> Capability {
+        let pcc = self.capability(PCC);
+        move_address(pcc, pcc.address.wrapping_add(INSTRUCTION_BYTES))
+    }
+
+    /// Executes one instruction word: the next PCC, or a trap with nothing changed.
+    #[rustfmt::skip]
+    fn execute(&mut self, word: u32) -> Result<Capability, Trap> {
+        use Instruction as I;
+        let illegal = Trap { cause: ILLEGAL, value: word };
+        match decode(word).ok_or(illegal)? {
+            I::Lui { rd, value } => self.set_register(rd, integer(value)),
+            I::Auipcc { cd, offset } => self.add_to(cd, self.capability(PCC), offset),
+            I::Auicgp { cd, offset } => self.add_to(cd, self.register(CGP), offset),
+            I::Cjal { cd, offset } => return self.jump(cd, offset),
+            I::Cjalr { cd, cs1, offset } => return self.jump_register(cd, cs1, offset),
+            I::Branch { condition, rs1, rs2, offset } => {
+                return self.branch(condition, rs1, rs2, offset)
+            }
+            I::Load { width, rd, cs1, offset } => self.load(width, rd, cs1, offset)?,
+            I::Clc { cd, cs1, offset } => self.load_capability(cd, cs1, offset)?,
+            I::Store { width, rs2, cs1, offset } => self.store(width, rs2, cs1, offset)?,
+            I::Csc { cs2, cs1, offset } => self.store_capability(cs2, cs1, offset)?,
+            I::Integer { operation, rd, rs1, operand } => {
+                self.arithmetic(operation, rd, rs1, operand)
+            }
+            I::Csr { operation, csr, rd, operand } => self.csr(operation, csr, rd, operand)?,
+            I::Query { query, rd, cs1 } => self.query(query, rd, cs1),
+            I::Derive { derivation, cd, cs1, operand } => {
+                self.derive(derivation, cd, cs1, operand)
+            }
+            I::Pair { pairing, cd, cs1, cs2 } => self.pair(pairing, cd, cs1, cs2),
+            I::CSpecialRw { cd, special, cs1 } => self.special_read_write(cd, special, cs1)?,
+            I::Fence | I::Wfi => {}
+            I::Ecall => return Err(Trap { cause: ECALL, value: 0 }),
+            I::Ebreak => return Err(Trap { cause: BREAKPOINT, value: 0 }),
+            I::Mret => return self.trap_return(),
+        }
+        Ok(self.next())
+    }
+
+    /// AUIPCC and AUICGP: a capability with an offset added to its address.
+    fn add_to(&mut self, cd: Register, source: Capability, offset: u32) {
+        let sum = source.address.wrapping_add(offset);
+        self.set_register(cd, move_address(source, sum));
+    }
+
+    /// The link: the next instruction's PCC, sealed as a sentry that brings back the present
+    /// interrupt state (CHERIoT report, CJAL).
+    fn link(&self) -> Capability {
+        let sentry = if self.interrupts_enabled() {
+            ENABLING_SENTRY
+        } else {
+            DISABLING_SENTRY
+        };
+        let next = self.next();
+        Capability {
+            metadata: with_type(next.metadata, sentry),
+            ..next
+        }
+    }
+
+    /// CJAL.
+    fn jump(&mut self, cd: Register, offset: u32) -> Result<Capability, Trap> {
+        let pcc = self.capability(PCC);
+        let target = pcc.address.wrapping_add(offset);
+        target_allowed(pcc, PCC_NAME, target)?;
+        self.set_register(cd, self.link());
+        Ok(move_address(pcc, target))
+    }
+
+    /// CJALR; a sentry is unsealed before the jump, and only a jump without offset takes one.
+    fn jump_register(
+        &mut self,
+        cd: Register,
+        cs1: Register,
+        offset: u32,
+    ) -> Result<Capability, Trap> {
+        let (source, name) = (self.register(cs1), cs1.number());
+        let target = source.address.wrapping_add(offset) & !1;
+        let sentry = matches!(seal_type(source.metadata), 1..=3);
+        let seal_allowed = !is_sealed(source.metadata) || (sentry && offset == 0);
+        require(source.tag != 0, capability_trap(name, TAG))?;
+        require(seal_allowed, capability_trap(name, SEAL))?;
+        require(has(source.metadata, EX), capability_trap(name, EXECUTE))?;
+        target_allowed(source, name, target)?;
+        // The link holds the interrupt state from before the sentry changes it.
+        self.set_register(cd, self.link());
+        match seal_type(source.metadata) {
+            DISABLING_SENTRY => self.set_status(MIE, false),
+            ENABLING_SENTRY => self.set_status(MIE, true),
+            _ => {}
+        }
+        let unsealed = Capability {
+            metadata: with_type(source.metadata, 0),
+            ..source
+        };
+        Ok(move_address(unsealed, target))
+    }
+
+    /// A branch; only a taken one checks its target (CHERIoT report, 7.5).
+    fn branch(
+        &self,
+        condition: Condition,
+        rs1: Register,
+        rs2: Register,
+        offset: u32,
+    ) -> Result<Capability, Trap> {
+        let (left, right) = (self.register(rs1).address, self.register(rs2).address);
+        let taken = match condition {
+            Condition::Equal => left == right,
+            Condition::NotEqual => left != right,
+            Condition::Less => (left as i32) < right as i32,
+            Condition::GreaterOrEqual => left as i32 >= right as i32,
+            Condition::LessUnsigned => left < right,
+            Condition::GreaterOrEqualUnsigned => left >= right,
+        };
+        if !taken {
+            return Ok(self.next());
+        }
+        let pcc = self.capability(PCC);
+        let target = pcc.address.wrapping_add(offset);
+        target_allowed(pcc, PCC_NAME, target)?;
+        Ok(move_address(pcc, target))
+    }
+
+    /// LB, LH, LW, LBU and LHU.
+    fn load(
+        &mut self,
+        width: LoadWidth,
+        rd: Register,
+        cs1: Register,
+        offset: u32,
+    ) -> Result<(), Trap> {
+        let size = match width {
+            LoadWidth::Byte | LoadWidth::ByteUnsigned => 1,
+            LoadWidth::Half | LoadWidth::HalfUnsigned => 2,
+            LoadWidth::Word => 4,
+        };
+        let address = self.load_address(cs1, offset, size)?;
+        let value = match width {
+            LoadWidth::Byte => self.read(address).map(|b| i8::from_le_bytes(b) as u32),
+            LoadWidth::Half => self.read(address).map(|b| i16::from_le_bytes(b) as u32),
+            LoadWidth::Word => self.read(address).map(u32::from_le_bytes),
+            LoadWidth::ByteUnsigned => self.read(address).map(|b| u8::from_le_bytes(b).into()),
+            LoadWidth::HalfUnsigned => self.read(address).map(|b| u16::from_le_bytes(b).into()),
+        };
+        let outside = Trap {
+            cause: LOAD_ACCESS,
+            value: address,
+        };
+        self.set_register(rd, integer(value.ok_or(outside)?));
+        Ok(())
+    }
+
+    /// The address of a load, with all checks but the last, whether it is in memory.
+    fn load_address(&self, cs1: Register, offset: u32, size: u32) -> Result<u32, Trap> {
+        let (authority, name) = (self.register(cs1), cs1.number());
+        let address = authority.address.wrapping_add(offset);
+        usable(authority, name, LD, LOAD)?;
+        within(authority, name, address, size)?;
+        aligned(address, size, LOAD_MISALIGNED)?;
+        Ok(address)
+    }
+
+    /// CLC (document 01, "Loading capabilities"). Memory keeps its own tag.
+    fn load_capability(&mut self, cd: Register, cs1: Register, offset: u32) -> Result<(), Trap> {
+        let address = self.load_address(cs1, offset, CAPABILITY_BYTES)?;
+        let bytes: [u8; 8] = self.read(address).ok_or(Trap {
+            cause: LOAD_ACCESS,
+            value: address,
+        })?;
+        let both = u64::from_le_bytes(bytes);
+        let value = Capability {
+            address: both as u32,
+            metadata: (both >> 32) as u32,
+            tag: self.granule_bit(self.tags, address),
+        };
+        let authority_rights = rights(self.register(cs1).metadata);
+        let revoked = |low| self.granule_bit(self.revoked, low) == 1;
+        let loaded = capability::load_filter(value, authority_rights, revoked);
+        self.set_register(cd, loaded);
+        Ok(())
+    }
+
+    /// SB, SH and SW; the granule touched loses its tag.
+    fn store(
+        &mut self,
+        width: StoreWidth,
+        rs2: Register,
+        cs1: Register,
+        offset: u32,
+    ) -> Result<(), Trap> {
+        let (authority, name) = (self.register(cs1), cs1.number());
+        let address = authority.address.wrapping_add(offset);
+        let size = match width {
+            StoreWidth::Byte => 1,
+            StoreWidth::Half => 2,
+            StoreWidth::Word => 4,
+        };
+        usable(authority, name, SD, STORE)?;
+        within(authority, name, address, size)?;
+        aligned(address, size, STORE_MISALIGNED)?;
+        let value = self.register(rs2).address;
+        let written = match width {
+            StoreWidth::Byte => self.write(address, (value as u8).to_le_bytes(), 0),
+            StoreWidth::Half => self.write(address, (value as u16).to_le_bytes(), 0),
+            StoreWidth::Word => self.write(address, value.to_le_bytes(), 0),
+        };
+        written.ok_or(Trap {
+            cause: STORE_ACCESS,
+            value: address,
+        })
+    }
+
+    /// CSC, its checks in the order of the CHERIoT report's page.
+    fn store_capability(&mut self, cs2: Register, cs1: Register, offset: u32) -> Result<(), Trap> {
+        let (authority, name) = (self.register(cs1), cs1.number());
+        let address = authority.address.wrapping_add(offset);
+        let value = self.register(cs2);
+        let local = value.tag != 0 && !has(value.metadata, GL);
+        usable(authority, name, SD, STORE)?;
+        require(
+            value.tag == 0 || has(authority.metadata, MC),
+            capability_trap(name, STORE_CAPABILITY),
+        )?;
+        require(
+            !local || has(authority.metadata, SL),
+            capability_trap(name, STORE_LOCAL_CAPABILITY),
+        )?;
+        within(authority, name, address, CAPABILITY_BYTES)?;
+        aligned(address, CAPABILITY_BYTES, STORE_MISALIGNED)?;
+        let both = u64::from(value.metadata) << 32 | u64::from(value.address);
+        self.write(address, both.to_le_bytes(), value.tag)
+            .ok_or(Trap {
+                cause: STORE_ACCESS,
+                value: address,
+            })
+    }
+
+    /// The integer instructions of OP and OP-IMM.
+    fn arithmetic(&mut self, operation: Arithmetic, rd: Register, rs1: Register, second: Operand) {
+        let left = self.register(rs1).address;
+        let right = self.operand(second);
+        // Shifts take the low five bits of their amount, as wrapping shifts do.
+        let result = match operation {
+            Arithmetic::Add => left.wrapping_add(right),
+            Arithmetic::Sub => left.wrapping_sub(right),
+            Arithmetic::ShiftLeft => left.wrapping_shl(right),
+            Arithmetic::SetLess => u32::from((left as i32) < right as i32),
+            Arithmetic::SetLessUnsigned => u32::from(left < right),
+            Arithmetic::Xor => left ^ right,
+            Arithmetic::ShiftRight => left.wrapping_shr(right),
+            Arithmetic::ShiftRightArithmetic => (left as i32).wrapping_shr(right) as u32,
+            Arithmetic::Or => left | right,
+            Arithmetic::And => left & right,
+        };
+        self.set_register(rd, integer(result));
+    }
+
+    /// The right to reach system registers; the trap names the register refused.
+    fn system_allowed(&self, name: u32) -> Result<(), Trap> {
+        require(
+            has(self.capability(PCC).metadata, SR),
+            capability_trap(name, SYSTEM_REGISTERS),
+        )
+    }
+
+    /// The CSR instructions. A set or clear of no bits writes the old word, which for these
+    /// three registers is the same as not writing.
+    fn csr(
+        &mut self,
+        operation: CsrOperation,
+        csr: Csr,
+        rd: Register,
+        operand: Operand,
+    ) -> Result<(), Trap> {
+        self.system_allowed(PCC_NAME)?;
+        let (place, writable) = match csr {
+            Csr::Mstatus => (MSTATUS, MIE | MPIE),
+            Csr::Mcause => (MCAUSE, !0),
+            Csr::Mtval => (MTVAL, !0),
+        };
+        let (old, mask) = (self.words[place], self.operand(operand));
+        let new = match operation {
+            CsrOperation::Write => mask,
+            CsrOperation::Set => old | mask,
+            CsrOperation::Clear => old & !mask,
+        };
+        self.words[place] = (old & !writable) | (new & writable);
+        self.set_register(rd, integer(old));
+        Ok(())
+    }
+
+    /// MRET (CHERIoT report, 7.9 and 7.11; the privileged standard for mstatus).
+    fn trap_return(&mut self) -> Result<Capability, Trap> {
+        self.system_allowed(PCC_NAME)?;
+        let enabled = self.words[MSTATUS] & MPIE != 0;
+        self.set_status(MIE, enabled);
+        self.set_status(MPIE, true);
+        Ok(legalised(self.capability(MEPCC)))
+    }
+
+    /// CSpecialRW: c0 as a source only reads.
+    fn special_read_write(
+        &mut self,
+        cd: Register,
+        special: Special,
+        cs1: Register,
+    ) -> Result<(), Trap> {
+        let (place, number, legalise) = match special {
+            Special::Mtcc => (MTCC, 28, true),
+            Special::Mtdc => (MTDC, 29, false),
+            Special::MScratchC => (MSCRATCHC, 30, false),
+            Special::Mepcc => (MEPCC, 31, true),
+        };
+        self.system_allowed(PCC_NAME + number)?;
+        let through = |value| if legalise { legalised(value) } else { value };
+        let (old, new) = (self.capability(place), self.register(cs1));
+        self.set_register(cd, through(old));
+        if cs1.number() != 0 {
+            self.set_capability(place, through(new));
+        }
+        Ok(())
+    }
+
+    /// The instructions that answer an integer about one register.
+    fn query(&mut self, query: Query, rd: Register, cs1: Register) {
+        let source = self.register(cs1);
+        let (low, high) = bounds(source.address, source.metadata);
+        let length = high.wrapping_sub(low.into()) & (2 * capability::SPACE - 1);
+        let answer = match query {
+            Query::CGetPerm => rights(source.metadata),
+            Query::CGetType => seal_type(source.metadata),
+            Query::CGetBase => low,
+            Query::CGetLen => at_most_a_word(length),
+            Query::CGetTag => source.tag,
+            Query::CRoundRepresentableLength => {
+                capability::round_representable_length(source.address)
+            }
+            Query::CRepresentableAlignmentMask => {
+                capability::representable_alignment_mask(source.address)
+            }
+            Query::CGetAddr => source.address,
+            Query::CGetHigh => source.metadata,
+            Query::CGetTop => at_most_a_word(high),
+        };
+        self.set_register(rd, integer(answer));
+    }
+
+    /// The instructions that derive a capability from one register and an integer.
+    fn derive(&mut self, derivation: Derivation, cd: Register, cs1: Register, operand: Operand) {
+        let source = self.register(cs1);
+        let value = self.operand(operand);
+        let result = match derivation {
+            Derivation::CMove => source,
+            Derivation::CClearTag => Capability { tag: 0, ..source },
+            Derivation::CAndPerm => capability::narrow(source, value),
+            Derivation::CSetAddr => move_address(source, value),
+            Derivation::CIncAddr => move_address(source, source.address.wrapping_add(value)),
+            Derivation::CSetBounds => capability::set_bounds(source, value),
+            Derivation::CSetBoundsExact => capability::set_bounds_exact(source, value),
+            Derivation::CSetHigh => Capability {
+                address: source.address,
+                metadata: value,
+                tag: 0,
+            },
+        };
+        self.set_register(cd, result);
+    }
+
+    /// The instructions on two capabilities.
+    fn pair(&mut self, pairing: Pairing, cd: Register, cs1: Register, cs2: Register) {
+        let (first, second) = (self.register(cs1), self.register(cs2));
+        let result = match pairing {
+            Pairing::CSeal => capability::seal(first, second),
+            Pairing::CUnseal => capability::unseal(first, second),
+            Pairing::CSub => integer(first.address.wrapping_sub(second.address)),
+            Pairing::CTestSubset => integer(u32::from(is_subset(first, second))),
+            Pairing::CSetEqualExact => integer(u32::from(first == second)),
+        };
+        self.set_register(cd, result);
+    }
+}
+
+/// A 33-bit number, or the largest word if it is no word (CHERIoT report, CGetLen and
+/// CGetTop).
+fn at_most_a_word(value: u64) -> u32 {
+    u32::try_from(value).unwrap_or(u32::MAX)
+}
+
+/// CTestSubset: tags alike, and the inner bounds and rights within the outer ones.
+fn is_subset(outer: Capability, inner: Capability) -> bool {
+    let (outer_low, outer_high) = bounds(outer.address, outer.metadata);
+    let (inner_low, inner_high) = bounds(inner.address, inner.metadata);
+    outer.tag == inner.tag
+        && outer_low <= inner_low
+        && inner_high <= outer_high
+        && has(outer.metadata, rights(inner.metadata))
+}
+
+/// The answer as one number: the number, the trapped count, the retired count.
+fn answer(number: u64, trapped: u32, retired: u32) -> u64 {
+    number << 48 | u64::from(trapped) << 24 | u64::from(retired)
+}
+
+/// One step on lent state: a run of one.
+pub fn step(regs: &mut [u32], start: u32, mem: &mut [u8], tags: &mut [u8], revoked: &[u8]) -> u64 {
+    run(regs, start, mem, tags, revoked, 1)
+}
+
+/// A run of steps on lent state: number * 2^48 + trapped * 2^24 + retired. A refused call
+/// changes nothing and counts nothing (document 01, "Answers").
+pub fn run(
+    regs: &mut [u32],
+    start: u32,
+    mem: &mut [u8],
+    tags: &mut [u8],
+    revoked: &[u8],
+    steps: u32,
+) -> u64 {
+    let mut machine = match Machine::lent(regs, start, mem, tags, revoked) {
+        Ok(machine) => machine,
+        Err(number) => return answer(number, 0, 0),
+    };
+    if steps > MOST_STEPS {
+        return answer(5, 0, 0);
+    }
+    let mut retired = 0;
+    for _ in 0..steps {
+        retired += u32::from(machine.step());
+    }
+    answer(0, steps - retired, retired)
+}

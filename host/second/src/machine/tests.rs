@@ -1,0 +1,9 @@
+//! Expectations come from the papers; each test names its sentence.
+
+mod bench;
+mod capabilities;
+mod control;
+mod integers;
+mod memory;
+mod refusals;
+mod traps;

@@ -1,0 +1,138 @@
+//! Integer instructions (the RISC-V unprivileged standard) and CSR instructions.
+
+use super::bench::*;
+use crate::assemble as asm;
+
+/// The result of a word with c1 and c2 holding two integers; the destination is c3, which
+/// held a tagged capability before.
+fn result(word: u32, first: u32, second: u32) -> u32 {
+    let mut bench = Bench::new();
+    bench.set(1, tagged(first, MEMORY_ROOT));
+    bench.set(2, integer(second));
+    bench.set(3, tagged(7, MEMORY_ROOT));
+    bench.retire(word);
+    let c3 = bench.get(3);
+    // "An integer result that leaves the old metadata or tag in its register" is a mistake.
+    assert_eq!((c3.metadata, c3.tag), (0, 0));
+    c3.address
+}
+
+fn op(funct7: u32, funct3: u32) -> u32 {
+    asm::r(funct7, 2, 1, funct3, 3, 0x33)
+}
+
+// The standard's OP instructions; shifts take the low five bits of rs2.
+#[test]
+fn register_operations() {
+    let minus = |n: u32| 0u32.wrapping_sub(n);
+    assert_eq!(result(op(0, 0), 0xFFFF_FFFF, 2), 1);
+    assert_eq!(result(op(0x20, 0), 1, 2), minus(1));
+    assert_eq!(result(op(0, 1), 3, 33), 6);
+    assert_eq!(result(op(0, 2), minus(1), 0), 1);
+    assert_eq!(result(op(0, 2), 0, minus(1)), 0);
+    assert_eq!(result(op(0, 3), minus(1), 0), 0);
+    assert_eq!(result(op(0, 3), 0, minus(1)), 1);
+    assert_eq!(result(op(0, 4), 0b1100, 0b1010), 0b0110);
+    assert_eq!(result(op(0, 5), 0x8000_0000, 36), 0x0800_0000);
+    assert_eq!(result(op(0x20, 5), 0x8000_0000, 36), 0xF800_0000);
+    assert_eq!(result(op(0, 6), 0b1100, 0b1010), 0b1110);
+    assert_eq!(result(op(0, 7), 0b1100, 0b1010), 0b1000);
+}
+
+// The standard's OP-IMM instructions: the immediate is sign-extended, for SLTIU too.
+#[test]
+fn immediate_operations() {
+    let imm = |immediate, funct3| asm::i(immediate, 1, funct3, 3, 0x13);
+    assert_eq!(result(imm(-1, 0), 0, 0), 0xFFFF_FFFF);
+    assert_eq!(result(imm(-1, 2), 0xFFFF_FFFE, 0), 1);
+    assert_eq!(result(imm(-1, 3), 5, 0), 1);
+    assert_eq!(result(imm(-1, 4), 5, 0), 0xFFFF_FFFA);
+    assert_eq!(result(imm(-16, 6), 5, 0), 0xFFFF_FFF5);
+    assert_eq!(result(imm(-16, 7), 0x1235, 0), 0x1230);
+    assert_eq!(result(imm(31, 1), 3, 0), 0x8000_0000);
+    assert_eq!(result(imm(31, 5), 0x8000_0000, 0), 1);
+    assert_eq!(result(imm(0x400 | 31, 5), 0x8000_0000, 0), 0xFFFF_FFFF);
+    assert_eq!(result(asm::u(0xF_FFFF, 3, 0x37), 0, 0), 0xFFFF_F000);
+}
+
+// c0 stays the NULL capability (CHERIoT report, 7.13.6).
+#[test]
+fn writes_to_c0_are_dropped() {
+    let mut bench = Bench::new();
+    bench.retire(asm::addi(5, 0, 0));
+    bench.retire(asm::u(1, 0, 0x17));
+    assert_eq!(bench.get(0), integer(0));
+}
+
+// "FENCE and WFI retire and do nothing else", without SR on PCC too.
+#[test]
+fn fence_and_wfi() {
+    for word in [asm::WFI, 0x0FF0_000F, 0x8330_000F] {
+        let mut bench = Bench::new();
+        let metadata = EXECUTABLE_ROOT & !(0b100 << 25);
+        bench.set(PCC, tagged(START, metadata));
+        bench.program(&[word]);
+        let mut expected = bench.clone();
+        expected.set(PCC, tagged(START + 4, metadata));
+        assert_eq!(bench.step(), RETIRED);
+        assert_eq!(bench, expected);
+    }
+}
+
+// Document 01, "Cases": "A PCC of [0xFFFFF000, 2^32) with its address at 0xFFFFFFFC retires a
+// no-op; the next PCC is untagged at 0." E = 4: B = 0x100, T = 0.
+#[test]
+fn the_last_instruction_of_the_space() {
+    let metadata = 0x5E00_0000 | 4 << 18 | 0x100;
+    let mut bench = Bench::new();
+    bench.start = 0xFFFF_FF00;
+    bench.set(PCC, tagged(0xFFFF_FFFC, metadata));
+    bench.program(&[asm::NOP]);
+    assert_eq!(bench.step(), RETIRED);
+    assert_eq!(bench.get(PCC), untagged(tagged(0, metadata)));
+}
+
+// The standard's six CSR instructions on mcause and mtval, which "hold any word written".
+#[test]
+fn csr_operations() {
+    let run = |funct3: u32, rs1: u32, place: usize, number: u32| {
+        let mut bench = Bench::new();
+        bench.regs[place] = 0xF0F0_00FF;
+        bench.set(1, integer(0x0FF0_000F));
+        bench.retire(asm::csr(funct3, number, 3, rs1));
+        assert_eq!(bench.get(3), integer(0xF0F0_00FF));
+        bench.regs[place]
+    };
+    for (place, number) in [(MCAUSE, asm::MCAUSE), (MTVAL, asm::MTVAL)] {
+        assert_eq!(run(1, 1, place, number), 0x0FF0_000F);
+        assert_eq!(run(2, 1, place, number), 0xFFF0_00FF);
+        assert_eq!(run(3, 1, place, number), 0xF000_00F0);
+        assert_eq!(run(5, 31, place, number), 31);
+        assert_eq!(run(6, 16, place, number), 0xF0F0_00FF);
+        assert_eq!(run(7, 31, place, number), 0xF0F0_00E0);
+        // CSRRW writes even c0's zero; the others with 0 write nothing.
+        assert_eq!(run(1, 0, place, number), 0);
+        assert_eq!(run(5, 0, place, number), 0);
+        assert_eq!(run(2, 0, place, number), 0xF0F0_00FF);
+        assert_eq!(run(7, 0, place, number), 0xF0F0_00FF);
+    }
+}
+
+// "In mstatus only MIE (bit 3) and MPIE (bit 7) mean anything; other bits stay as lent and
+// are read so."
+#[test]
+fn csr_mstatus() {
+    let run = |before: u32, funct3: u32, value: u32| {
+        let mut bench = Bench::new();
+        bench.regs[MSTATUS] = before;
+        bench.set(1, integer(value));
+        bench.retire(asm::csr(funct3, asm::MSTATUS, 1, 1));
+        // rd and rs1 are one register: the source is read first.
+        assert_eq!(bench.get(1), integer(before));
+        bench.regs[MSTATUS]
+    };
+    assert_eq!(run(0, 1, 0xFFFF_FFFF), 0x88);
+    assert_eq!(run(0x1234_56FF, 1, 0), 0x1234_5677);
+    assert_eq!(run(0x1800, 2, 0x0000_0008), 0x1808);
+    assert_eq!(run(0xFFFF_FFFF, 3, 0xFFFF_FFFF), 0xFFFF_FF77);
+}

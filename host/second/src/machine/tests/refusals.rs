@@ -1,0 +1,190 @@
+//! Document 01, "Answers": each refusal, the lowest number first, nothing changed.
+
+use super::bench::*;
+use crate::assemble as asm;
+use crate::machine;
+use crate::sample::Sample;
+
+/// The answer must be a bare refusal and the state as before.
+fn refused(mut bench: Bench, steps: u32, number: u64) {
+    let before = bench.clone();
+    assert_eq!(bench.run(steps), number << 48);
+    assert_eq!(bench, before);
+    if steps == 1 {
+        assert_eq!(bench.step(), number << 48);
+        assert_eq!(bench, before);
+    }
+}
+
+fn with(change: impl Fn(&mut Bench)) -> Bench {
+    let mut bench = Bench::new();
+    change(&mut bench);
+    bench
+}
+
+// "1: register file is not 66 words".
+#[test]
+fn refusal_1() {
+    for words in [0, 1, 65, 67, 200] {
+        refused(with(|b| b.regs.resize(words, 0)), 1, 1);
+    }
+}
+
+// "2: memory start or size breaks the limits": size 64 to 65,536, a multiple of 64; start a
+// multiple of 8; start plus size at most 2^32.
+#[test]
+fn refusal_2() {
+    for size in [0, 32, 63, 65, 96, 255, 65_600] {
+        refused(with(|b| b.mem.resize(size, 0)), 1, 2);
+    }
+    for start in [1, 4, START + 4, 0xFFFF_FFF8, 0xFFFF_FF08] {
+        refused(with(|b| b.start = start), 1, 2);
+    }
+    let mut last = with(|b| b.start = 0xFFFF_FF00);
+    assert_eq!(last.run(0), 0);
+    let mut largest = with(|b| {
+        b.mem.resize(65_536, 0);
+        b.tags.resize(1_024, 0);
+        b.revoked.resize(1_024, 0);
+    });
+    assert_eq!(largest.run(0), 0);
+}
+
+// "3: tag or revocation buffer is not size/64 bytes".
+#[test]
+fn refusal_3() {
+    for size in [0, 3, 5] {
+        refused(with(|b| b.tags.resize(size, 0)), 1, 3);
+        refused(with(|b| b.revoked.resize(size, 0)), 1, 3);
+    }
+}
+
+// "4: a tag word is not 0 or 1, or a word of c0 is not 0".
+#[test]
+fn refusal_4() {
+    for place in 0..21 {
+        refused(with(|b| b.regs[3 * place + 2] = 2), 1, 4);
+        refused(with(|b| b.regs[3 * place + 2] = !0), 1, 4);
+    }
+    for word in 0..3 {
+        refused(with(|b| b.regs[word] = 1), 1, 4);
+    }
+}
+
+// "5: a run asks more than 1,000,000 steps".
+#[test]
+fn refusal_5() {
+    refused(Bench::new(), 1_000_001, 5);
+    refused(Bench::new(), u32::MAX, 5);
+}
+
+// "The lowest number wins."
+#[test]
+fn the_lowest_number_wins() {
+    let mut bench = with(|b| b.regs[0] = 1);
+    refused(bench.clone(), 1_000_001, 4);
+    bench.tags.clear();
+    refused(bench.clone(), 1_000_001, 3);
+    bench.start = 1;
+    refused(bench.clone(), 1_000_001, 2);
+    bench.regs.push(0);
+    refused(bench, 1_000_001, 1);
+}
+
+// "A run of 0 steps, otherwise good, changes nothing and counts 0 and 0."
+#[test]
+fn a_run_of_nothing() {
+    let mut bench = Bench::new();
+    let before = bench.clone();
+    assert_eq!(bench.run(0), 0);
+    assert_eq!(bench, before);
+}
+
+// 1,000,000 steps are not refused, and the counts of retired and trapped steps are the
+// definition's: an endless jump to itself retires every time; ECALL with the handler at the
+// ECALL traps every time.
+#[test]
+fn the_longest_runs() {
+    let mut jumping = Bench::new();
+    jumping.program(&[asm::cjal(0, 0)]);
+    assert_eq!(jumping.run(1_000_000), 1_000_000);
+    let mut trapping = Bench::new();
+    trapping.set(MTCC, tagged(START, EXECUTABLE_ROOT));
+    trapping.program(&[asm::ECALL]);
+    assert_eq!(trapping.run(1_000_000), 1_000_000 << 24);
+}
+
+/// A state of random words that no refusal applies to, its capabilities often usable.
+fn random_bench(sample: &mut Sample) -> Bench {
+    let mut bench = Bench::new();
+    let roots = [MEMORY_ROOT, EXECUTABLE_ROOT, SEALING_ROOT];
+    for place in 1..21 {
+        let root = roots[sample.word() as usize % 3];
+        let metadata = match sample.word() % 4 {
+            0 => sample.word(),
+            1 => root ^ 1 << (sample.word() % 32),
+            _ => root,
+        };
+        let address = match sample.word() % 3 {
+            0 => sample.word(),
+            1 => START + (sample.word() & 0xFC),
+            _ => START + (sample.word() & 0x1F8),
+        };
+        bench.set(place, tagged(address, metadata));
+        bench.regs[3 * place + 2] = u32::from(!sample.word().is_multiple_of(8));
+    }
+    bench.set(PCC, tagged(START + (sample.word() & 0xFC), EXECUTABLE_ROOT));
+    bench.mem.fill_with(|| sample.word() as u8);
+    bench.tags.fill_with(|| sample.word() as u8);
+    bench.revoked.fill_with(|| sample.word() as u8);
+    bench.regs[MSTATUS] = sample.word();
+    // Half of the words get an opcode that means something.
+    let opcodes = [
+        0x03, 0x13, 0x23, 0x33, 0x5B, 0x63, 0x67, 0x6F, 0x73, 0x17, 0x7B,
+    ];
+    for word in bench.mem.chunks_exact_mut(4) {
+        if sample.word() & 1 == 0 {
+            word[0] = opcodes[sample.word() as usize % opcodes.len()] | word[0] & 0x80;
+            word[1] &= 0x77;
+            word[2] &= 0xF7;
+        }
+    }
+    bench
+}
+
+// "A run of n steps leaves what n single steps leave and counts those that retired and those
+// that trapped." And what is lent stays good: c0 zero, tag words 0 or 1.
+#[test]
+fn a_run_is_its_steps() {
+    let mut sample = Sample(31);
+    for _ in 0..3_000 {
+        let mut whole = random_bench(&mut sample);
+        let mut single = whole.clone();
+        let steps = sample.word() % 40;
+        let together = whole.run(steps);
+        let apart: u64 = (0..steps).map(|_| single.step()).sum();
+        assert_eq!(together, apart);
+        assert_eq!(whole, single);
+        let (trapped, retired) = (together >> 24, together & 0xFF_FFFF);
+        assert_eq!(trapped + retired, u64::from(steps));
+        assert_eq!(whole.regs[..3], [0, 0, 0]);
+        assert!((0..21).all(|place| whole.regs[3 * place + 2] <= 1));
+    }
+}
+
+// Any slices of any length: an answer and no panic.
+#[test]
+fn any_slices() {
+    let mut sample = Sample(32);
+    for _ in 0..20_000 {
+        let mut regs = vec![0; 64 + sample.word() as usize % 4];
+        regs.fill_with(|| sample.word() & 1);
+        let mut mem = vec![0u8; 32 * (sample.word() as usize % 6)];
+        let mut tags = vec![0u8; sample.word() as usize % 4];
+        let revoked = vec![0u8; sample.word() as usize % 4];
+        let start = sample.word() & if sample.word() & 1 == 0 { !0 } else { !7 };
+        let steps = sample.word() % 3;
+        let answer = machine::run(&mut regs, start, &mut mem, &mut tags, &revoked, steps);
+        assert!(answer >> 48 <= 4);
+    }
+}
