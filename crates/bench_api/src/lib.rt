@@ -1,0 +1,113 @@
+// A step and a run for C: slices and numbers, the answer packed into one number.
+ghost use mathlib.Core.Path.{_≡_};
+ghost use Prim.Native.Nat.{_<_, _≤_, _^_};
+ghost use Rattle.commit.specs.Commit.{state};
+ghost use Rattle.machine.specs.Run.{stepNumber, stepRetired, stepTrapped, runNumber, runRetired, runTrapped};
+ghost use Rattle.bench_api.specs.Packing.{packed, StepPacked, RunPacked};
+use machine::RunAnswer;
+use machine::StepAnswer;
+
+// number * 2^48 + trapped * 2^24 + retired.
+fn pack(number: u32, trapped: u32, retired: u32) -> u64
+    requires { ⌜ (number < 2 ^ 15) × (trapped < 2 ^ 24) × (retired < 2 ^ 24) ⌝ }
+    ensures { λ r. ⌜ r ≡ packed number trapped retired ⌝ }
+{
+    number as u64 * 0x1_0000_0000_0000 + trapped as u64 * 0x100_0000 + retired as u64
+}
+
+fn step_number(a: StepAnswer) -> u32
+    ensures { λ r. ⌜ r ≡ stepNumber a ⌝ }
+{
+    match a {
+        StepAnswer::Retired => 0,
+        StepAnswer::Trapped => 0,
+        StepAnswer::Refused(n) => n,
+    }
+}
+
+fn step_trapped(a: StepAnswer) -> u32
+    ensures { λ r. ⌜ r ≡ stepTrapped a ⌝ }
+{
+    match a {
+        StepAnswer::Retired => 0,
+        StepAnswer::Trapped => 1,
+        StepAnswer::Refused(_) => 0,
+    }
+}
+
+fn step_retired(a: StepAnswer) -> u32
+    ensures { λ r. ⌜ r ≡ stepRetired a ⌝ }
+{
+    match a {
+        StepAnswer::Retired => 1,
+        StepAnswer::Trapped => 0,
+        StepAnswer::Refused(_) => 0,
+    }
+}
+
+fn run_number(a: RunAnswer) -> u32
+    ensures { λ r. ⌜ r ≡ runNumber a ⌝ }
+{
+    match a {
+        RunAnswer::Ran {
+            retired: _,
+            trapped: _,
+        } => 0,
+        RunAnswer::Refused(n) => n,
+    }
+}
+
+fn run_trapped(a: RunAnswer) -> u32
+    ensures { λ r. ⌜ r ≡ runTrapped a ⌝ }
+{
+    match a {
+        RunAnswer::Ran {
+            retired: _,
+            trapped,
+        } => trapped,
+        RunAnswer::Refused(_) => 0,
+    }
+}
+
+fn run_retired(a: RunAnswer) -> u32
+    ensures { λ r. ⌜ r ≡ runRetired a ⌝ }
+{
+    match a {
+        RunAnswer::Ran {
+            retired,
+            trapped: _,
+        } => retired,
+        RunAnswer::Refused(_) => 0,
+    }
+}
+
+// One step.
+#[no_mangle]
+pub extern "C" fn oddersnow_step(
+    regs: &mut [u32],
+    start: u32,
+    mem: &mut [u8],
+    tags: &mut [u8],
+    revoked: &[u8],
+) -> u64
+    ensures { λ r. ⌜ StepPacked start (now (revoked .entry)) (state (now (regs .entry)) (now (mem .entry)) (now (tags .entry))) (state (now (regs .exit)) (now (mem .exit)) (now (tags .exit))) r ⌝ }
+{
+    let a = machine::step(regs, start, mem, tags, revoked);
+    pack(step_number(a), step_trapped(a), step_retired(a))
+}
+
+// A run of some steps.
+#[no_mangle]
+pub extern "C" fn oddersnow_run(
+    regs: &mut [u32],
+    start: u32,
+    mem: &mut [u8],
+    tags: &mut [u8],
+    revoked: &[u8],
+    steps: u32,
+) -> u64
+    ensures { λ r. ⌜ RunPacked steps start (now (revoked .entry)) (state (now (regs .entry)) (now (mem .entry)) (now (tags .entry))) (state (now (regs .exit)) (now (mem .exit)) (now (tags .exit))) r ⌝ }
+{
+    let a = machine::run(regs, start, mem, tags, revoked, steps);
+    pack(run_number(a), run_trapped(a), run_retired(a))
+}

@@ -1,0 +1,4 @@
+-- Laws of lists of calls.
+pub mod Machine
+pub mod Turns
+pub mod Answers

@@ -1,0 +1,57 @@
+-- The plain machine of document 01, "Lists of cuts, moves and narrowings": one capability, four calls. What demand 3 says of a whole list.
+-- Assumes nothing.
+use mathlib.Core.List.{List, [], _∷_}
+use mathlib.Core.Path.{_≡_}
+use mathlib.Core.Logic.{_↔_}
+use Prim.Native.Nat.{_+_}
+use Rattle.bounds.specs.Bounds.{Contains}
+use Rattle.capability.specs.Capability.{low, high, moveOf, setBoundsOf, setBoundsExactOf, narrowOf}
+use Rattle.capability.specs.declared.Capability.{Capability}
+use Rattle.capability_laws.specs.Authority.{Inside}
+use Rattle.call_lists.specs.declared.Call.{Call}
+use Rattle.call_lists.specs.declared.Call.the-variants.{Cut, ExactCut, Move, Narrow}
+
+-- "this page's definitions of the four calls"
+unfoldable pub step : Call → Capability → Capability
+step (Cut n) s = setBoundsOf s n
+step (ExactCut n) s = setBoundsExactOf s n
+step (Move a) s = moveOf s a
+step (Narrow m) s = narrowOf s m
+
+-- "Each call gets address, metadata and tag as the last one returned them": the machine after a list
+unfoldable pub run : List Call → Capability → Capability
+run [] s = s
+run (c ∷ cs) s = run cs (step c s)
+
+-- the capabilities after each call
+unfoldable pub trace : List Call → Capability → List Capability
+trace [] s = []
+trace (c ∷ cs) s = step c s ∷ trace cs (step c s)
+
+-- the last of them, or the first capability where there was no call
+abbrev pub lastOf : Capability → List Capability → Capability
+lastOf s [] = s
+lastOf s (r ∷ rs) = lastOf r rs
+
+-- ---- demand 3
+
+-- a cut's request lies inside what it is given, an exact cut is not rounded, a move changes no bound
+abbrev pub Kept : Call → Capability → Type 0
+Kept (Cut n) s = Contains (low s) (high s) (s .address) (s .address + n)
+Kept (ExactCut n) s =
+    Contains (low s) (high s) (s .address) (s .address + n)
+    × ((low (setBoundsExactOf s n) ≡ s .address) × (high (setBoundsExactOf s n) ≡ s .address + n))
+Kept (Move a) s = (low (moveOf s a) ≡ low s) × (high (moveOf s a) ≡ high s)
+Kept (Narrow m) s = Unit {0}
+
+-- so for every call of the list, each at the capability that it is given
+abbrev pub AllKept : List Call → Capability → Type 0
+AllKept [] s = Unit {0}
+AllKept (c ∷ cs) s = Kept c s × AllKept cs (step c s)
+
+-- of a list from s, whose last returned capability is `last`
+pub record ListClaim (cs : List Call) (s last : Capability) : Type 0 where
+  -- the last tag is set exactly when every call kept it
+  pub tag-set : (last .tag ≡ 1) ↔ AllKept cs s
+  -- if it is set, the last capability lies inside the first and holds no right that the first lacked
+  pub inside : last .tag ≡ 1 → Inside s last

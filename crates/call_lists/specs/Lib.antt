@@ -1,0 +1,3 @@
+-- Lists of calls on one capability.
+pub mod Calls
+pub mod Lists

@@ -1,0 +1,199 @@
+// What the instructions that inspect, derive and compare capabilities do. None of them traps.
+ghost use mathlib.Core.Path.{_≡_};
+ghost use mathlib.Core.Bool.{cond, _&&_};
+ghost use Prim.Native.Nat.{_≤_, min, _-_, _^_};
+ghost use lib.ListN.{length};
+ghost use Rattle.state.specs.Registers.{registerWords};
+ghost use Rattle.capability.specs.Capability.{integer, low, high};
+ghost use Rattle.capability_instructions.specs.Derivation.{movedBy, atMostWord, lengthOf, inspected, subset, equalExact, truth, combined, capabilityEffect};
+use capability::Capability;
+use instructions::CapabilityInstruction;
+use instructions::Combination;
+use instructions::Inspection;
+use state::Effect;
+use std::num::wrapping_add_u32;
+use std::num::wrapping_sub_u32;
+
+// A capability with its address moved by an offset.
+fn moved_by(c: Capability, offset: u32) -> Capability
+    ensures { λ r. ⌜ r ≡ movedBy c offset ⌝ }
+{
+    capability::move_address(c, wrapping_add_u32(c.address, offset))
+}
+
+// A number, or the largest word if it is larger.
+fn at_most_word(x: u64) -> u32
+    ensures { λ r. ⌜ r ≡ atMostWord x ⌝ }
+{
+    if x < 0x1_0000_0000 {
+        x as u32
+    } else {
+        0xFFFF_FFFF
+    }
+}
+
+fn low_of(c: Capability) -> u32
+    ensures { λ r. ⌜ r ≡ low c ⌝ }
+{
+    capability::bounds_of(c).low
+}
+
+fn high_of(c: Capability) -> u64
+    ensures { λ r. ⌜ r ≡ high c ⌝ }
+{
+    capability::bounds_of(c).high
+}
+
+// The 33-bit length of a capability.
+fn length_of(c: Capability) -> u64
+    ensures { λ r. ⌜ r ≡ lengthOf c ⌝ }
+{
+    let r = capability::bounds_of(c);
+    (r.high + 0x2_0000_0000 - r.low as u64) % 0x2_0000_0000
+}
+
+// The number that an inspection gives.
+fn inspect(what: Inspection, c: Capability) -> u32
+    ensures { λ r. ⌜ r ≡ inspected what c ⌝ }
+{
+    match what {
+        Inspection::GetPerm => capability::rights_of(c),
+        Inspection::GetType => capability::object_type(c),
+        Inspection::GetBase => low_of(c),
+        Inspection::GetLen => at_most_word(length_of(c)),
+        Inspection::GetTag => c.tag,
+        Inspection::RoundLength => bounds::representable_length(c.address),
+        Inspection::AlignmentMask => bounds::alignment_mask(c.address),
+        Inspection::GetAddr => c.address,
+        Inspection::GetHigh => c.metadata,
+        Inspection::GetTop => at_most_word(high_of(c)),
+    }
+}
+
+// Whether the bounds and rights of d are within those of c, and the tags equal.
+fn is_subset(c: Capability, d: Capability) -> bool
+    ensures { λ r. ⌜ r ≡ subset c d ⌝ }
+{
+    let x = capability::bounds_of(c);
+    let y = capability::bounds_of(d);
+    let held = capability::rights_of(d);
+    all_four(
+        c.tag == d.tag,
+        x.low <= y.low,
+        y.high <= x.high,
+        words::and(held, capability::rights_of(c)) == held,
+    )
+}
+
+fn all_four(a: bool, b: bool, c: bool, d: bool) -> bool
+    ensures { λ r. ⌜ r ≡ (a && (b && (c && d))) ⌝ }
+{
+    a && (b && (c && d))
+}
+
+fn all_three(a: bool, b: bool, c: bool) -> bool
+    ensures { λ r. ⌜ r ≡ (a && (b && c)) ⌝ }
+{
+    a && (b && c)
+}
+
+// Whether all three words are equal.
+fn is_equal(c: Capability, d: Capability) -> bool
+    ensures { λ r. ⌜ r ≡ equalExact c d ⌝ }
+{
+    all_three(
+        c.address == d.address,
+        c.metadata == d.metadata,
+        c.tag == d.tag,
+    )
+}
+
+fn integer_of(x: u32) -> Capability
+    ensures { λ r. ⌜ r ≡ integer x ⌝ }
+{
+    Capability {
+        address: x,
+        metadata: 0,
+        tag: 0,
+    }
+}
+
+fn truth_of(b: bool) -> Capability
+    ensures { λ r. ⌜ r ≡ truth b ⌝ }
+{
+    if b { integer_of(1) } else { integer_of(0) }
+}
+
+// The capability's address with another metadata word, untagged.
+fn with_high(c: Capability, metadata: u32) -> Capability
+    ensures { λ r. ⌜ r ≡ record { address = c .address; metadata = metadata; tag = 0 } ⌝ }
+{
+    Capability {
+        address: c.address,
+        metadata,
+        tag: 0,
+    }
+}
+
+// What two registers combine to.
+fn combine(what: Combination, c: Capability, d: Capability) -> Capability
+    ensures { λ r. ⌜ r ≡ combined what c d ⌝ }
+{
+    match what {
+        Combination::SetBounds => capability::set_bounds(c, d.address),
+        Combination::SetBoundsExact => capability::set_bounds_exact(c, d.address),
+        Combination::Seal => capability::seal(c, d),
+        Combination::Unseal => capability::unseal(c, d),
+        Combination::AndPerm => capability::narrow_rights(c, d.address),
+        Combination::SetAddr => capability::move_address(c, d.address),
+        Combination::IncAddr => moved_by(c, d.address),
+        Combination::SubAddr => integer_of(wrapping_sub_u32(c.address, d.address)),
+        Combination::SetHigh => with_high(c, d.address),
+        Combination::TestSubset => truth_of(is_subset(c, d)),
+        Combination::SetEqualExact => truth_of(is_equal(c, d)),
+    }
+}
+
+pub fn capability_effect(i: CapabilityInstruction, regs: &[u32]) -> Effect
+    requires { ⌜ length (now regs) ≡ registerWords ⌝ }
+    ensures { λ r. ⌜ r ≡ capabilityEffect i (now (regs .entry)) ⌝ }
+{
+    match i {
+        CapabilityInstruction::AuiPcc { rd, offset } => Effect::Write {
+            rd,
+            value: moved_by(state::pcc_of(regs), offset),
+        },
+        CapabilityInstruction::AuiCgp { rd, offset } => Effect::Write {
+            rd,
+            value: moved_by(state::register_at(regs, 3), offset),
+        },
+        CapabilityInstruction::IncAddrImm { rd, rs1, offset } => Effect::Write {
+            rd,
+            value: moved_by(state::register_at(regs, rs1), offset),
+        },
+        CapabilityInstruction::SetBoundsImm { rd, rs1, length } => Effect::Write {
+            rd,
+            value: capability::set_bounds(state::register_at(regs, rs1), length),
+        },
+        CapabilityInstruction::Move { rd, rs1 } => Effect::Write {
+            rd,
+            value: state::register_at(regs, rs1),
+        },
+        CapabilityInstruction::ClearTag { rd, rs1 } => Effect::Write {
+            rd,
+            value: capability::clear_tag(state::register_at(regs, rs1)),
+        },
+        CapabilityInstruction::Inspect { what, rd, rs1 } => Effect::Write {
+            rd,
+            value: integer_of(inspect(what, state::register_at(regs, rs1))),
+        },
+        CapabilityInstruction::Combine { what, rd, rs1, rs2 } => Effect::Write {
+            rd,
+            value: combine(
+                what,
+                state::register_at(regs, rs1),
+                state::register_at(regs, rs2),
+            ),
+        },
+    }
+}

@@ -1,0 +1,12 @@
+-- The cut is the least region around its request: Decode, Region. Which addresses keep bounds: Moves. The report's properties: Representable.
+pub mod Tests
+pub mod Decode
+pub mod Region
+pub mod Answers
+pub mod Moves
+pub mod Compressed
+pub mod Windows
+pub mod Aligned
+pub mod Representable
+pub mod Changes
+pub mod Derived

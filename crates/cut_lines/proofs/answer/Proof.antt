@@ -1,0 +1,35 @@
+-- `answer` meets its contract.
+-- Assumes nothing.
+use mathlib.Core.Path.{sym, _∙_}
+use Prim.Native.Nat.{_+_}
+use native.Mathlib.Omega.{arith}
+use borrow.Author.Needs.{needs}
+use borrow.Author.Tests.{leb-true}
+use lib.ListN.{length}
+use denote.Ref.{now}
+use Rattle.cut_lines.specs.Lines.{lineText}
+use Rattle.cut_lines.proofs.Putting.{wrote, refused}
+use Rattle.cut_lines.proofs.Reading.{answered-line}
+use Rattle.cut_lines.proofs.answer.Statement.{statement}
+use Rattle.cut_lines.proofs.answer.Tie as tie
+
+put-line-requires : tie.Need-put-line-requires
+put-line-requires c κs =
+    let at-if = c .before .before .before in
+    let a = at-if .before .before .before .before .before .args in
+    omega (arith, leb-true (a .at + 44) (length (now (a .output))) (sym (at-if .before .has-room .ensures) ∙ at-if .if1 .taken))
+
+returns : tie.Need-returns
+returns c =
+    let at-if = c .before .before .before .before .before .before in
+    let a = at-if .before .before .before .before .before .args in
+    let b = c .before .before .before in
+    wrote (sym (at-if .before .has-room .ensures) ∙ at-if .if1 .taken) (rw (b .read-line .ensures, b .before .start .ensures, answered-line (a .number) (now (a .line))) at (c .before .before .put-line .ensures))
+
+returns-2 : tie.Need-returns-2
+returns-2 c =
+    let a = c .before .before .before .before .before .args in
+    refused (now (a .output)) (a .at) (lineText (a .number) (now (a .line))) (sym (c .before .has-room .ensures) ∙ c .if1 .left)
+
+pub answer-spec : {M : Type 1} → statement M
+answer-spec = tie.close (tie.spec (λ c κs. search needs) (λ c κs. search needs) (λ c κs. search needs) put-line-requires (λ c. search needs) returns (λ c. search needs) returns-2)

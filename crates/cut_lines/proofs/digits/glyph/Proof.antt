@@ -1,0 +1,18 @@
+-- `digits::glyph` meets its contract.
+-- Assumes nothing.
+use borrow.Author.Needs.{needs}
+use Rattle.cut_lines.specs.Digits.{glyph}
+use Rattle.cut_lines.proofs.Tests.{tests}
+use Rattle.cut_lines.proofs.digits.glyph.Statement.{statement}
+use Rattle.cut_lines.proofs.digits.glyph.Tie as tie
+
+returns : tie.Need-returns
+unfolding glyph
+returns c = search tests
+
+returns-2 : tie.Need-returns-2
+unfolding glyph
+returns-2 c = search tests
+
+pub glyph-spec : {M : Type 1} → statement M
+glyph-spec = tie.close (tie.spec (λ c. search needs) (λ c. search needs) (λ c. search needs) (λ c. search needs) returns returns-2)

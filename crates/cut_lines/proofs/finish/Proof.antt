@@ -1,0 +1,32 @@
+-- `finish` meets its contract.
+-- Assumes nothing.
+use mathlib.Core.Path.{sym, _∙_}
+use Prim.Native.Nat.{_+_}
+use native.Mathlib.Omega.{arith}
+use borrow.Author.Needs.{needs}
+use borrow.Author.Tests.{leb-true}
+use lib.ListN.{length}
+use denote.Ref.{now}
+use Rattle.cut_lines.specs.Scanning.{lastText}
+use Rattle.cut_lines.proofs.Putting.{wrote, refused}
+use Rattle.cut_lines.proofs.finish.Statement.{statement}
+use Rattle.cut_lines.proofs.finish.Tie as tie
+
+put-last-requires : tie.Need-put-last-requires
+put-last-requires c κs =
+    let at-if = c .before in
+    let a = at-if .before .before .before .before .args in
+    omega (arith, leb-true (a .at + 44) (length (now (a .output))) (sym (at-if .before .has-room .ensures) ∙ at-if .if1 .taken))
+
+returns : tie.Need-returns
+returns c =
+    let at-if = c .before .before .before .before in
+    wrote (sym (at-if .before .has-room .ensures) ∙ at-if .if1 .taken) (c .before .before .put-last .ensures)
+
+returns-2 : tie.Need-returns-2
+returns-2 c =
+    let a = c .before .before .before .before .args in
+    refused (now (a .output)) (a .at) (lastText (a .scan)) (sym (c .before .has-room .ensures) ∙ c .if1 .left)
+
+pub finish-spec : {M : Type 1} → statement M
+finish-spec = tie.close (tie.spec (λ c κs. search needs) put-last-requires (λ c. search needs) returns (λ c. search needs) returns-2)

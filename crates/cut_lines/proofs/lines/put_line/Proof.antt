@@ -1,0 +1,17 @@
+-- `lines::put_line` meets its contract.
+-- Assumes nothing.
+use borrow.Author.Needs.{needs}
+use Rattle.cut_lines.specs.Scanning.{answered}
+use Rattle.cut_lines.proofs.Putting.{puts-between}
+use Rattle.cut_lines.proofs.lines.put_line.Statement.{statement}
+use Rattle.cut_lines.proofs.lines.put_line.Tie as tie
+
+returns : tie.Need-returns
+unfolding answered
+returns c =
+    let at-outcome = c .before .before in
+    let at-tab = at-outcome .before .before .before .before in
+    puts-between (at-tab .before .before .before .before .put-decimal .ensures .1) (at-tab .put-byte .ensures) (at-outcome .put-outcome .ensures)
+
+pub put-line-spec : {M : Type 1} → statement M
+put-line-spec = tie.close (tie.spec (λ c κs. search needs) (λ c κs. search needs) (λ c κs. search needs) (λ c. search needs) returns)

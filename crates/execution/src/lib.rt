@@ -1,0 +1,101 @@
+// One step of good buffers: fetch, decode, effect, commit.
+ghost use mathlib.Core.Path.{_≡_};
+ghost use Prim.Native.Nat.{_+_, _*_, _<_, _≤_};
+ghost use lib.ListN.{length};
+ghost use Rattle.state.specs.Registers.{registerWords, pcOf};
+ghost use Rattle.state.specs.Memory.{lent, Within};
+ghost use Rattle.commit.specs.Commit.{State, state, retires};
+ghost use Rattle.execution.specs.Step.{Good, effectOf, fetchedAt, nextEffect, effectAt, stepOf};
+use instructions::Instruction;
+use state::Effect;
+use state::Place;
+
+// What an instruction does.
+fn execute(
+    i: Instruction,
+    word: u32,
+    regs: &[u32],
+    start: u32,
+    mem: &[u8],
+    tags: &[u8],
+    revoked: &[u8],
+) -> Effect
+    requires { ⌜ Good (now regs) (now mem) (now tags) (now revoked) ⌝ }
+    ensures { λ r. ⌜ r ≡ effectOf i word (now (regs .entry)) (lent start (now (mem .entry)) (now (tags .entry)) (now (revoked .entry))) ⌝ }
+{
+    match i {
+        Instruction::Integer(x) => integer_instructions::integer_effect(x, regs),
+        Instruction::Jump(x) => jump_instructions::jump_effect(x, regs),
+        Instruction::Memory(x) => {
+            memory_instructions::memory_effect(x, regs, start, mem, tags, revoked)
+        }
+        Instruction::Capability(x) => capability_instructions::capability_effect(x, regs),
+        Instruction::System(x) => system_instructions::system_effect(x, regs),
+        Instruction::Illegal => Effect::Trap {
+            cause: 2,
+            value: word,
+        },
+    }
+}
+
+// What the instruction at a place does.
+fn fetched_at(p: Place, regs: &[u32], start: u32, mem: &[u8], tags: &[u8], revoked: &[u8]) -> Effect
+    requires { ⌜ Within p 4 (length (now mem)) × Good (now regs) (now mem) (now tags) (now revoked) ⌝ }
+    ensures { λ r. ⌜ r ≡ fetchedAt p (now (regs .entry)) (lent start (now (mem .entry)) (now (tags .entry)) (now (revoked .entry))) ⌝ }
+{
+    match p {
+        Place::Misaligned => fetch_trap(0, regs),
+        Place::Outside => fetch_trap(1, regs),
+        Place::At(at) => {
+            let word = words::load32(mem, at);
+            execute(
+                instructions::decode(word),
+                word,
+                regs,
+                start,
+                mem,
+                tags,
+                revoked,
+            )
+        }
+    }
+}
+
+// A fetch that traps with PCC's address.
+fn fetch_trap(cause: u32, regs: &[u32]) -> Effect
+    requires { ⌜ length (now regs) ≡ registerWords ⌝ }
+    ensures { λ r. ⌜ r ≡ Effect.Trap cause (pcOf (now (regs .entry))) ⌝ }
+{
+    let pcc = state::pcc_of(regs);
+    Effect::Trap {
+        cause,
+        value: pcc.address,
+    }
+}
+
+// What the next step does.
+fn next_effect(regs: &[u32], start: u32, mem: &[u8], tags: &[u8], revoked: &[u8]) -> Effect
+    requires { ⌜ Good (now regs) (now mem) (now tags) (now revoked) ⌝ }
+    ensures { λ r. ⌜ r ≡ nextEffect (now (regs .entry)) (lent start (now (mem .entry)) (now (tags .entry)) (now (revoked .entry))) ⌝ }
+{
+    let pcc = state::pcc_of(regs);
+    let cause = state::access_cause(pcc, 8, 17, pcc.address, 4);
+    let place = state::place_of(start, mem.len(), pcc.address, 4);
+    let e = fetched_at(place, regs, start, mem, tags, revoked);
+    state::checked_effect(32, cause, e)
+}
+
+// One step of good buffers. Answers whether the instruction retires.
+pub fn step_good(
+    regs: &mut [u32],
+    start: u32,
+    mem: &mut [u8],
+    tags: &mut [u8],
+    revoked: &[u8],
+) -> bool
+    requires { ⌜ Good (now regs) (now mem) (now tags) (now revoked) ⌝ }
+    ensures { λ r. ⌜ (r ≡ retires (effectAt start (now (revoked .entry)) (state (now (regs .entry)) (now (mem .entry)) (now (tags .entry))))) × (state (now (regs .exit)) (now (mem .exit)) (now (tags .exit)) ≡ stepOf start (now (revoked .entry)) (state (now (regs .entry)) (now (mem .entry)) (now (tags .entry)))) ⌝ }
+{
+    let e = next_effect(regs, start, mem, tags, revoked);
+    commit::commit_effect(regs, mem, tags, e)
+}

@@ -1,0 +1,15 @@
+use borrow.Author.Tests.{lt-ltb, le-ltb}
+use Rattle.instructions.specs.Decode.{auipccOf}
+use Rattle.instructions.proofs.decode_auipcc.Statement.{statement}
+use Rattle.instructions.proofs.decode_auipcc.Tie as tie
+
+returns : tie.Need-returns
+unfolding auipccOf
+returns c = rw (lt-ltb _ _ (c .if1 .taken))
+
+returns-2 : tie.Need-returns-2
+unfolding auipccOf
+returns-2 c = rw (le-ltb _ _ (c .if1 .left))
+
+pub decode-auipcc-spec : {M : Type 1} → statement M
+decode-auipcc-spec = tie.close (tie.spec returns returns-2)

@@ -1,0 +1,63 @@
+// What LUI and the instructions of OP-IMM and OP do.
+ghost use mathlib.Core.Path.{_≡_};
+ghost use lib.ListN.{length};
+ghost use Rattle.capability.specs.Capability.{integer};
+ghost use Rattle.state.specs.Registers.{registerWords};
+ghost use Rattle.integer_instructions.specs.Integer.{aluOf, integerEffect};
+use capability::Capability;
+use instructions::Alu;
+use instructions::IntegerInstruction;
+use state::Effect;
+use std::num::wrapping_add_u32;
+use std::num::wrapping_sub_u32;
+
+pub fn alu(op: Alu, a: u32, b: u32) -> u32
+    ensures { λ r. ⌜ r ≡ aluOf op a b ⌝ }
+{
+    match op {
+        Alu::Add => wrapping_add_u32(a, b),
+        Alu::Sub => wrapping_sub_u32(a, b),
+        Alu::Sll => words::sll(a, b),
+        Alu::Slt => words::slt(a, b),
+        Alu::Sltu => words::sltu(a, b),
+        Alu::Xor => words::xor(a, b),
+        Alu::Srl => words::srl(a, b),
+        Alu::Sra => words::sra(a, b),
+        Alu::Or => words::or(a, b),
+        Alu::And => words::and(a, b),
+    }
+}
+
+// A register written with an integer.
+fn write_integer(rd: u32, value: u32) -> Effect
+    ensures { λ r. ⌜ r ≡ Effect.Write rd (integer value) ⌝ }
+{
+    Effect::Write {
+        rd,
+        value: Capability {
+            address: value,
+            metadata: 0,
+            tag: 0,
+        },
+    }
+}
+
+pub fn integer_effect(i: IntegerInstruction, regs: &[u32]) -> Effect
+    requires { ⌜ length (now regs) ≡ registerWords ⌝ }
+    ensures { λ r. ⌜ r ≡ integerEffect i (now (regs .entry)) ⌝ }
+{
+    match i {
+        IntegerInstruction::Lui { rd, value } => write_integer(rd, value),
+        IntegerInstruction::OpImm { op, rd, rs1, value } => {
+            write_integer(rd, alu(op, state::integer_at(regs, rs1), value))
+        }
+        IntegerInstruction::Op { op, rd, rs1, rs2 } => write_integer(
+            rd,
+            alu(
+                op,
+                state::integer_at(regs, rs1),
+                state::integer_at(regs, rs2),
+            ),
+        ),
+    }
+}

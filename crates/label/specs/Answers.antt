@@ -1,0 +1,12 @@
+-- A cut's answer as plain numbers: document 01's number of the answer, and its values.
+-- Assumes nothing.
+use mathlib.Core.Path.{_≡_}
+use Rattle.bounds.specs.Cutting.{answerNumber, answerLow, answerHigh, answerExact}
+use Rattle.bounds.specs.declared.CutAnswer.{CutAnswer}
+use Rattle.label.specs.declared.Numbers.{Numbers}
+
+pub record Says (r : Numbers) (a : CutAnswer) : Type 0 where
+  pub number-is : r .number ≡ answerNumber a
+  pub low-is : r .low ≡ answerLow a
+  pub high-is : r .high ≡ answerHigh a
+  pub exact-is : r .exact ≡ answerExact a

@@ -1,0 +1,2 @@
+-- Laws of the definitions of specs/, which belong to no one function.
+pub mod Laws

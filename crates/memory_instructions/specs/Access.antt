@@ -1,0 +1,104 @@
+-- Loads and stores. CHERIoT report, 7.6, 7.7, 7.8 and 9.4 (CLC, CSC); document 01, "Loading capabilities" and "Traps". Assumes nothing.
+use mathlib.Core.Bool.{Bool, cond, not, _&&_}
+use mathlib.Core.List.{List}
+use Prim.Native.Nat.{ℕ, _+_}
+use lib.ListN.{length}
+use Rattle.words.specs.Words.{wrap, signExtend, leBytes}
+use Rattle.metadata.specs.Rights.{LD, SD, MC, SL, GL}
+use Rattle.capability.specs.Capability.{integer, keepTagIf, low, grants, sealed, tagged}
+use Rattle.capability.specs.Loading.{loadedOf, revocable}
+use Rattle.capability.specs.declared.Capability.{Capability}
+use Rattle.instructions.specs.declared.LoadKind.{LoadKind}
+use Rattle.instructions.specs.declared.LoadKind.the-variants.{Lb, Lh, Lw, Lbu, Lhu}
+use Rattle.instructions.specs.declared.StoreKind.{StoreKind}
+use Rattle.instructions.specs.declared.MemoryInstruction.{MemoryInstruction}
+use Rattle.instructions.specs.declared.MemoryInstruction.the-variants as Instruction
+use Rattle.state.specs.Registers.{registerAt, integerAt}
+use Rattle.state.specs.Memory.{Lent, loadWidth, storeWidth, placeOf, capabilityIn, revokedAt, granuleBytes}
+use Rattle.state.specs.Checks.{checked, accessCause, inBounds, tagCause, sealCause, loadCause, storeCause, storeCapabilityCause, storeLocalCause, boundsCause}
+use Rattle.state.specs.declared.Place.{Place}
+use Rattle.state.specs.declared.Place.the-variants.{At, Misaligned, Outside}
+use Rattle.state.specs.declared.Effect.{Effect}
+use Rattle.state.specs.declared.Effect.the-variants.{Write, Store, StoreCapability, Trap}
+
+-- the bytes read, sign-extended or not
+unfoldable pub loadedValue : LoadKind → (mem : List ℕ) → (i : ℕ) → ℕ
+loadedValue Lb mem i = signExtend (leBytes 1 mem i) 8
+loadedValue Lh mem i = signExtend (leBytes 2 mem i) 16
+loadedValue Lw mem i = leBytes 4 mem i
+loadedValue Lbu mem i = leBytes 1 mem i
+loadedValue Lhu mem i = leBytes 2 mem i
+
+-- "Access outside memory is .. 5 (load), 7 (store), with the address in mtval. Misaligned is .. 4, 6, address in mtval."
+unfoldable pub loadAt : Place → LoadKind → (rd address : ℕ) → (mem : List ℕ) → Effect
+loadAt Misaligned kind rd address mem = Trap 4 address
+loadAt Outside kind rd address mem = Trap 5 address
+loadAt (At i) kind rd address mem = Write rd (integer (loadedValue kind mem i))
+
+unfoldable pub loadEffect : LoadKind → (rd rs1 address : ℕ) → (authority : Capability) → (start : ℕ) → (mem : List ℕ) → Effect
+loadEffect kind rd rs1 address authority start mem =
+    checked rs1 (accessCause authority LD loadCause address (loadWidth kind))
+    (loadAt (placeOf start (length mem) address (loadWidth kind)) kind rd address mem)
+
+unfoldable pub storeAt : Place → StoreKind → (address value : ℕ) → Effect
+storeAt Misaligned kind address value = Trap 6 address
+storeAt Outside kind address value = Trap 7 address
+storeAt (At i) kind address value = Store kind i value
+
+unfoldable pub storeEffect : StoreKind → (rs1 address value : ℕ) → (authority : Capability) → (start size : ℕ) → Effect
+storeEffect kind rs1 address value authority start size =
+    checked rs1 (accessCause authority SD storeCause address (storeWidth kind))
+    (storeAt (placeOf start size address (storeWidth kind)) kind address value)
+
+-- The load filter: the losses of the authority's missing rights, then revocation by the granule that holds the value's low bound.
+unfoldable pub revokedValue : Lent → Capability → Bool
+revokedValue m v = revocable v && revokedAt (m .start) (length (m .mem)) (m .revoked) (low v)
+
+unfoldable pub filtered : (authority value : Capability) → Lent → Capability
+filtered authority value m = keepTagIf (not (revokedValue m (loadedOf authority value))) (loadedOf authority value)
+
+-- CLC: "checks tag, seal, PERMIT_LOAD, bounds, alignment in that order", then access
+unfoldable pub loadCapabilityAt : Place → (rd address : ℕ) → (authority : Capability) → Lent → Effect
+loadCapabilityAt Misaligned rd address authority m = Trap 4 address
+loadCapabilityAt Outside rd address authority m = Trap 5 address
+loadCapabilityAt (At i) rd address authority m = Write rd (filtered authority (capabilityIn (m .mem) (m .tags) i) m)
+
+unfoldable pub loadCapabilityEffect : (rd rs1 address : ℕ) → (authority : Capability) → Lent → Effect
+loadCapabilityEffect rd rs1 address authority m =
+    checked rs1 (accessCause authority LD loadCause address granuleBytes)
+    (loadCapabilityAt (placeOf (m .start) (length (m .mem)) address granuleBytes) rd address authority m)
+
+-- CSC: tag, seal, SD, then MC for a tagged value, SL for a tagged value that is not global, then bounds
+unfoldable pub storeCapabilityCheck : (authority value : Capability) → (address : ℕ) → ℕ
+storeCapabilityCheck authority value address =
+    cond (tagged authority)
+    (cond (sealed authority) sealCause
+    (cond (grants authority SD)
+    (cond (tagged value && not (grants authority MC)) storeCapabilityCause
+    (cond (tagged value && (not (grants value GL) && not (grants authority SL))) storeLocalCause
+    (cond (inBounds authority address granuleBytes) 0 boundsCause)))
+    storeCause))
+    tagCause
+
+unfoldable pub storeCapabilityAt : Place → (address : ℕ) → (value : Capability) → Effect
+storeCapabilityAt Misaligned address value = Trap 6 address
+storeCapabilityAt Outside address value = Trap 7 address
+storeCapabilityAt (At i) address value = StoreCapability i value
+
+unfoldable pub storeCapabilityEffect : (rs1 address : ℕ) → (value authority : Capability) → (start size : ℕ) → Effect
+storeCapabilityEffect rs1 address value authority start size =
+    checked rs1 (storeCapabilityCheck authority value address)
+    (storeCapabilityAt (placeOf start size address granuleBytes) address value)
+
+-- the address of an access: "Address sums wrap modulo 2^32"
+abbrev pub addressOf : (regs : List ℕ) → (rs1 offset : ℕ) → ℕ
+addressOf regs rs1 offset = wrap (integerAt regs rs1 + offset)
+
+unfoldable pub memoryEffect : MemoryInstruction → (regs : List ℕ) → Lent → Effect
+memoryEffect (Instruction.Load kind rd rs1 offset) regs m =
+    loadEffect kind rd rs1 (addressOf regs rs1 offset) (registerAt regs rs1) (m .start) (m .mem)
+memoryEffect (Instruction.Store kind rs1 rs2 offset) regs m =
+    storeEffect kind rs1 (addressOf regs rs1 offset) (integerAt regs rs2) (registerAt regs rs1) (m .start) (length (m .mem))
+memoryEffect (Instruction.LoadCapability rd rs1 offset) regs m = loadCapabilityEffect rd rs1 (addressOf regs rs1 offset) (registerAt regs rs1) m
+memoryEffect (Instruction.StoreCapability rs1 rs2 offset) regs m =
+    storeCapabilityEffect rs1 (addressOf regs rs1 offset) (registerAt regs rs2) (registerAt regs rs1) (m .start) (length (m .mem))

@@ -1,0 +1,365 @@
+// What loads and stores do: the checks of the authority, the place in memory, then the value or the bytes.
+ghost use mathlib.Core.Path.{_≡_};
+ghost use mathlib.Core.Bool.{cond, not, _&&_};
+ghost use Prim.Native.Nat.{_+_, _*_, _≤_, _<_};
+ghost use lib.ListN.{length};
+ghost use Rattle.state.specs.Registers.{registerWords};
+ghost use Rattle.state.specs.Memory.{lent, Within, loadWidth, granuleBytes};
+ghost use Rattle.state.specs.Checks.{tagCause, sealCause, storeCause, storeCapabilityCause, storeLocalCause, boundsCause};
+ghost use Rattle.capability.specs.Capability.{keepTagIf};
+ghost use Rattle.memory_instructions.specs.Access.{addressOf, loadedValue, loadAt, loadEffect, storeAt, storeEffect, filtered, revokedValue, loadCapabilityAt, loadCapabilityEffect, storeCapabilityCheck, storeCapabilityAt, storeCapabilityEffect, memoryEffect};
+use capability::Capability;
+use instructions::LoadKind;
+use instructions::MemoryInstruction;
+use instructions::StoreKind;
+use state::Effect;
+use state::Place;
+use std::num::wrapping_add_u32;
+
+// The value of a load at a place of memory.
+fn loaded_value(kind: LoadKind, mem: &[u8], at: usize) -> u32
+    requires { ⌜ at + loadWidth kind ≤ length (now mem) ⌝ }
+    ensures { λ r. ⌜ r ≡ loadedValue kind (now (mem .entry)) at ⌝ }
+{
+    match kind {
+        LoadKind::Lb => words::sign_extend(words::load8(mem, at), 8),
+        LoadKind::Lh => words::sign_extend(words::load16(mem, at), 16),
+        LoadKind::Lw => words::load32(mem, at),
+        LoadKind::Lbu => words::load8(mem, at),
+        LoadKind::Lhu => words::load16(mem, at),
+    }
+}
+
+// The address of an access.
+fn address_of(regs: &[u32], rs1: u32, offset: u32) -> u32
+    requires { ⌜ length (now regs) ≡ registerWords ⌝ }
+    ensures { λ r. ⌜ r ≡ addressOf (now (regs .entry)) rs1 offset ⌝ }
+{
+    wrapping_add_u32(state::integer_at(regs, rs1), offset)
+}
+
+fn load_at(p: Place, kind: LoadKind, rd: u32, address: u32, mem: &[u8]) -> Effect
+    requires { ⌜ Within p (loadWidth kind) (length (now mem)) ⌝ }
+    ensures { λ r. ⌜ r ≡ loadAt p kind rd address (now (mem .entry)) ⌝ }
+{
+    match p {
+        Place::Misaligned => Effect::Trap {
+            cause: 4,
+            value: address,
+        },
+        Place::Outside => Effect::Trap {
+            cause: 5,
+            value: address,
+        },
+        Place::At(at) => Effect::Write {
+            rd,
+            value: Capability {
+                address: loaded_value(kind, mem, at),
+                metadata: 0,
+                tag: 0,
+            },
+        },
+    }
+}
+
+// LB, LH, LW, LBU, LHU.
+fn load(
+    kind: LoadKind,
+    rd: u32,
+    rs1: u32,
+    address: u32,
+    authority: Capability,
+    start: u32,
+    mem: &[u8],
+) -> Effect
+    ensures { λ r. ⌜ r ≡ loadEffect kind rd rs1 address authority start (now (mem .entry)) ⌝ }
+{
+    let width = state::load_width(kind);
+    let cause = state::access_cause(authority, 5, 18, address, width);
+    let place = state::place_of(start, mem.len(), address, width);
+    state::checked_effect(rs1, cause, load_at(place, kind, rd, address, mem))
+}
+
+fn store_at(p: Place, kind: StoreKind, address: u32, value: u32) -> Effect
+    ensures { λ r. ⌜ r ≡ storeAt p kind address value ⌝ }
+{
+    match p {
+        Place::Misaligned => Effect::Trap {
+            cause: 6,
+            value: address,
+        },
+        Place::Outside => Effect::Trap {
+            cause: 7,
+            value: address,
+        },
+        Place::At(at) => Effect::Store { kind, at, value },
+    }
+}
+
+// SB, SH, SW.
+fn store(
+    kind: StoreKind,
+    rs1: u32,
+    address: u32,
+    value: u32,
+    authority: Capability,
+    start: u32,
+    size: usize,
+) -> Effect
+    ensures { λ r. ⌜ r ≡ storeEffect kind rs1 address value authority start size ⌝ }
+{
+    let width = state::store_width(kind);
+    let cause = state::access_cause(authority, 2, 19, address, width);
+    let place = state::place_of(start, size, address, width);
+    state::checked_effect(rs1, cause, store_at(place, kind, address, value))
+}
+
+// Whether the load filter takes a value's tag: its low bound lies in a revoked granule.
+fn is_revoked(start: u32, mem: &[u8], tags: &[u8], revoked: &[u8], v: Capability) -> bool
+    requires { ⌜ length (now mem) ≤ 64 * length (now revoked) ⌝ }
+    ensures { λ r. ⌜ r ≡ revokedValue (lent start (now (mem .entry)) (now (tags .entry)) (now (revoked .entry))) v ⌝ }
+{
+    let b = capability::bounds_of(v);
+    both(
+        capability::is_revocable(v),
+        state::revoked_at(start, mem.len(), revoked, b.low),
+    )
+}
+
+fn both(a: bool, b: bool) -> bool
+    ensures { λ r. ⌜ r ≡ (a && b) ⌝ }
+{
+    a && b
+}
+
+// A value with its tag cleared where the test passes.
+fn clear_if(clear: bool, v: Capability) -> Capability
+    ensures { λ r. ⌜ r ≡ keepTagIf (not clear) v ⌝ }
+{
+    if clear {
+        Capability {
+            address: v.address,
+            metadata: v.metadata,
+            tag: 0,
+        }
+    } else {
+        v
+    }
+}
+
+// The load filter: the losses of missing rights, then revocation.
+fn filter(
+    authority: Capability,
+    value: Capability,
+    start: u32,
+    mem: &[u8],
+    tags: &[u8],
+    revoked: &[u8],
+) -> Capability
+    requires { ⌜ length (now mem) ≤ 64 * length (now revoked) ⌝ }
+    ensures { λ r. ⌜ r ≡ filtered authority value (lent start (now (mem .entry)) (now (tags .entry)) (now (revoked .entry))) ⌝ }
+{
+    let v = capability::loaded(authority, value);
+    clear_if(is_revoked(start, mem, tags, revoked, v), v)
+}
+
+fn load_capability_at(
+    p: Place,
+    rd: u32,
+    address: u32,
+    authority: Capability,
+    start: u32,
+    mem: &[u8],
+    tags: &[u8],
+    revoked: &[u8],
+) -> Effect
+    requires { ⌜ Within p granuleBytes (length (now mem)) × (length (now mem) ≤ 64 * length (now tags)) × (length (now mem) ≤ 64 * length (now revoked)) ⌝ }
+    ensures { λ r. ⌜ r ≡ loadCapabilityAt p rd address authority (lent start (now (mem .entry)) (now (tags .entry)) (now (revoked .entry))) ⌝ }
+{
+    match p {
+        Place::Misaligned => Effect::Trap {
+            cause: 4,
+            value: address,
+        },
+        Place::Outside => Effect::Trap {
+            cause: 5,
+            value: address,
+        },
+        Place::At(at) => Effect::Write {
+            rd,
+            value: filter(
+                authority,
+                state::capability_in(mem, tags, at),
+                start,
+                mem,
+                tags,
+                revoked,
+            ),
+        },
+    }
+}
+
+// CLC.
+fn load_capability(
+    rd: u32,
+    rs1: u32,
+    address: u32,
+    authority: Capability,
+    start: u32,
+    mem: &[u8],
+    tags: &[u8],
+    revoked: &[u8],
+) -> Effect
+    requires { ⌜ (length (now mem) ≤ 64 * length (now tags)) × (length (now mem) ≤ 64 * length (now revoked)) ⌝ }
+    ensures { λ r. ⌜ r ≡ loadCapabilityEffect rd rs1 address authority (lent start (now (mem .entry)) (now (tags .entry)) (now (revoked .entry))) ⌝ }
+{
+    let cause = state::access_cause(authority, 5, 18, address, 8);
+    let place = state::place_of(start, mem.len(), address, 8);
+    state::checked_effect(
+        rs1,
+        cause,
+        load_capability_at(place, rd, address, authority, start, mem, tags, revoked),
+    )
+}
+
+// The first check of CSC's that fails: tag, seal, SD, MC (lacking: a tagged value without it), SL (escaping: a local value without it), bounds; else 0.
+fn first_store_cause(
+    tagged: bool,
+    sealed: bool,
+    stores: bool,
+    lacking: bool,
+    escaping: bool,
+    inside: bool,
+) -> u32
+    ensures { λ r. ⌜ r ≡ cond tagged (cond sealed sealCause (cond stores (cond lacking storeCapabilityCause (cond escaping storeLocalCause (cond inside 0 boundsCause))) storeCause)) tagCause ⌝ }
+{
+    if tagged {
+        if sealed {
+            return 3;
+        }
+        if stores {
+            if lacking {
+                return 21;
+            }
+            if escaping {
+                return 22;
+            }
+            return state::bounds_cause(inside);
+        }
+        return 19;
+    }
+    2
+}
+
+// The cause for which a store of a capability traps, or 0.
+fn store_capability_cause(authority: Capability, value: Capability, address: u32) -> u32
+    ensures { λ r. ⌜ r ≡ storeCapabilityCheck authority value address ⌝ }
+{
+    let tagged = capability::is_tagged(value);
+    first_store_cause(
+        capability::is_tagged(authority),
+        capability::is_sealed(authority),
+        capability::has_right(authority, 2),
+        both(tagged, !capability::has_right(authority, 6)),
+        both(
+            tagged,
+            both(
+                !capability::has_right(value, 0),
+                !capability::has_right(authority, 4),
+            ),
+        ),
+        state::in_bounds(authority, address, 8),
+    )
+}
+
+fn store_capability_at(p: Place, address: u32, value: Capability) -> Effect
+    ensures { λ r. ⌜ r ≡ storeCapabilityAt p address value ⌝ }
+{
+    match p {
+        Place::Misaligned => Effect::Trap {
+            cause: 6,
+            value: address,
+        },
+        Place::Outside => Effect::Trap {
+            cause: 7,
+            value: address,
+        },
+        Place::At(at) => Effect::StoreCapability { at, value },
+    }
+}
+
+// CSC.
+fn store_capability(
+    rs1: u32,
+    address: u32,
+    value: Capability,
+    authority: Capability,
+    start: u32,
+    size: usize,
+) -> Effect
+    ensures { λ r. ⌜ r ≡ storeCapabilityEffect rs1 address value authority start size ⌝ }
+{
+    let cause = store_capability_cause(authority, value, address);
+    let place = state::place_of(start, size, address, 8);
+    state::checked_effect(rs1, cause, store_capability_at(place, address, value))
+}
+
+pub fn memory_effect(
+    i: MemoryInstruction,
+    regs: &[u32],
+    start: u32,
+    mem: &[u8],
+    tags: &[u8],
+    revoked: &[u8],
+) -> Effect
+    requires { ⌜ (length (now regs) ≡ registerWords) × (length (now mem) ≤ 64 * length (now tags)) × (length (now mem) ≤ 64 * length (now revoked)) ⌝ }
+    ensures { λ r. ⌜ r ≡ memoryEffect i (now (regs .entry)) (lent start (now (mem .entry)) (now (tags .entry)) (now (revoked .entry))) ⌝ }
+{
+    match i {
+        MemoryInstruction::Load {
+            kind,
+            rd,
+            rs1,
+            offset,
+        } => {
+            let c = state::register_at(regs, rs1);
+            load(kind, rd, rs1, address_of(regs, rs1, offset), c, start, mem)
+        }
+        MemoryInstruction::Store {
+            kind,
+            rs1,
+            rs2,
+            offset,
+        } => {
+            let c = state::register_at(regs, rs1);
+            let v = state::integer_at(regs, rs2);
+            store(
+                kind,
+                rs1,
+                address_of(regs, rs1, offset),
+                v,
+                c,
+                start,
+                mem.len(),
+            )
+        }
+        MemoryInstruction::LoadCapability { rd, rs1, offset } => {
+            let c = state::register_at(regs, rs1);
+            load_capability(
+                rd,
+                rs1,
+                address_of(regs, rs1, offset),
+                c,
+                start,
+                mem,
+                tags,
+                revoked,
+            )
+        }
+        MemoryInstruction::StoreCapability { rs1, rs2, offset } => {
+            let c = state::register_at(regs, rs1);
+            let v = state::register_at(regs, rs2);
+            store_capability(rs1, address_of(regs, rs1, offset), v, c, start, mem.len())
+        }
+    }
+}

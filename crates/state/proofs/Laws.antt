@@ -1,0 +1,108 @@
+-- What holds of each effect that the checks leave, where a place lies, and the tags of what is read. Assumes nothing.
+use mathlib.Core.Path.{_≡_, refl}
+use mathlib.Core.Bool.{Bool, true, false, cond, _&&_}
+use mathlib.Core.Logic.{_⊎_, inl, inr}
+use mathlib.Core.List.{List}
+use Prim.Native.Nat.{ℕ, _+_, _-_, _*_, _/_, _%_, _≤_, _<_}
+use native.Mathlib.Omega.{arith}
+use lib.Dec.{eqb, leb}
+use borrow.Author.Tests.{eqb-true, leb-true}
+use Rattle.words.proofs.Bits.{bitAt-bit}
+use Rattle.capability.specs.declared.Capability.{Capability}
+use Rattle.capability.proofs.Laws.{Kept, kept-le, move-kept}
+use Rattle.instructions.specs.declared.StoreKind.{StoreKind}
+use Rattle.instructions.specs.declared.StoreKind.the-variants.{Sb, Sh, Sw}
+use Rattle.state.specs.Registers.{capabilityAt, capabilityCount, registerAt, pccOf, legalized}
+use Rattle.state.specs.Memory.{placeOf, capabilityIn, storeWidth, granuleBytes}
+use Rattle.state.specs.Checks.{checked, capabilityTrap}
+use Rattle.state.specs.Effects.{OneGranule, StoresWithin, Storeless, GoodTag, GoodTags}
+use Rattle.state.specs.declared.Place.{Place}
+use Rattle.state.specs.declared.Place.the-variants.{At, Misaligned, Outside}
+use Rattle.state.specs.declared.Effect.{Effect}
+use Rattle.state.specs.declared.Effect.the-variants.{Advance, Write, Store, StoreCapability, Jump, WriteScr, WriteCsr, Trap}
+
+-- ---- effects
+
+pub cond-holds : {A : Type 0} (P : A → Type 0) (t : Bool) (x y : A) → P x → P y → P (cond t x y)
+cond-holds P true x y h k = h
+cond-holds P false x y h k = k
+
+-- what holds of an effect and of every trap holds where a check may fail
+pub checked-holds : (P : Effect → Type 0) (r cause : ℕ) (e : Effect) → ((n v : ℕ) → P (Trap n v)) → P e → P (checked r cause e)
+unfolding checked
+checked-holds P r cause e t h = cond-holds P (eqb cause 0) e (capabilityTrap r cause) h (t 28 (r % 64 * 32 + cause % 32))
+
+-- an effect that stores nothing has no store outside memory
+pub storeless-within : (size : ℕ) (e : Effect) → Storeless e → StoresWithin size e
+storeless-within size Advance h = tt
+storeless-within size (Write rd value) h = tt
+storeless-within size (Store kind i value) h = absurd h
+storeless-within size (StoreCapability i value) h = absurd h
+storeless-within size (Jump rd link target mstatus) h = tt
+storeless-within size (WriteScr rd old scr value) h = tt
+storeless-within size (WriteCsr rd old csr value) h = tt
+storeless-within size (Trap cause value) h = tt
+
+-- ---- places
+
+-- the widths of accesses
+abbrev pub Width : ℕ → Type 0
+Width w = (w ≡ 1) ⊎ ((w ≡ 2) ⊎ ((w ≡ 4) ⊎ (w ≡ 8)))
+
+pub store-width : (kind : StoreKind) → Width (storeWidth kind)
+store-width Sb = inl refl
+store-width Sh = inr (inl refl)
+store-width Sw = inr (inr (inl refl))
+
+pub granule-width : Width granuleBytes
+granule-width = inr (inr (inr refl))
+
+-- a place is in memory and in one granule
+abbrev pub Placed : Place → (width size : ℕ) → Type 0
+Placed Misaligned width size = Unit {0}
+Placed Outside width size = Unit {0}
+Placed (At i) width size = OneGranule i width size
+
+in-granule : (start address width : ℕ) → Width width → start % 8 ≡ 0 → address % width ≡ 0 → start ≤ address → (address - start) % 8 + width ≤ 8
+in-granule start address width (inl e) h k l = omega arith
+in-granule start address width (inr (inl e)) h k l = omega (arith, rw e at k)
+in-granule start address width (inr (inr (inl e))) h k l = omega (arith, rw e at k)
+in-granule start address width (inr (inr (inr e))) h k l = omega (arith, rw e at k)
+
+pub place-within : (start size address width : ℕ) → Width width → start % 8 ≡ 0 → Placed (placeOf start size address width) width size
+unfolding placeOf
+place-within start size address width w h = go (eqb (address % width) 0) refl (leb start address) refl (leb (address + width) (start + size)) refl
+  where
+    go : (a : Bool) → eqb (address % width) 0 ≡ a → (b : Bool) → leb start address ≡ b → (c : Bool) → leb (address + width) (start + size) ≡ c
+        → Placed (cond a (cond (b && c) (At (address - start)) Outside) Misaligned) width size
+    go false p b q c r = tt
+    go true p false q c r = tt
+    go true p true q false r = tt
+    go true p true q true r =
+        let l = leb-true start address q in
+        let m = leb-true (address + width) (start + size) r in
+        record { inside = omega arith; together = in-granule start address width w h (eqb-true (address % width) 0 p) l }
+
+-- ---- tags
+
+-- a tag that is kept or cleared stays good
+pub kept-good : (c d : Capability) → Kept (c .tag) (d .tag) → GoodTag c → GoodTag d
+kept-good c d k h = omega (arith, kept-le k)
+
+pub capability-tag : (regs : List ℕ) (i : ℕ) → i < capabilityCount → GoodTags regs → GoodTag (capabilityAt regs i)
+unfolding capabilityAt
+capability-tag regs i l h = h i l
+
+pub register-tag : (regs : List ℕ) (r : ℕ) → GoodTags regs → GoodTag (registerAt regs r)
+register-tag regs r h = capability-tag regs (r % 16) (omega arith) h
+
+pub pcc-tag : (regs : List ℕ) → GoodTags regs → GoodTag (pccOf regs)
+pcc-tag regs h = capability-tag regs 16 (omega arith) h
+
+pub legalized-tag : (c : Capability) → GoodTag c → GoodTag (legalized c)
+unfolding legalized
+legalized-tag c h = kept-good c (legalized c) (move-kept c (c .address / 4 * 4)) h
+
+pub capability-in-tag : (mem tags : List ℕ) (i : ℕ) → GoodTag (capabilityIn mem tags i)
+unfolding capabilityIn
+capability-in-tag mem tags i = omega (arith, bitAt-bit tags (i / granuleBytes))

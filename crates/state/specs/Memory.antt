@@ -1,0 +1,63 @@
+-- Places in the lent memory, capabilities in it, and revocation. Document 01, "What is lent", "Loading capabilities". Assumes nothing.
+use mathlib.Core.Bool.{Bool, false, cond, _&&_}
+use mathlib.Core.List.{List}
+use Prim.Native.Nat.{ℕ, _+_, _-_, _*_, _/_, _%_, _^_, _≤_}
+use lib.Dec.{eqb, leb, ltb}
+use Rattle.words.specs.Words.{le32, bitAt}
+use Rattle.capability.specs.Capability.{capability}
+use Rattle.capability.specs.declared.Capability.{Capability}
+use Rattle.instructions.specs.declared.LoadKind.{LoadKind}
+use Rattle.instructions.specs.declared.LoadKind.the-variants.{Lb, Lh, Lw, Lbu, Lhu}
+use Rattle.instructions.specs.declared.StoreKind.{StoreKind}
+use Rattle.instructions.specs.declared.StoreKind.the-variants.{Sb, Sh, Sw}
+use Rattle.state.specs.declared.Place.{Place}
+use Rattle.state.specs.declared.Place.the-variants.{At, Misaligned, Outside}
+
+-- what is lent and only read: memory's start and the revocation bits; and memory and its tags as they stand
+pub record Lent : Type 0 where
+  pub start : ℕ
+  pub mem : List ℕ
+  pub tags : List ℕ
+  pub revoked : List ℕ
+
+abbrev pub lent : ℕ → (mem tags revoked : List ℕ) → Lent
+lent start mem tags revoked = record { start = start; mem = mem; tags = tags; revoked = revoked }
+
+-- how many bytes a load or a store touches
+abbrev pub loadWidth : LoadKind → ℕ
+loadWidth Lb = 1
+loadWidth Lh = 2
+loadWidth Lw = 4
+loadWidth Lbu = 1
+loadWidth Lhu = 2
+
+abbrev pub storeWidth : StoreKind → ℕ
+storeWidth Sb = 1
+storeWidth Sh = 2
+storeWidth Sw = 4
+
+-- bytes of memory to a granule, which has one tag and one revocation bit
+abbrev pub granuleBytes : ℕ
+granuleBytes = 8
+
+-- an access of width bytes at an address of a memory of size bytes from start: "Capability checks come first, then alignment, then access."
+unfoldable pub placeOf : (start size address width : ℕ) → Place
+placeOf start size address width =
+    cond (eqb (address % width) 0)
+    (cond (leb start address && leb (address + width) (start + size)) (At (address - start)) Outside)
+    Misaligned
+
+-- a place in memory has room for the access
+abbrev pub Within : Place → (width size : ℕ) → Type 0
+Within Misaligned width size = Unit {0}
+Within Outside width size = Unit {0}
+Within (At i) width size = i + width ≤ size
+
+-- the capability at a place: address, then metadata, little-endian, and the granule's tag
+unfoldable pub capabilityIn : (mem tags : List ℕ) → (i : ℕ) → Capability
+capabilityIn mem tags i = capability (le32 mem i) (le32 mem (i + 4)) (bitAt tags (i / granuleBytes))
+
+-- The revocation bit of the granule that holds an address. "A low bound outside memory has no bit and counts as not revoked."
+unfoldable pub revokedAt : (start size : ℕ) → (revoked : List ℕ) → (address : ℕ) → Bool
+revokedAt start size revoked address =
+    cond (leb start address && ltb address (start + size)) (eqb (bitAt revoked ((address - start) / granuleBytes)) 1) false

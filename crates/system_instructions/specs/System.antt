@@ -1,0 +1,64 @@
+-- FENCE, WFI, ECALL, EBREAK, the CSR instructions and CSpecialRW. RISC-V standards; CHERIoT report, 7.9, 7.10 and 9.4; document 01, "In and out". Assumes nothing.
+use mathlib.Core.Bool.{Bool, cond}
+use mathlib.Core.List.{List}
+use Prim.Native.Nat.{ℕ, _+_, _-_, _%_, _^_}
+use lib.Bits.{bitAnd, bitOr}
+use lib.Dec.{eqb}
+use Rattle.capability.specs.declared.Capability.{Capability}
+use Rattle.instructions.specs.declared.CsrKind.{CsrKind}
+use Rattle.instructions.specs.declared.CsrKind.the-variants.{Csrrw, Csrrs, Csrrc}
+use Rattle.instructions.specs.declared.Csr.{Csr}
+use Rattle.instructions.specs.declared.Csr.the-variants.{Mstatus, Mcause, Mtval}
+use Rattle.instructions.specs.declared.Scr.{Scr}
+use Rattle.instructions.specs.declared.Scr.the-variants.{Mtcc, Mtdc, Mscratchc, Mepcc}
+use Rattle.instructions.specs.declared.SystemInstruction.{SystemInstruction}
+use Rattle.instructions.specs.declared.SystemInstruction.the-variants.{Fence, Wfi, Ecall, Ebreak, CsrRegister, CsrImmediate, SpecialRw}
+use Rattle.state.specs.Registers.{registerAt, integerAt, capabilityAt, pccOf, csrAt, scrIndex, scrNumber, writtenStatus, legalized}
+use Rattle.state.specs.Checks.{checked, systemAccess, pccRegister}
+use Rattle.state.specs.declared.Effect.{Effect}
+use Rattle.state.specs.declared.Effect.the-variants.{Advance, Write, WriteScr, WriteCsr, Trap}
+
+-- what a CSR instruction asks to write: the operand; the old word with the operand's bits set; or cleared.
+-- (Where the operand is 0, CSRRS and CSRRC write nothing: the old word stays, as here.)
+unfoldable pub csrAsked : CsrKind → (old operand : ℕ) → ℕ
+csrAsked Csrrw old operand = operand
+csrAsked Csrrs old operand = bitOr old operand
+csrAsked Csrrc old operand = bitAnd old (2 ^ 32 - 1 - operand)
+
+-- what is written: "mcause and mtval hold any word written", mstatus its two bits alone
+unfoldable pub csrWritten : Csr → (old asked : ℕ) → ℕ
+csrWritten Mstatus old asked = writtenStatus old asked
+csrWritten Mcause old asked = asked
+csrWritten Mtval old asked = asked
+
+-- SR on PCC, else cause 24 with register 32, for reads too: Table 7.1 lists none of the three
+unfoldable pub csrEffect : CsrKind → Csr → (rd operand : ℕ) → (regs : List ℕ) → Effect
+csrEffect kind csr rd operand regs =
+    checked pccRegister (systemAccess (pccOf regs))
+    (WriteCsr rd (csrAt regs csr) csr (csrWritten csr (csrAt regs csr) (csrAsked kind (csrAt regs csr) operand)))
+
+-- a special register read or written: MTCC and MEPCC by the address-move rule
+unfoldable pub scrValue : Scr → Capability → Capability
+scrValue Mtcc c = legalized c
+scrValue Mtdc c = c
+scrValue Mscratchc c = c
+scrValue Mepcc c = legalized c
+
+-- CSpecialRW: cd is set to the special register, "and scr is set equal to capability register cs1 if cs1 is not C0"
+unfoldable pub specialWrite : Scr → (rd rs1 : ℕ) → (old value : Capability) → Effect
+specialWrite scr rd rs1 old value = cond (eqb (rs1 % 16) 0) (Write rd old) (WriteScr rd old scr value)
+
+unfoldable pub specialEffect : Scr → (rd rs1 : ℕ) → (regs : List ℕ) → Effect
+specialEffect scr rd rs1 regs =
+    checked (pccRegister + scrNumber scr) (systemAccess (pccOf regs))
+    (specialWrite scr rd rs1 (scrValue scr (capabilityAt regs (scrIndex scr))) (scrValue scr (registerAt regs rs1)))
+
+-- "FENCE and WFI retire and do nothing else"; "Breakpoint is 3 and ecall 11, both with mtval 0"
+unfoldable pub systemEffect : SystemInstruction → (regs : List ℕ) → Effect
+systemEffect Fence regs = Advance
+systemEffect Wfi regs = Advance
+systemEffect Ecall regs = Trap 11 0
+systemEffect Ebreak regs = Trap 3 0
+systemEffect (CsrRegister kind csr rd rs1) regs = csrEffect kind csr rd (integerAt regs rs1) regs
+systemEffect (CsrImmediate kind csr rd value) regs = csrEffect kind csr rd value regs
+systemEffect (SpecialRw scr rd rs1) regs = specialEffect scr rd rs1 regs

@@ -1,0 +1,127 @@
+//! The command line.
+
+use crate::image::Format;
+use clap::{Args, Parser, Subcommand};
+use std::path::PathBuf;
+
+/// The bench: runs an image on the proved CHERIoT machine and shows what happened.
+///
+/// Numbers are decimal, or hexadecimal after 0x. The exit status is 0 if a run had no trap, 1 if it
+/// trapped, 2 if the machine or the cutter refused, and 3 for bad usage or a bad file.
+#[derive(Parser)]
+#[command(name = "bench", version, disable_help_subcommand = true)]
+pub struct Arguments {
+    #[command(subcommand)]
+    pub command: Command,
+}
+
+#[derive(Subcommand)]
+pub enum Command {
+    /// Runs images, or a saved state
+    Run(Run),
+    /// Shows a saved state: its last trap and its registers
+    Explain(Explain),
+    /// Cuts the request [BASE, BASE + LENGTH)
+    Cut(Cut),
+    /// Shows the capability with an address and a metadata word
+    Cap(Cap),
+}
+
+#[derive(Args)]
+pub struct Run {
+    /// The files to load: raw, ELF or Intel HEX
+    #[arg(required_unless_present = "state")]
+    pub images: Vec<PathBuf>,
+    /// The form of the images
+    #[arg(long, value_enum, default_value_t = Format::Auto)]
+    pub format: Format,
+    /// The address of memory's first byte [default: 0x20000000, or the map's]
+    #[arg(long, value_parser = word, conflicts_with = "state")]
+    pub start: Option<u32>,
+    /// The bytes of memory [default: 65536, or the map's]
+    #[arg(long, value_parser = size, conflicts_with = "state")]
+    pub size: Option<u64>,
+    /// The address of the first instruction [default: the image's, else memory's start]
+    #[arg(long, value_parser = word, conflicts_with = "state")]
+    pub entry: Option<u32>,
+    /// The most steps to run
+    #[arg(long, value_parser = number, default_value = "1000000")]
+    pub steps: u64,
+    /// A map sheet that names the board's regions; memory is then what they span
+    #[arg(long, value_name = "SHEET")]
+    pub map: Option<PathBuf>,
+    /// A saved state to start from instead of reset; images are loaded over it
+    #[arg(long, value_name = "FILE")]
+    pub state: Option<PathBuf>,
+    /// Where to save the state at the end
+    #[arg(long, value_name = "FILE")]
+    pub save: Option<PathBuf>,
+    /// Stop after the first step that traps (the default)
+    #[arg(long, conflicts_with = "through_traps")]
+    pub until_trap: bool,
+    /// Go on after a trap, at MTCC
+    #[arg(long)]
+    pub through_traps: bool,
+    /// Show each step on a line, on standard error with --json
+    #[arg(long)]
+    pub trace: bool,
+    /// Write the result as JSON
+    #[arg(long)]
+    pub json: bool,
+}
+
+#[derive(Args)]
+pub struct Explain {
+    /// The saved state
+    pub state: PathBuf,
+    /// A map sheet that names the board's regions
+    #[arg(long, value_name = "SHEET")]
+    pub map: Option<PathBuf>,
+    /// Write the result as JSON
+    #[arg(long)]
+    pub json: bool,
+}
+
+#[derive(Args)]
+pub struct Cut {
+    #[arg(value_parser = word)]
+    pub base: u32,
+    #[arg(value_parser = word)]
+    pub length: u32,
+    /// Write the result as JSON
+    #[arg(long)]
+    pub json: bool,
+}
+
+#[derive(Args)]
+pub struct Cap {
+    #[arg(value_parser = word)]
+    pub address: u32,
+    #[arg(value_parser = word)]
+    pub metadata: u32,
+    /// Write the result as JSON
+    #[arg(long)]
+    pub json: bool,
+}
+
+/// A number: decimal, or hexadecimal after 0x.
+fn number(text: &str) -> Result<u64, String> {
+    let parsed = match text.strip_prefix("0x") {
+        Some(digits) => u64::from_str_radix(digits, 16),
+        None => text.parse(),
+    };
+    parsed.map_err(|_| "not a decimal number, nor a hexadecimal one after 0x".into())
+}
+
+fn word(text: &str) -> Result<u32, String> {
+    u32::try_from(number(text)?).map_err(|_| "not below 2^32".into())
+}
+
+fn size(text: &str) -> Result<u64, String> {
+    let size = number(text)?;
+    if size <= 1 << 32 {
+        Ok(size)
+    } else {
+        Err("more than 2^32".into())
+    }
+}

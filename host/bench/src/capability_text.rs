@@ -1,0 +1,72 @@
+//! A capability in words: its rights as the paper's two letters, its type, its bounds.
+
+use crate::probe;
+use crate::proved::Region;
+use crate::state::Capability;
+
+/// The rights from bit 0 (document 01, "Capability word").
+const RIGHTS: [&str; 12] = [
+    "GL", "LG", "SD", "LM", "SL", "LD", "MC", "SR", "EX", "US", "SE", "U0",
+];
+
+/// The bit of EX among the rights.
+const EX: u32 = 1 << 8;
+
+/// The names of the rights that a metadata word holds.
+pub fn rights(metadata: u32) -> Vec<&'static str> {
+    let held = probe::rights(metadata);
+    let names = RIGHTS.into_iter().enumerate();
+    names
+        .filter(|(bit, _)| held >> bit & 1 == 1)
+        .map(|(_, name)| name)
+        .collect()
+}
+
+/// The type in words (the CHERIoT report, 7.13.2).
+pub fn type_words(metadata: u32) -> String {
+    let executable = probe::rights(metadata) & EX != 0;
+    match (probe::seal_type(metadata), executable) {
+        (0, _) => "unsealed".into(),
+        (1, true) => "sentry".into(),
+        (2, true) => "sentry, interrupts off".into(),
+        (3, true) => "sentry, interrupts on".into(),
+        (number, _) => format!("sealed {number}"),
+    }
+}
+
+/// Bounds as text.
+pub fn region(region: Region) -> String {
+    format!("[{:08x}, {:08x})", region.low, region.high)
+}
+
+/// Whether a register holds a plain integer: no metadata and no tag.
+pub fn is_integer(capability: Capability) -> bool {
+    capability.metadata == 0 && capability.tag == 0
+}
+
+/// A number of bytes, with its digits in groups of three.
+pub fn grouped(number: u64) -> String {
+    let digits = number.to_string();
+    let mut text = String::new();
+    for (place, digit) in digits.chars().enumerate() {
+        if place > 0 && (digits.len() - place).is_multiple_of(3) {
+            text.push(',');
+        }
+        text.push(digit);
+    }
+    text
+}
+
+/// A number of things, in the singular for one.
+pub fn count(number: u64, thing: &str) -> String {
+    let plural = if number == 1 { "" } else { "s" };
+    format!("{} {thing}{plural}", grouped(number))
+}
+
+/// How long a region is; an unsound one, whose high is below its low, has no length.
+pub fn length(region: Region) -> String {
+    match region.high.checked_sub(region.low.into()) {
+        Some(bytes) => count(bytes, "byte"),
+        None => "high below low".into(),
+    }
+}

@@ -1,0 +1,117 @@
+//! What each subcommand does.
+
+mod run;
+
+use crate::arguments::{Cap, Command, Cut, Explain};
+use crate::capability_text::{length, region, rights, type_words};
+use crate::names::Names;
+use crate::proved::{self, Refusal};
+use crate::state::{Capability, State};
+use crate::trap::Trap;
+use crate::{json, report, sheet, state_file, Status};
+use serde_json::Value;
+use std::io::{ErrorKind, Write};
+use std::path::Path;
+
+/// Obeys a command: the exit status, or what is bad about a file.
+pub fn obey(command: Command) -> Result<Status, String> {
+    match command {
+        Command::Run(run) => run::run(run),
+        Command::Explain(explain) => explained(&explain),
+        Command::Cut(cut) => cut_shown(&cut),
+        Command::Cap(cap) => capability_shown(&cap),
+    }
+}
+
+/// Writes to standard output; a reader that has gone away is no error.
+fn say(text: &str) -> Result<(), String> {
+    let mut output = std::io::stdout().lock();
+    match output
+        .write_all(text.as_bytes())
+        .and_then(|()| output.flush())
+    {
+        Err(error) if error.kind() != ErrorKind::BrokenPipe => {
+            Err(format!("standard output: {error}"))
+        }
+        _ => Ok(()),
+    }
+}
+
+fn say_json(value: &Value) -> Result<(), String> {
+    say(&format!("{value:#}\n"))
+}
+
+/// Says that something was refused, with document 01's number.
+fn refused(refusal: Refusal, as_json: bool) -> Result<Status, String> {
+    if as_json {
+        say_json(&json::refused(refusal))?;
+    }
+    eprintln!("bench: refused, number {}: {}", refusal.0, refusal.reason());
+    Ok(Status::Refused)
+}
+
+fn read_state(path: &Path) -> Result<State, String> {
+    let named = |reason: String| format!("{}: {reason}", path.display());
+    let bytes = std::fs::read(path).map_err(|error| named(error.to_string()))?;
+    state_file::read(&bytes).map_err(named)
+}
+
+fn read_names(path: Option<&Path>) -> Result<Names, String> {
+    path.map_or(Ok(Names::default()), |path| sheet::read(path).map(Names))
+}
+
+fn explained(asked: &Explain) -> Result<Status, String> {
+    let names = read_names(asked.map.as_deref())?;
+    let mut state = read_state(&asked.state)?;
+    if let Err(refusal) = proved::run(&mut state, 0) {
+        return refused(refusal, asked.json);
+    }
+    let trap = Trap::recorded(&state);
+    if asked.json {
+        say_json(&json::explained(&state, trap.as_ref()))?;
+    } else {
+        let last = trap.map_or("No trap is recorded.\n".into(), |trap| {
+            report::trap(&trap, &state, &names)
+        });
+        say(&format!("{last}\n{}", report::registers(&state)))?;
+    }
+    Ok(Status::Ran)
+}
+
+fn cut_shown(asked: &Cut) -> Result<Status, String> {
+    match proved::cut(asked.base, asked.length) {
+        Err(refusal) => refused(refusal, asked.json),
+        Ok((cut, exact)) => {
+            if asked.json {
+                say_json(&json::cut(cut, exact))?;
+            } else {
+                let exact = if exact { "exact" } else { "rounded" };
+                say(&format!("{}, {}, {exact}\n", region(cut), length(cut)))?;
+            }
+            Ok(Status::Ran)
+        }
+    }
+}
+
+fn capability_shown(asked: &Cap) -> Result<Status, String> {
+    let value = Capability {
+        address: asked.address,
+        metadata: asked.metadata,
+        tag: 0,
+    };
+    if asked.json {
+        say_json(&json::capability(value))?;
+        return Ok(Status::Ran);
+    }
+    let bounds = value.bounds();
+    let held = rights(value.metadata).join(" ");
+    say(&format!(
+        "address  {:08x}\nbounds   {}, {}\nrights   {}\ntype     {}\n",
+        value.address,
+        region(bounds),
+        length(bounds),
+        if held.is_empty() { "none" } else { &held },
+        type_words(value.metadata)
+    ))?;
+    Ok(Status::Ran)
+}

@@ -1,0 +1,141 @@
+//! `bench run`: the start state, the run, what is said and saved at the end.
+
+use super::{read_names, read_state, refused, say, say_json};
+use crate::arguments::Run;
+use crate::drive::{self, End, Outcome, Plan};
+use crate::image::{self, Image};
+use crate::names::Names;
+use crate::proved::{Counts, Refusal, MOST_STEPS};
+use crate::state::State;
+use crate::trap::Trap;
+use crate::{json, report, sheet, state_file, trace, Status};
+use indicatif::{ProgressBar, ProgressStyle};
+use std::io::Write;
+use std::path::Path;
+
+const DEFAULT_START: u32 = 0x2000_0000;
+const DEFAULT_SIZE: u64 = 65_536;
+
+pub fn run(asked: Run) -> Result<Status, String> {
+    let mut names = read_names(asked.map.as_deref())?;
+    let mut state = start_state(&asked, &mut names)?;
+    match drive(&asked, &mut state) {
+        Err(refusal) => refused(refusal, asked.json),
+        Ok(outcome) => {
+            if let Some(path) = &asked.save {
+                save(path, &state)?;
+            }
+            conclude(&asked, &state, &outcome, &names)
+        }
+    }
+}
+
+/// The state to start from: a saved one or reset, with the images in its memory.
+fn start_state(asked: &Run, names: &mut Names) -> Result<State, String> {
+    let saved = asked.state.as_deref().map(read_state).transpose()?;
+    let (map_start, map_size) = sheet::span(&names.0).unwrap_or((DEFAULT_START, DEFAULT_SIZE));
+    let start = asked.start.unwrap_or(map_start);
+    let start = saved.as_ref().map_or(start, |state| state.start);
+    let mut images = Image::default();
+    for path in &asked.images {
+        let image = image::read(path, asked.format, start)?;
+        images.entry = images.entry.or(image.entry);
+        images.segments.extend(image.segments);
+        images.names.extend(image.names);
+    }
+    let mut state = match saved {
+        Some(state) => state,
+        None => {
+            let entry = asked.entry.or(images.entry).unwrap_or(start);
+            let size = usize::try_from(asked.size.unwrap_or(map_size));
+            let size = size.map_err(|_| "--size: too large for this computer")?;
+            State::reset(start, vec![0; size], entry)
+        }
+    };
+    image::load(&mut state, &images.segments)?;
+    names.0.extend(images.names);
+    Ok(state)
+}
+
+/// Runs, with a line a step or a bar of progress.
+fn drive(asked: &Run, state: &mut State) -> Result<Outcome, Refusal> {
+    let bar = progress(asked);
+    let mut number = 0;
+    let mut watch = |before: &State, after: &State, made: Counts| {
+        number += made.retired + made.trapped;
+        if asked.trace {
+            tell(asked.json, &trace::line(number, before, after, made));
+        } else {
+            bar.set_position(number);
+        }
+    };
+    let plan = Plan {
+        steps: asked.steps,
+        through_traps: asked.through_traps,
+        call: if asked.trace { 1 } else { MOST_STEPS },
+        watch: &mut watch,
+    };
+    let outcome = drive::run(state, plan);
+    bar.finish_and_clear();
+    outcome
+}
+
+/// A bar on standard error for long runs; it draws nothing where that is no terminal.
+fn progress(asked: &Run) -> ProgressBar {
+    if asked.trace || asked.steps <= MOST_STEPS {
+        return ProgressBar::hidden();
+    }
+    let form = "{elapsed_precise} {wide_bar} {pos} of {len} steps, {per_sec}";
+    let style = ProgressStyle::with_template(form);
+    let style = style.unwrap_or_else(|_| ProgressStyle::default_bar());
+    ProgressBar::new(asked.steps).with_style(style)
+}
+
+/// A line of the trace; whoever closes the output does not want the rest.
+fn tell(on_error: bool, line: &str) {
+    let _ = if on_error {
+        writeln!(std::io::stderr(), "{line}")
+    } else {
+        writeln!(std::io::stdout(), "{line}")
+    };
+}
+
+/// Writes a state beside its place and then moves it there, so that no half of a file is left.
+fn save(path: &Path, state: &State) -> Result<(), String> {
+    let named = |error: std::io::Error| format!("{}: {error}", path.display());
+    let mut beside = path.as_os_str().to_owned();
+    beside.push(".part");
+    std::fs::write(&beside, state_file::write(state)).map_err(named)?;
+    std::fs::rename(&beside, path).map_err(|error| {
+        let _ = std::fs::remove_file(&beside);
+        named(error)
+    })
+}
+
+/// Says how the run went.
+fn conclude(
+    asked: &Run,
+    state: &State,
+    outcome: &Outcome,
+    names: &Names,
+) -> Result<Status, String> {
+    let trap = match &outcome.end {
+        End::Trap(before) => Some(Trap::of_step(before, state)),
+        _ if outcome.counts.trapped > 0 => Trap::recorded(state),
+        _ => None,
+    };
+    if asked.json {
+        say_json(&json::run(state, outcome, trap.as_ref()))?;
+    } else {
+        let mut text = report::counts(state, outcome);
+        if let Some(trap) = &trap {
+            text.push_str(&report::trap(trap, state, names));
+        }
+        say(&format!("{text}\n{}", report::registers(state)))?;
+    }
+    Ok(if outcome.counts.trapped > 0 {
+        Status::Trapped
+    } else {
+        Status::Ran
+    })
+}

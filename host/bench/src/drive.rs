@@ -1,0 +1,106 @@
+//! A run of any number of steps by calls of at most 1,000,000, up to the exact step that traps or from
+//! which on nothing changes.
+
+use crate::proved::{self, Counts, Refusal, MOST_STEPS};
+use crate::state::State;
+
+/// Why a run ended.
+#[derive(Clone, PartialEq, Eq, Debug)]
+pub enum End {
+    /// All the steps were made.
+    Steps,
+    /// The program jumps to itself: every further step retires and changes nothing.
+    Still,
+    /// A step trapped; this is the state before it.
+    Trap(Box<State>),
+}
+
+#[derive(Clone, PartialEq, Eq, Debug)]
+pub struct Outcome {
+    pub counts: Counts,
+    pub end: End,
+}
+
+/// What is asked of a run, and who is shown each call's counts, with the states before and after it.
+pub struct Plan<'a> {
+    pub steps: u64,
+    pub through_traps: bool,
+    /// The most steps of one call.
+    pub call: u64,
+    pub watch: &'a mut dyn FnMut(&State, &State, Counts),
+}
+
+/// Runs a plan. A refused run changes nothing.
+pub fn run(state: &mut State, plan: Plan) -> Result<Outcome, Refusal> {
+    proved::run(state, 0)?;
+    let mut counts = Counts::default();
+    let most = plan.call.clamp(1, MOST_STEPS);
+    let (mut left, mut call) = (plan.steps, 1);
+    while left > 0 {
+        let steps = left.min(call);
+        let before = state.clone();
+        let made = proved::run(state, steps)?;
+        (plan.watch)(&before, state, made);
+        if stops(state, made, plan.through_traps)? {
+            *state = before;
+            return first_stop(state, steps, plan.through_traps, counts);
+        }
+        counts = sum(counts, made);
+        left -= steps;
+        call = (2 * call).min(most);
+    }
+    Ok(Outcome {
+        counts,
+        end: End::Steps,
+    })
+}
+
+/// Whether a run stops at the latest after steps with these counts, which left this state. What stops a
+/// run stops every longer one, so that the first such step can be searched for by halves.
+fn stops(state: &State, made: Counts, through_traps: bool) -> Result<bool, Refusal> {
+    Ok((made.trapped > 0 && !through_traps) || is_still(state)?)
+}
+
+/// Whether a step retires and changes nothing; then no further step changes anything either.
+fn is_still(state: &State) -> Result<bool, Refusal> {
+    let mut next = state.clone();
+    let made = proved::run(&mut next, 1)?;
+    Ok(made.retired == 1 && next == *state)
+}
+
+/// Makes the steps up to and with the first one that stops the run, which is among the next `steps`.
+fn first_stop(
+    state: &mut State,
+    mut steps: u64,
+    through_traps: bool,
+    mut counts: Counts,
+) -> Result<Outcome, Refusal> {
+    while steps > 1 {
+        let half = steps / 2;
+        let mut trial = state.clone();
+        let made = proved::run(&mut trial, half)?;
+        if stops(&trial, made, through_traps)? {
+            steps = half;
+        } else {
+            *state = trial;
+            counts = sum(counts, made);
+            steps -= half;
+        }
+    }
+    let before = Box::new(state.clone());
+    let made = proved::run(state, 1)?;
+    let end = if made.trapped > 0 && !through_traps {
+        End::Trap(before)
+    } else {
+        End::Still
+    };
+    counts = sum(counts, made);
+    Ok(Outcome { counts, end })
+}
+
+fn sum(first: Counts, second: Counts) -> Counts {
+    Counts {
+        retired: first.retired + second.retired,
+        trapped: first.trapped + second.trapped,
+    }
+}

@@ -1,0 +1,133 @@
+//! Images: what a file puts into memory, where the program starts, and the names it brings.
+
+mod elf;
+mod hex;
+
+use crate::names::Name;
+use crate::state::State;
+use std::path::Path;
+
+/// The form of an image file.
+#[derive(Clone, Copy, PartialEq, Eq, Debug, clap::ValueEnum)]
+pub enum Format {
+    /// By the file's first bytes: ELF's mark, or a colon for Intel HEX, else raw
+    Auto,
+    /// Bytes that lie at memory's start
+    Raw,
+    /// ELF for 32-bit RISC-V, loaded by its segments
+    Elf,
+    /// Intel HEX
+    Hex,
+}
+
+/// Bytes at an address, and where in which file they come from.
+#[derive(Clone, PartialEq, Eq, Debug)]
+pub struct Segment {
+    pub address: u32,
+    pub bytes: Vec<u8>,
+    pub origin: String,
+}
+
+impl Segment {
+    fn end(&self) -> u64 {
+        u64::from(self.address) + self.bytes.len() as u64
+    }
+
+    fn shown(&self) -> String {
+        format!("[{:08x}, {:08x})", self.address, self.end())
+    }
+}
+
+#[derive(Clone, Default, PartialEq, Eq, Debug)]
+pub struct Image {
+    pub segments: Vec<Segment>,
+    pub entry: Option<u32>,
+    pub names: Vec<Name>,
+}
+
+/// Reads an image; raw bytes go to `start`.
+pub fn read(path: &Path, format: Format, start: u32) -> Result<Image, String> {
+    let bytes = std::fs::read(path).map_err(|error| format!("{}: {error}", path.display()))?;
+    if bytes.is_empty() {
+        return Err(format!("{}: the file is empty", path.display()));
+    }
+    let image = match detected(format, &bytes) {
+        Format::Elf => elf::read(&bytes),
+        Format::Hex => hex::read(&bytes),
+        _ => Ok(raw(bytes, start)),
+    };
+    let mut image = image.map_err(|reason| format!("{}: {reason}", path.display()))?;
+    for segment in &mut image.segments {
+        segment.origin = format!("{}: {}", path.display(), segment.origin);
+    }
+    Ok(image)
+}
+
+fn detected(format: Format, bytes: &[u8]) -> Format {
+    match format {
+        Format::Auto if bytes.starts_with(b"\x7fELF") => Format::Elf,
+        Format::Auto if bytes.starts_with(b":") => Format::Hex,
+        given => given,
+    }
+}
+
+fn raw(bytes: Vec<u8>, address: u32) -> Image {
+    let segment = Segment {
+        address,
+        bytes,
+        origin: "raw bytes".into(),
+    };
+    Image {
+        segments: vec![segment],
+        ..Image::default()
+    }
+}
+
+/// Puts segments into a state's memory and clears the tags of the granules they touch. Nothing is put
+/// there unless all of them fit and no two overlap.
+pub fn load(state: &mut State, segments: &[Segment]) -> Result<(), String> {
+    let memory_end = u64::from(state.start) + state.memory.len() as u64;
+    for segment in segments {
+        if segment.address < state.start || segment.end() > memory_end {
+            let (origin, place) = (&segment.origin, segment.shown());
+            let start = state.start;
+            return Err(format!(
+                "{origin} at {place} does not lie in memory, [{start:08x}, {memory_end:08x})"
+            ));
+        }
+    }
+    no_overlap(segments)?;
+    for segment in segments {
+        put(state, segment);
+    }
+    Ok(())
+}
+
+fn no_overlap(segments: &[Segment]) -> Result<(), String> {
+    let mut sorted: Vec<&Segment> = segments.iter().collect();
+    sorted.sort_by_key(|segment| segment.address);
+    for pair in sorted.windows(2) {
+        if u64::from(pair[1].address) < pair[0].end() {
+            let (first, second) = (pair[0], pair[1]);
+            return Err(format!(
+                "{} at {} overlaps {} at {}",
+                second.origin,
+                second.shown(),
+                first.origin,
+                first.shown()
+            ));
+        }
+    }
+    Ok(())
+}
+
+fn put(state: &mut State, segment: &Segment) {
+    let offset = (segment.address - state.start) as usize;
+    let end = offset + segment.bytes.len();
+    state.memory[offset..end].copy_from_slice(&segment.bytes);
+    for granule in offset / 8..end.div_ceil(8) {
+        if let Some(byte) = state.tags.get_mut(granule / 8) {
+            *byte &= !(1 << (granule % 8));
+        }
+    }
+}

@@ -1,0 +1,89 @@
+//! ELF for 32-bit RISC-V: its loadable segments by their physical addresses, its entry, its symbols.
+
+use super::{Image, Segment};
+use crate::names::Name;
+use object::elf::{FileHeader32, ProgramHeader32};
+use object::elf::{EM_RISCV, ET_EXEC, PT_LOAD, STT_FUNC, STT_OBJECT};
+use object::read::elf::{FileHeader, ProgramHeader, Sym};
+use object::LittleEndian as Order;
+
+/// The image of an ELF file, or what is wrong with it.
+pub fn read(bytes: &[u8]) -> Result<Image, String> {
+    let header = FileHeader32::<Order>::parse(bytes).map_err(|error| error.to_string())?;
+    let order = header.endian().map_err(|error| error.to_string())?;
+    if header.e_machine(order) != EM_RISCV {
+        return Err("it is an ELF file for another processor, not RISC-V".into());
+    }
+    if header.e_type(order) != ET_EXEC {
+        return Err("it is an ELF file that is not linked to run (its type is not EXEC)".into());
+    }
+    let headers = header
+        .program_headers(order, bytes)
+        .map_err(|error| error.to_string())?;
+    let loaded = headers.iter().enumerate();
+    let loaded = loaded.filter(|(_, header)| header.p_type(order) == PT_LOAD);
+    let mut image = Image {
+        entry: Some(header.e_entry(order)),
+        ..Image::default()
+    };
+    for (index, header) in loaded {
+        image.segments.extend(segment(header, index, bytes)?);
+    }
+    image.names = names(header, bytes).unwrap_or_default();
+    if image.segments.is_empty() {
+        return Err("it has no segment to load".into());
+    }
+    Ok(image)
+}
+
+/// A segment with the zeros that it has in memory alone; none if it is empty.
+fn segment(
+    header: &ProgramHeader32<Order>,
+    index: usize,
+    bytes: &[u8],
+) -> Result<Option<Segment>, String> {
+    let order = Order;
+    let address = header.p_paddr(order);
+    let size = header.p_memsz(order);
+    let origin = format!("segment {index}");
+    let data = header
+        .data(order, bytes)
+        .map_err(|()| format!("{origin} at {address:08x} is cut short: the file ends inside it"))?;
+    if data.len() > size as usize {
+        return Err(format!(
+            "{origin} at {address:08x} is larger in the file than in memory"
+        ));
+    }
+    if u64::from(address) + u64::from(size) > 1 << 32 {
+        return Err(format!("{origin} at {address:08x} ends past 2^32"));
+    }
+    let mut bytes = data.to_vec();
+    bytes.resize(size as usize, 0);
+    Ok((size > 0).then_some(Segment {
+        address,
+        bytes,
+        origin,
+    }))
+}
+
+/// The functions and objects that the symbol table names with a size.
+fn names(header: &FileHeader32<Order>, bytes: &[u8]) -> Option<Vec<Name>> {
+    let order = header.endian().ok()?;
+    let sections = header.sections(order, bytes).ok()?;
+    let symbols = sections
+        .symbols(order, bytes, object::elf::SHT_SYMTAB)
+        .ok()?;
+    let mut names = Vec::new();
+    for symbol in symbols.iter() {
+        let named = matches!(symbol.st_type(), STT_FUNC | STT_OBJECT);
+        if named && symbol.st_size(order) > 0 {
+            let name = symbol.name(order, symbols.strings()).ok()?;
+            names.push(Name {
+                name: String::from_utf8_lossy(name).into_owned(),
+                start: symbol.st_value(order),
+                length: symbol.st_size(order).into(),
+            });
+        }
+    }
+    Some(names)
+}

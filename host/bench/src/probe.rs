@@ -1,0 +1,87 @@
+//! Questions that the proved machine answers by executing one instruction on a scratch state: the rights
+//! and the type of a capability, and the address that an access or a jump asks for.
+
+use crate::proved;
+use crate::state::{Capability, State, EXECUTABLE_ROOT, MCAUSE, MEMORY_ROOT, MTVAL, PCC};
+
+// The fields of an instruction word that a probe puts in place.
+const FUNCT3: u32 = 7 << 12;
+const RS1: u32 = 31 << 15;
+const RS1_IS_C1: u32 = 1 << 15;
+
+// The CHERIoT report, chapter 8: CGetPerm c1, c1 and CGetType c1, c1.
+const CGETPERM: u32 = 0xFE00_80DB;
+const CGETTYPE: u32 = 0xFE10_80DB;
+
+const FETCH_MISALIGNED: u32 = 0;
+
+/// A scratch state with one word of code at `start` and one capability in c1.
+fn scratch(start: u32, word: u32, first: Capability) -> State {
+    let mut memory = vec![0; 64];
+    memory[..4].copy_from_slice(&word.to_le_bytes());
+    let mut state = State::reset(start, memory, start);
+    state.set_capability(1, first);
+    state
+}
+
+/// The integer that an instruction from c1 to c1 gives for a metadata word.
+fn query(word: u32, metadata: u32) -> u32 {
+    let asked = Capability {
+        address: 0,
+        metadata,
+        tag: 0,
+    };
+    let mut state = scratch(0, word, asked);
+    match proved::run(&mut state, 1) {
+        Ok(_) => state.capability(1).address,
+        Err(_) => 0,
+    }
+}
+
+/// The rights of a capability, bits as in document 01, "Capability word".
+pub fn rights(metadata: u32) -> u32 {
+    query(CGETPERM, metadata)
+}
+
+/// The four-bit type of a capability, 0 if it is unsealed.
+pub fn seal_type(metadata: u32) -> u32 {
+    query(CGETTYPE, metadata)
+}
+
+/// The address that a load or store asks for, its authority at `address`. The same word is made a byte
+/// access through a root, where there is no memory: that traps with the address in mtval.
+pub fn access(word: u32, address: u32) -> Option<u32> {
+    // An offset reaches 2,048 bytes, so half the address space away is far enough.
+    let start = address.wrapping_add(1 << 31) & !63;
+    let word = word & !(FUNCT3 | RS1) | RS1_IS_C1;
+    let mut state = scratch(start, word, Capability::tagged(address, MEMORY_ROOT));
+    let counts = proved::run(&mut state, 1).ok()?;
+    (counts.trapped == 1).then(|| state.word(MTVAL))
+}
+
+/// The target of a CJALR whose authority is at `address`.
+pub fn register_jump(word: u32, address: u32) -> Option<u32> {
+    let word = word & !RS1 | RS1_IS_C1;
+    target(scratch(
+        0,
+        word,
+        Capability::tagged(address, EXECUTABLE_ROOT),
+    ))
+}
+
+/// The target of the branch or CJAL that `state` is at, with PCC widened to the root.
+pub fn relative_jump(state: &State, pcc: Capability) -> Option<u32> {
+    let mut state = state.clone();
+    state.set_capability(PCC, Capability::tagged(pcc.address, EXECUTABLE_ROOT));
+    target(state)
+}
+
+/// Where a jump by root authority goes, misaligned or not.
+fn target(mut state: State) -> Option<u32> {
+    let counts = proved::run(&mut state, 1).ok()?;
+    match (counts.retired, state.word(MCAUSE)) {
+        (1, _) => Some(state.capability(PCC).address),
+        (_, FETCH_MISALIGNED) => Some(state.word(MTVAL)),
+        _ => None,
+    }
+}

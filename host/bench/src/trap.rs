@@ -1,0 +1,243 @@
+//! A trap in words, from what the machine left: mcause, mtval, PCC and the registers, which a trap does
+//! not change (document 01, "Traps"; the CHERIoT report, Table 7.3).
+
+use crate::probe;
+use crate::proved::Region;
+use crate::state::{place_name, Capability, State, MCAUSE, MEPCC, MTVAL, PCC};
+
+/// The name of PCC in mtval; a special register n is named by this plus n (the CHERIoT report, 7.11).
+const PCC_NAME: u32 = 32;
+/// The special register with the lowest number, MTCC (the CHERIoT report, Table 7.2).
+const FIRST_SPECIAL: u32 = 28;
+/// The mcause of a capability check.
+const CAPABILITY_CHECK: u32 = 28;
+
+// Capability causes (the CHERIoT report, Table 7.3).
+const BOUNDS: u32 = 1;
+const SYSTEM_REGISTERS: u32 = 24;
+
+/// What the step was doing when it trapped.
+#[derive(Clone, Copy, PartialEq, Eq, Debug)]
+pub enum Action {
+    Fetch,
+    Load,
+    Store,
+    Jump,
+    Other,
+}
+
+impl Action {
+    pub fn noun(self) -> &'static str {
+        match self {
+            Action::Fetch => "fetch",
+            Action::Load => "load",
+            Action::Store => "store",
+            Action::Jump => "jump",
+            Action::Other => "access",
+        }
+    }
+}
+
+/// The bytes that were asked for.
+#[derive(Clone, Copy, PartialEq, Eq, Debug)]
+pub struct Asked {
+    pub address: u32,
+    pub size: u32,
+}
+
+/// The capability that the access was made by.
+#[derive(Clone, PartialEq, Eq, Debug)]
+pub struct Authority {
+    pub name: String,
+    pub value: Capability,
+    pub bounds: Region,
+}
+
+#[derive(Clone, PartialEq, Eq, Debug)]
+pub struct Trap {
+    /// PCC at the trap.
+    pub pcc: Capability,
+    /// The instruction word, if it could be fetched.
+    pub word: Option<u32>,
+    pub mcause: u32,
+    pub mtval: u32,
+    pub action: Action,
+    pub cause: String,
+    pub authority: Option<Authority>,
+    pub asked: Option<Asked>,
+}
+
+impl Trap {
+    /// The trap that a step from `before` ended in, leaving `after`.
+    pub fn of_step(before: &State, after: &State) -> Trap {
+        Trap::new(after, before.capability(PCC))
+    }
+
+    /// The last trap that a state records, if it records one. MEPCC stands for the PCC of that time, and
+    /// the registers for what they were, unless the program has written them since.
+    pub fn recorded(state: &State) -> Option<Trap> {
+        let none = state.word(MCAUSE) == 0 && state.word(MTVAL) == 0;
+        (!none).then(|| Trap::new(state, state.capability(MEPCC)))
+    }
+
+    fn new(after: &State, pcc: Capability) -> Trap {
+        let (mcause, mtval) = (after.word(MCAUSE), after.word(MTVAL));
+        let action = action(after, pcc, mcause, mtval);
+        let fetched = action != Action::Fetch;
+        let word = fetched.then(|| after.memory_word(pcc.address)).flatten();
+        let authority = authority(after, pcc, mcause, mtval, action, word);
+        let mut trap = Trap {
+            pcc,
+            word,
+            mcause,
+            mtval,
+            action,
+            cause: cause(mcause, mtval, action),
+            authority,
+            asked: None,
+        };
+        trap.asked = trap.asked(after);
+        trap
+    }
+
+    /// The bytes that were asked for, as far as the cause has any.
+    fn asked(&self, after: &State) -> Option<Asked> {
+        let size = self.size();
+        let address = match (self.mcause, self.action) {
+            (0 | 1 | 4..=7, _) => Some(self.mtval),
+            (CAPABILITY_CHECK, Action::Fetch) => Some(self.pcc.address),
+            (CAPABILITY_CHECK, Action::Load | Action::Store) => {
+                probe::access(self.word?, self.authority.as_ref()?.value.address)
+            }
+            (CAPABILITY_CHECK, Action::Jump) => self.target(after),
+            _ => None,
+        }?;
+        Some(Asked { address, size })
+    }
+
+    /// The target of a jump that a capability check refused.
+    fn target(&self, after: &State) -> Option<u32> {
+        if self.mtval / 32 == PCC_NAME {
+            probe::relative_jump(after, self.pcc)
+        } else {
+            probe::register_jump(self.word?, self.authority.as_ref()?.value.address)
+        }
+    }
+
+    /// The bytes of the access: funct3 of a load or store holds the power of two, an instruction has 4.
+    fn size(&self) -> u32 {
+        match (self.action, self.word) {
+            (Action::Load | Action::Store, Some(word)) => 1 << (word >> 12 & 3),
+            _ => 4,
+        }
+    }
+}
+
+/// What the step was doing.
+fn action(after: &State, pcc: Capability, mcause: u32, mtval: u32) -> Action {
+    match mcause {
+        0 | 1 => Action::Fetch,
+        4 | 5 => Action::Load,
+        6 | 7 => Action::Store,
+        CAPABILITY_CHECK => checked_action(after, pcc, mtval),
+        _ => Action::Other,
+    }
+}
+
+/// What a capability check refused. One of PCC is a fetch, unless the fetch was in bounds.
+fn checked_action(after: &State, pcc: Capability, mtval: u32) -> Action {
+    let (name, cause) = (mtval / 32, mtval % 32);
+    let word = after.memory_word(pcc.address).unwrap_or(0);
+    match (name, word & 0x7F) {
+        _ if cause == SYSTEM_REGISTERS => Action::Other,
+        (PCC_NAME, _) if cause == BOUNDS && holds(pcc.bounds(), pcc.address, 4) => Action::Jump,
+        (PCC_NAME, _) => Action::Fetch,
+        (_, 0x03) => Action::Load,
+        (_, 0x23) => Action::Store,
+        (_, 0x67) => Action::Jump,
+        _ => Action::Other,
+    }
+}
+
+/// Whether bounds hold `size` bytes at an address, compared as whole numbers.
+fn holds(bounds: Region, address: u32, size: u32) -> bool {
+    bounds.low <= address && u64::from(address) + u64::from(size) <= bounds.high
+}
+
+/// The capability that the access was made by.
+fn authority(
+    after: &State,
+    pcc: Capability,
+    mcause: u32,
+    mtval: u32,
+    action: Action,
+    word: Option<u32>,
+) -> Option<Authority> {
+    let named = |name: String, value: Capability| Authority {
+        name,
+        value,
+        bounds: value.bounds(),
+    };
+    let register = match (mcause, action) {
+        (CAPABILITY_CHECK, _) if mtval / 32 < 16 => mtval / 32,
+        (_, Action::Load | Action::Store) => word? >> 15 & 15,
+        (0 | 1 | CAPABILITY_CHECK, _) => return Some(named("PCC".into(), pcc)),
+        _ => return None,
+    };
+    let place = register as usize;
+    Some(named(place_name(place), after.capability(place)))
+}
+
+/// The cause in words.
+fn cause(mcause: u32, mtval: u32, action: Action) -> String {
+    match mcause {
+        0 => "instruction address that is not a multiple of 4".into(),
+        1 => "fetch outside memory".into(),
+        2 => "illegal instruction".into(),
+        3 => "breakpoint (EBREAK)".into(),
+        4 => "misaligned load".into(),
+        5 => "load outside memory".into(),
+        6 => "misaligned store".into(),
+        7 => "store outside memory".into(),
+        11 => "environment call (ECALL)".into(),
+        CAPABILITY_CHECK => checked_cause(mtval / 32, mtval % 32, action.noun()),
+        _ => format!("mcause {mcause}, which this machine does not give"),
+    }
+}
+
+/// The cause of a capability check in words.
+fn checked_cause(name: u32, cause: u32, noun: &str) -> String {
+    let register = register_name(name);
+    match cause {
+        BOUNDS => format!("{noun} outside the bounds of {register}"),
+        2 => format!("{noun} by {register}, which has no tag"),
+        3 => format!("{noun} by {register}, which is sealed"),
+        17 => format!("{noun} by {register}, which lacks the right to execute (EX)"),
+        18 => format!("load by {register}, which lacks the right to load (LD)"),
+        19 => format!("store by {register}, which lacks the right to store (SD)"),
+        21 => {
+            format!("store of a capability by {register}, which lacks the right to store them (MC)")
+        }
+        22 => format!(
+            "store of a local capability by {register}, which lacks the right to store them (SL)"
+        ),
+        SYSTEM_REGISTERS if name == PCC_NAME => {
+            "system instruction, and PCC lacks the right to system registers (SR)".into()
+        }
+        SYSTEM_REGISTERS => {
+            format!("use of {register}, and PCC lacks the right to system registers (SR)")
+        }
+        _ => format!("check {cause} of {register}, which this machine does not give"),
+    }
+}
+
+/// The register that mtval names.
+fn register_name(name: u32) -> String {
+    const LAST_SPECIAL: u32 = PCC_NAME + FIRST_SPECIAL + 3;
+    match name {
+        0..=15 => format!("c{name}"),
+        PCC_NAME => "PCC".into(),
+        60..=LAST_SPECIAL => place_name((name - PCC_NAME - FIRST_SPECIAL) as usize + PCC + 1),
+        _ => format!("register {name}"),
+    }
+}

@@ -1,0 +1,117 @@
+//! Runs every comparison against the wrong machines: each must be told from the right one within
+//! a bounded number of cases of the seed that the comparison itself uses.
+//!
+//! `mutants [--cases N] [--seed S]`
+
+use compare::conclude;
+use compare::cuts::{self, CutAnswer, Label};
+use compare::instructions::table;
+use compare::lists::{self, List};
+use compare::machines;
+use compare::options::Options;
+use compare::rows::Table;
+use compare::state::{Call, State};
+use mutants::capability::Cut;
+use mutants::{select, MUTANTS};
+use std::process::ExitCode;
+
+/// The most cases for one wrong machine.
+const CASES: u64 = 1_000_000;
+/// Cases for the copy with no edit on, which must agree.
+const RIGHT_CASES: u64 = 100_000;
+
+fn cut(base: u32, length: u32) -> CutAnswer {
+    let (number, low, high, exact) = match mutants::capability::cut(base, length) {
+        Cut::Region { low, high, exact } => (0, low, high, u32::from(exact)),
+        Cut::Refused(number) => (number, 0, 0, 0),
+    };
+    CutAnswer {
+        number,
+        low,
+        high,
+        exact,
+    }
+}
+
+const LABEL: Label = Label {
+    cut,
+    bounds: mutants::capability::bounds,
+};
+
+fn calls(list: &mut List) -> u32 {
+    lists::lent(list, |start, list| {
+        let start = mutants::capability::Capability {
+            address: start.address,
+            metadata: start.metadata,
+            tag: start.tag,
+        };
+        let made = mutants::calls::calls(start, list).into_iter();
+        let plain = made.map(|made| second::Capability {
+            address: made.address,
+            metadata: made.metadata,
+            tag: made.tag,
+        });
+        plain.collect()
+    })
+}
+
+fn machine(state: &mut State, call: Call) -> u64 {
+    let State {
+        regs,
+        start,
+        mem,
+        tags,
+        revoked,
+    } = state;
+    match call {
+        Call::Step => mutants::machine::step(regs, *start, mem, tags, revoked),
+        Call::Run(steps) => mutants::machine::run(regs, *start, mem, tags, revoked, steps),
+    }
+}
+
+/// The case at which a comparison tells the selected machine from the right one.
+fn told_apart(comparison: &str, table: &Table, seed: u64, cases: u64) -> Option<u64> {
+    match comparison {
+        "cuts" => cuts::compare(LABEL, seed, cases)
+            .err()
+            .map(|found| found.case),
+        "lists" => lists::compare(calls, seed, cases)
+            .err()
+            .map(|found| found.case),
+        _ => machines::compare(machine, table, seed, cases, None)
+            .err()
+            .map(|found| found.number),
+    }
+}
+
+/// What each comparison says of each wrong machine; an error if one is not told apart.
+fn run(options: &Options) -> Result<String, String> {
+    let table = table();
+    let mut faults = Vec::new();
+    for comparison in ["cuts", "lists", "machine"] {
+        if let Some(case) = told_apart(comparison, &table, options.seed, RIGHT_CASES) {
+            faults.push(format!("no mutant: {comparison} differs at case {case}"));
+        }
+    }
+    for (index, mutant) in MUTANTS.iter().enumerate() {
+        select(index + 1);
+        for comparison in mutant.by.split_whitespace() {
+            let name = mutant.name;
+            match told_apart(comparison, &table, options.seed, options.cases) {
+                Some(case) => {
+                    println!("mutant {name}: told apart after {case} cases by {comparison}")
+                }
+                None => faults.push(format!("mutant {name}: NOT told apart by {comparison}")),
+            }
+        }
+    }
+    if faults.is_empty() {
+        Ok(format!("{} mutants told apart", MUTANTS.len()))
+    } else {
+        Err(faults.join("\n"))
+    }
+}
+
+fn main() -> ExitCode {
+    conclude(Options::of_process(CASES).and_then(|options| run(&options)))
+}

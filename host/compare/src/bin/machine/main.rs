@@ -1,0 +1,73 @@
+//! Compares the proved machine (`rt staticlib bench_api`) with the second program, and prints
+//! what the cases reached.
+//!
+//! `machine [--cases N] [--seed S]`, or `machine --replay FILE` for one case as text.
+
+mod proved;
+
+use compare::coverage::Coverage;
+use compare::instructions::table;
+use compare::machines::{compare, shown, Both, Differing};
+use compare::options::Options;
+use compare::rows::Table;
+use compare::shrink::shrink;
+use compare::state::{Case, PCC};
+use compare::{conclude, replay};
+use std::path::Path;
+use std::process::ExitCode;
+
+const CASES: u64 = 2_150_000;
+
+fn main() -> ExitCode {
+    let options = Options::of_process(CASES);
+    conclude(options.and_then(|options| match &options.replay {
+        Some(file) => rerun(file),
+        None => run(&options),
+    }))
+}
+
+fn run(options: &Options) -> Result<String, String> {
+    let table = table();
+    let mut coverage = Coverage::new(&table);
+    let (seed, cases) = (options.seed, options.cases);
+    compare(proved::machine, &table, seed, cases, Some(&mut coverage))
+        .map_err(|found| report(&table, seed, *found))?;
+    let text = format!("{}\n{cases} cases of seed {seed}", coverage.table(&table));
+    let faults = coverage.faults(&table);
+    if faults.is_empty() {
+        Ok(text)
+    } else {
+        Err(format!("{text}\n{}", faults.join("\n")))
+    }
+}
+
+/// A differing case, made smaller, as text to rerun.
+fn report(table: &Table, seed: u64, found: Differing) -> String {
+    let differs = |case: &Case| !Both::default().agree(proved::machine, case);
+    let small = shrink(found.case, &differs);
+    let mut both = Both::default();
+    both.agree(proved::machine, &small);
+    let place = small.state.capability(PCC).address;
+    let row = small.state.word(place).and_then(|word| table.find(word));
+    let name = row.map_or("no instruction", |row| table.rows[row].name);
+    let mut text = replay::write(&small);
+    for line in both.difference().lines() {
+        text.push_str(&format!("# {line}\n"));
+    }
+    let number = found.number;
+    format!(
+        "{text}# At PCC: {name}. Rerun these lines with --replay. Case {number} of seed {seed}."
+    )
+}
+
+/// Reruns a case from a file.
+fn rerun(file: &Path) -> Result<String, String> {
+    let text = std::fs::read_to_string(file).map_err(|error| error.to_string())?;
+    let case = replay::read(&text)?;
+    let mut both = Both::default();
+    if both.agree(proved::machine, &case) {
+        Ok(shown(both.their_answer))
+    } else {
+        Err(both.difference())
+    }
+}

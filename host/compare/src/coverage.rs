@@ -1,0 +1,291 @@
+//! What the machine comparison reached, counted for every cell that the papers make reachable:
+//! each instruction with each thing it can do, each failed fetch, words that are no instruction,
+//! each refusal alone and with each later one, and runs.
+
+use crate::instructions::{BOUNDS, EXECUTE, FETCH_ACCESS, FETCH_MISALIGNED, ILLEGAL, SEAL, TAG};
+use crate::machines::second;
+use crate::refusals::reasons;
+use crate::rows::{Outcome, Row, Table, COLUMNS};
+use crate::state::{Call, Case, State, MCAUSE, MTVAL, PCC};
+use second::capability::{has, in_bounds, is_sealed, EX};
+use std::fmt::Write;
+
+/// The opcodes under which a word can be no instruction whatever registers it names; the last
+/// stands for every opcode that has no instruction.
+const OPCODES: [u32; 10] = [0x03, 0x0F, 0x13, 0x23, 0x33, 0x5B, 0x63, 0x67, 0x73, 0x00];
+
+/// Kinds of runs.
+const RUNS: [&str; 6] = [
+    "runs of 0 steps",
+    "runs of 1 to 199 steps",
+    "runs of 200 to 20,000 steps",
+    "runs of 1,000,000 steps",
+    "runs that retired over 1,000 steps",
+    "followed runs that executed a word they had written",
+];
+
+/// The counts.
+pub struct Coverage {
+    rows: Vec<[u64; COLUMNS]>,
+    fetch: [u64; COLUMNS],
+    unknown: [u64; OPCODES.len()],
+    refused: [u64; 6],
+    refused_also: [[u64; 6]; 6],
+    runs: [u64; RUNS.len()],
+    retired: u64,
+    trapped: u64,
+    /// Answers that are not the lowest reason there is to refuse.
+    misrefused: u64,
+    /// Words that are no instruction and did not trap as illegal.
+    misread: u64,
+}
+
+/// The word at PCC if the fetch passes its checks (document 01, "A fetch checks").
+fn fetched(state: &State) -> Option<u32> {
+    let pcc = state.capability(PCC);
+    let usable = pcc.tag == 1 && !is_sealed(pcc.metadata) && has(pcc.metadata, EX);
+    let here = in_bounds(pcc, pcc.address, 4) && pcc.address.is_multiple_of(4);
+    (usable && here).then(|| state.word(pcc.address))?
+}
+
+/// The trap that a state has just taken.
+fn trap(after: &State) -> Outcome {
+    match after.regs[MCAUSE] {
+        28 => Outcome::Violation(after.regs[MTVAL] & 31),
+        cause => Outcome::Trap(cause),
+    }
+}
+
+/// The name of a column.
+fn name(outcome: Outcome) -> String {
+    let text = match outcome {
+        Outcome::Retired => "retired",
+        Outcome::Taken => "taken",
+        Outcome::Tagged => "tagged",
+        Outcome::Untagged => "untagged",
+        Outcome::Trap(cause) => return format!("mcause-{cause}"),
+        Outcome::Violation(1) => "bounds",
+        Outcome::Violation(2) => "tag",
+        Outcome::Violation(3) => "seal",
+        Outcome::Violation(17) => "execute",
+        Outcome::Violation(18) => "load",
+        Outcome::Violation(19) => "store",
+        Outcome::Violation(21) => "store-capability",
+        Outcome::Violation(22) => "store-local",
+        Outcome::Violation(24) => "system",
+        Outcome::Violation(cause) => return format!("cause-{cause}"),
+    };
+    text.to_string()
+}
+
+/// What a failed fetch can be.
+const FETCH: [Outcome; 6] = [TAG, SEAL, EXECUTE, BOUNDS, FETCH_MISALIGNED, FETCH_ACCESS];
+
+impl Coverage {
+    pub fn new(table: &Table) -> Coverage {
+        Coverage {
+            rows: vec![[0; COLUMNS]; table.rows.len()],
+            fetch: [0; COLUMNS],
+            unknown: [0; OPCODES.len()],
+            refused: [0; 6],
+            refused_also: [[0; 6]; 6],
+            runs: [0; RUNS.len()],
+            retired: 0,
+            trapped: 0,
+            misrefused: 0,
+            misread: 0,
+        }
+    }
+
+    /// Counts a case, what was left after it, and the answer.
+    pub fn count(&mut self, table: &Table, case: &Case, after: &State, answer: u64) {
+        let number = (answer >> 48) as usize;
+        let reasons = reasons(case);
+        let lowest = reasons.iter().position(|&reason| reason).unwrap_or(0);
+        self.misrefused += u64::from(number != lowest);
+        if lowest != 0 {
+            return self.count_refusal(lowest, reasons);
+        }
+        let (trapped, retired) = (answer >> 24 & 0xFF_FFFF, answer & 0xFF_FFFF);
+        self.trapped += trapped;
+        self.retired += retired;
+        match case.call {
+            Call::Step | Call::Run(1) => self.count_step(table, &case.state, after, retired == 1),
+            Call::Run(steps) => self.count_run(&case.state, steps, retired),
+        }
+    }
+
+    fn count_refusal(&mut self, number: usize, reasons: [bool; 6]) {
+        self.refused[number] += 1;
+        for (count, also) in self.refused_also[number].iter_mut().zip(reasons) {
+            *count += u64::from(also);
+        }
+    }
+
+    fn count_run(&mut self, state: &State, steps: u32, retired: u64) {
+        let kind = match steps {
+            0 => 0,
+            1..200 => 1,
+            200..=20_000 => 2,
+            _ => 3,
+        };
+        self.runs[kind] += 1;
+        self.runs[4] += u64::from(retired > 1000);
+        // Following a run costs more than making it: one in 16 is enough.
+        if steps <= 20_000 && state.regs[MTVAL].is_multiple_of(16) {
+            self.runs[5] += u64::from(rewrites_itself(state, steps));
+        }
+    }
+
+    fn count_step(&mut self, table: &Table, before: &State, after: &State, retired: bool) {
+        let Some(word) = fetched(before) else {
+            self.fetch[trap(after).column()] += 1;
+            return;
+        };
+        let Some(index) = table.find(word) else {
+            let opcode = OPCODES.iter().position(|&opcode| opcode == word & 0x7F);
+            self.unknown[opcode.unwrap_or(OPCODES.len() - 1)] += 1;
+            self.misread += u64::from(retired || trap(after) != ILLEGAL);
+            return;
+        };
+        let counts = &mut self.rows[index];
+        if !retired {
+            counts[trap(after).column()] += 1;
+            return;
+        }
+        counts[Outcome::Retired.column()] += 1;
+        if let Some(more) = retired_how(&table.rows[index], word, before, after) {
+            counts[more.column()] += 1;
+        }
+    }
+
+    /// Every reachable cell with its name and count.
+    fn cells(&self, table: &Table) -> Vec<(String, u64)> {
+        let mut cells = Vec::new();
+        for (row, counts) in table.rows.iter().zip(&self.rows) {
+            for &outcome in &row.outcomes {
+                let cell = format!("{} {}", row.name, name(outcome));
+                cells.push((cell, counts[outcome.column()]));
+            }
+        }
+        for outcome in FETCH {
+            cells.push((
+                format!("fetch {}", name(outcome)),
+                self.fetch[outcome.column()],
+            ));
+        }
+        for (opcode, &count) in OPCODES.iter().zip(&self.unknown) {
+            cells.push((format!("no instruction, opcode {opcode:02x}"), count));
+        }
+        for number in 1..=5 {
+            for also in number..=5 {
+                let cell = format!("refused {number} with reason {also}");
+                cells.push((cell, self.refused_also[number][also]));
+            }
+        }
+        for (kind, &count) in RUNS.iter().zip(&self.runs) {
+            cells.push((kind.to_string(), count));
+        }
+        cells
+    }
+
+    /// The cells that were not reached, and what the papers shut out and was reached.
+    pub fn faults(&self, table: &Table) -> Vec<String> {
+        let mut faults = Vec::new();
+        for (cell, count) in self.cells(table) {
+            if count == 0 {
+                faults.push(format!("not reached: {cell}"));
+            }
+        }
+        let rows = table.rows.iter().zip(&self.rows);
+        let rows = rows.map(|(row, counts)| (row.name, row.outcomes.as_slice(), counts));
+        for (name, outcomes, counts) in rows.chain([("fetch", &FETCH[..], &self.fetch)]) {
+            let listed = outcomes.iter().map(|outcome| counts[outcome.column()]);
+            if listed.sum::<u64>() != counts.iter().sum() {
+                faults.push(format!("reached more than its row lists: {name}"));
+            }
+        }
+        if self.misrefused > 0 {
+            faults.push(format!(
+                "not the lowest reason to refuse: {}",
+                self.misrefused
+            ));
+        }
+        if self.misread > 0 {
+            faults.push(format!("no instruction, and not illegal: {}", self.misread));
+        }
+        faults
+    }
+
+    /// The table, a line a row.
+    pub fn table(&self, table: &Table) -> String {
+        let mut text = String::new();
+        for (row, counts) in table.rows.iter().zip(&self.rows) {
+            let _ = writeln!(text, "{:28}{}", row.name, line(&row.outcomes, counts));
+        }
+        let _ = writeln!(text, "{:28}{}", "fetch", line(&FETCH, &self.fetch));
+        for (opcode, count) in OPCODES.iter().zip(&self.unknown) {
+            let _ = writeln!(text, "no instruction, opcode {opcode:02x}   {count}");
+        }
+        for number in 1..=5 {
+            let also: Vec<_> = (number + 1..=5)
+                .map(|also| format!(" with-{also} {}", self.refused_also[number][also]))
+                .collect();
+            let _ = writeln!(
+                text,
+                "refused {number}   {}{}",
+                self.refused[number],
+                also.concat()
+            );
+        }
+        for (kind, count) in RUNS.iter().zip(&self.runs) {
+            let _ = writeln!(text, "{kind}   {count}");
+        }
+        let _ = writeln!(
+            text,
+            "steps retired {}, trapped {}",
+            self.retired, self.trapped
+        );
+        let cells = self.cells(table).len();
+        let _ = write!(
+            text,
+            "cells {cells}, not reached {}",
+            self.faults(table).len()
+        );
+        text
+    }
+}
+
+fn line(outcomes: &[Outcome], counts: &[u64; COLUMNS]) -> String {
+    let cell = |&outcome: &Outcome| format!(" {} {}", name(outcome), counts[outcome.column()]);
+    outcomes.iter().map(cell).collect()
+}
+
+/// More of how an instruction retired: a branch that was taken, the tag of what was written.
+fn retired_how(row: &Row, word: u32, before: &State, after: &State) -> Option<Outcome> {
+    let next = before.capability(PCC).address.wrapping_add(4);
+    if row.can(Outcome::Taken) {
+        return (after.capability(PCC).address != next).then_some(Outcome::Taken);
+    }
+    let rd = (word >> 7 & 31) as usize;
+    if !row.can(Outcome::Untagged) || rd == 0 {
+        return None;
+    }
+    match after.capability(rd).tag {
+        0 => Some(Outcome::Untagged),
+        _ => Some(Outcome::Tagged),
+    }
+}
+
+/// Whether a run executes a word that it wrote itself, followed step by step.
+fn rewrites_itself(state: &State, steps: u32) -> bool {
+    let mut now = state.clone();
+    for _ in 0..steps.min(2000) {
+        let pcc = now.capability(PCC).address;
+        if fetched(&now).is_some_and(|word| state.word(pcc) != Some(word)) {
+            return true;
+        }
+        second(&mut now, Call::Step);
+    }
+    false
+}

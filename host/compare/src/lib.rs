@@ -1,0 +1,70 @@
+//! The bulk comparison of the proved program with the independent second one.
+//!
+//! Each comparison draws cases from a seed, asks both programs, and compares everything that they
+//! answer and leave. The programs under src/bin link the proved libraries; the package `mutants`
+//! runs the same comparisons against wrong machines, to see that they are told apart.
+
+#![forbid(unsafe_code)]
+
+pub mod aims;
+pub mod capabilities;
+pub mod cases;
+pub mod coverage;
+pub mod cuts;
+pub mod instructions;
+pub mod lists;
+pub mod machines;
+pub mod operands;
+pub mod options;
+pub mod programs;
+pub mod random;
+pub mod refusals;
+pub mod replay;
+pub mod rows;
+pub mod shrink;
+pub mod state;
+
+use options::Options;
+use std::fmt::Debug;
+use std::process::ExitCode;
+
+/// The first case on which two programs differ, and how.
+#[derive(Debug)]
+pub struct Mismatch {
+    /// The number of the case, from 1: how many were compared.
+    pub case: u64,
+    pub text: String,
+}
+
+/// Ends a comparison: its text and `ok`, or its text and a failure.
+pub fn conclude(outcome: Result<String, String>) -> ExitCode {
+    match outcome {
+        Ok(text) => {
+            println!("{text}\nok");
+            ExitCode::SUCCESS
+        }
+        Err(text) => {
+            println!("{text}");
+            ExitCode::FAILURE
+        }
+    }
+}
+
+/// What a comparison of plain numbers says at its end.
+pub fn totals<T: Debug>(
+    options: &Options,
+    outcome: Result<T, Mismatch>,
+    complete: impl Fn(&T) -> bool,
+) -> Result<String, String> {
+    let (cases, seed) = (options.cases, options.seed);
+    match outcome {
+        Ok(totals) if complete(&totals) => Ok(format!("{cases} cases of seed {seed}: {totals:?}")),
+        Ok(totals) => Err(format!(
+            "{cases} cases of seed {seed} miss a kind: {totals:?}"
+        )),
+        Err(found) => Err(format!(
+            "case {} of seed {seed}: {}",
+            found.case, found.text
+        )),
+    }
+}

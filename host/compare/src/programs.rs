@@ -1,0 +1,178 @@
+//! Programs: memory full of instructions, capabilities to memory in the upper registers, and for
+//! most a handler that steps over what trapped, so that a run of 20,000 steps goes on through
+//! every instruction, what it stores over its own code among them.
+
+use crate::capabilities::{register, rights, wide, Layout, Rights};
+use crate::cases::{fill, fill_registers};
+use crate::operands::{any, encode, Operands};
+use crate::random::Random;
+use crate::rows::{Aim, Form, Outcome, Row, Table};
+use crate::state::{Call, Case, State, MEPCC, MTCC, MTDC, PCC};
+
+const MOST_STEPS: u32 = 20_000;
+/// The most steps that a run may ask for (document 01, "Answers").
+const STEP_LIMIT: u32 = 1_000_000;
+
+/// A handler that steps over the instruction that trapped: c15 := MEPCC; c15 := c15 + 4;
+/// MEPCC := c15; MRET.
+const HANDLER: [u32; 4] = [0x03F0_07DB, 0x0047_97DB, 0x03F7_805B, 0x3020_0073];
+/// CJAL c0 to 16 instructions before.
+const JUMP_BACK: u32 = 0xFC1F_F06F;
+
+/// Registers 8 to 13 are kept for capabilities most of the time, 1 to 7 for integers.
+fn capability_register(random: &mut Random) -> u32 {
+    match random.below(6) {
+        0 => random.below(16),
+        _ => 8 + random.below(6),
+    }
+}
+
+fn integer_register(random: &mut Random) -> u32 {
+    match random.below(6) {
+        0 => random.below(14),
+        _ => random.below(8),
+    }
+}
+
+/// A word of a program: its registers chosen by what they are for, its offsets short.
+fn word(random: &mut Random, row: &Row) -> u32 {
+    let rd = if row.can(Outcome::Tagged) {
+        capability_register(random)
+    } else {
+        integer_register(random)
+    };
+    let rs1 = if row.aim == Aim::Compare {
+        integer_register(random)
+    } else {
+        capability_register(random)
+    };
+    let rs2 = match row.aim {
+        Aim::Store(8) | Aim::Seal | Aim::Unseal | Aim::Subset => capability_register(random),
+        _ => integer_register(random),
+    };
+    let immediate = match row.aim {
+        Aim::Load(_) | Aim::Store(_) => random.pick([0u32, 0, 8, 16, 4, 0xFFFF_FFF8, 1, 32]),
+        Aim::AddAddress => random.pick([8u32, 0xFFFF_FFF8, 4, 64, 1, 0]),
+        _ => any(random, row.form).immediate,
+    };
+    let immediate = match row.form {
+        Form::Branch | Form::Jump => short_offset(random),
+        _ => immediate,
+    };
+    encode(
+        row,
+        &Operands {
+            rd,
+            rs1,
+            rs2,
+            immediate,
+        },
+    )
+}
+
+/// A few instructions on or back.
+fn short_offset(random: &mut Random) -> u32 {
+    let distance = 4 * (1 + random.below(8));
+    match random.below(8) {
+        0..=3 => distance,
+        4..=6 => distance.wrapping_neg(),
+        _ => distance.wrapping_add(2),
+    }
+}
+
+/// A program and a run of it.
+pub fn make(table: &Table, random: &mut Random, case: &mut Case) {
+    let layout = layout(random);
+    let state = &mut case.state;
+    fill(random, layout, state);
+    fill_registers(random, layout, state);
+    write_program(table, random, layout, state);
+    for place in 8..14 {
+        if !random.one_in(4) {
+            let rights = rights(random);
+            let address = layout.inside(random, 8);
+            state.set(place, wide(random, layout, rights, address));
+        }
+    }
+    if !random.one_in(4) {
+        write_handler(random, layout, state);
+    }
+    case.call = Call::Run(steps(random));
+}
+
+fn layout(random: &mut Random) -> Layout {
+    let places = crate::cases::layout(random);
+    let size = match random.below(32) {
+        0 => 4096,
+        _ => 128 + 64 * random.below(12),
+    };
+    Layout {
+        start: places.start.min(0u32.wrapping_sub(size)),
+        size,
+    }
+}
+
+/// Instructions everywhere, with a few capabilities among them.
+fn write_program(table: &Table, random: &mut Random, layout: Layout, state: &mut State) {
+    for at in (0..layout.size).step_by(4) {
+        let row = table.pick(random);
+        let word = word(random, row);
+        state.write(layout.start.wrapping_add(at), &word.to_le_bytes());
+    }
+    state.tags.fill(0);
+    for _ in 0..layout.size / 64 {
+        let address = layout.inside(random, 8);
+        state.write_capability(address, register(random, layout));
+    }
+}
+
+/// The handler at the end of memory with a jump back before it, PCC and the special registers to
+/// match.
+fn write_handler(random: &mut Random, layout: Layout, state: &mut State) {
+    let end = layout.start.wrapping_add(layout.size);
+    let handler = end.wrapping_sub(16);
+    for (index, word) in HANDLER.iter().enumerate() {
+        state.write(handler.wrapping_add(4 * index as u32), &word.to_le_bytes());
+    }
+    state.write(handler.wrapping_sub(4), &JUMP_BACK.to_le_bytes());
+    let places = [(PCC, layout.start), (MTCC, handler), (MEPCC, layout.start)];
+    for (place, address) in places {
+        let mut value = wide(random, layout, Rights::Executable, address);
+        value.metadata |= 1 << 27;
+        state.set(place, value);
+    }
+    let data = wide(random, layout, Rights::ReadWrite, layout.start);
+    state.set(MTDC, data);
+}
+
+/// How many steps: mostly a few, sometimes thousands, and hardly ever as many as there may be.
+fn steps(random: &mut Random) -> u32 {
+    if random.one_in(8000) {
+        return STEP_LIMIT;
+    }
+    match random.below(32) {
+        0 | 1 => random.below(MOST_STEPS + 1),
+        2..=5 => random.below(2000),
+        6 => random.pick([0, 1, 2]),
+        _ => random.below(200),
+    }
+}
+
+#[cfg(test)]
+mod tests {
+    use super::*;
+    use second::decode::{decode, Instruction};
+
+    #[test]
+    fn the_handler_is_what_it_says() {
+        let shown: Vec<_> = HANDLER.iter().map(|&word| decode(word)).collect();
+        assert!(matches!(shown[0], Some(Instruction::CSpecialRw { .. })));
+        assert!(matches!(shown[1], Some(Instruction::Derive { .. })));
+        assert!(matches!(shown[2], Some(Instruction::CSpecialRw { .. })));
+        assert_eq!(shown[3], Some(Instruction::Mret));
+        let Some(Instruction::Cjal { offset, .. }) = decode(JUMP_BACK) else {
+            panic!("no jump");
+        };
+        assert_eq!(offset, 0u32.wrapping_sub(64));
+    }
+}

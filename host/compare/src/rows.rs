@@ -1,0 +1,156 @@
+//! What a row of the instruction table says: an encoding, how its operands are aimed, and
+//! everything that a step of it can do. The rows themselves are in instructions.rs.
+
+use crate::random::Random;
+
+/// What a step can do: a column of the coverage table.
+#[derive(Clone, Copy, PartialEq, Eq, Debug)]
+pub enum Outcome {
+    Retired,
+    /// A branch that went elsewhere than to the next instruction.
+    Taken,
+    /// Retired, and the capability written is tagged, or is not.
+    Tagged,
+    Untagged,
+    /// A trap with this mcause.
+    Trap(u32),
+    /// A capability trap with this cause in mtval.
+    Violation(u32),
+}
+
+/// Columns that a table of counts needs.
+pub const COLUMNS: usize = 68;
+
+impl Outcome {
+    /// The place of its count: four kinds of retiring, then 32 causes of each kind.
+    pub fn column(self) -> usize {
+        match self {
+            Outcome::Retired => 0,
+            Outcome::Taken => 1,
+            Outcome::Tagged => 2,
+            Outcome::Untagged => 3,
+            Outcome::Trap(cause) => 4 + (cause & 31) as usize,
+            Outcome::Violation(cause) => 36 + (cause & 31) as usize,
+        }
+    }
+}
+
+/// Which fields of a word are operands; the others are fixed.
+#[derive(Clone, Copy, PartialEq, Eq, Debug)]
+pub enum Form {
+    /// rd, rs1, rs2.
+    Register,
+    /// rd, rs1, twelve bits.
+    Immediate,
+    /// rd, rs1, five bits.
+    Shift,
+    /// rs1, rs2, twelve bits.
+    Store,
+    /// rs1, rs2, twelve bits of an even offset.
+    Branch,
+    /// rd, twenty upper bits.
+    Upper,
+    /// rd, twenty bits of an even offset.
+    Jump,
+    /// rd, rs1.
+    Single,
+    /// rd, and five bits that are a number where others name rs1.
+    Number,
+    /// The whole word is fixed.
+    Whole,
+    /// Every field but opcode and funct3 is ignored.
+    Ignored,
+}
+
+impl Form {
+    /// The fixed bits.
+    pub fn mask(self) -> u32 {
+        match self {
+            Form::Register | Form::Shift => 0xFE00_707F,
+            Form::Immediate | Form::Store | Form::Branch | Form::Ignored => 0x0000_707F,
+            Form::Upper | Form::Jump => 0x0000_007F,
+            Form::Single | Form::Number => 0xFFF0_707F,
+            Form::Whole => 0xFFFF_FFFF,
+        }
+    }
+
+    pub fn names_registers(self) -> bool {
+        !matches!(self, Form::Whole | Form::Ignored)
+    }
+}
+
+/// What the operands of a row are made to fit, most of the time.
+#[derive(Clone, Copy, PartialEq, Eq, Debug)]
+pub enum Aim {
+    Nothing,
+    Load(u32),
+    Store(u32),
+    Jump,
+    JumpRegister,
+    Special,
+    Seal,
+    Unseal,
+    Length,
+    Cut,
+    SetAddress,
+    AddAddress,
+    Narrow,
+    Subset,
+    Equal,
+    Compare,
+}
+
+/// One instruction.
+pub struct Row {
+    pub name: &'static str,
+    pub form: Form,
+    /// The value of the fixed bits.
+    pub bits: u32,
+    pub aim: Aim,
+    /// Everything that a step of it can do.
+    pub outcomes: Vec<Outcome>,
+}
+
+impl Row {
+    /// Whether a word is of this row, whatever registers it names.
+    pub fn fits(&self, word: u32) -> bool {
+        word & self.form.mask() == self.bits
+    }
+
+    pub fn can(&self, outcome: Outcome) -> bool {
+        self.outcomes.contains(&outcome)
+    }
+}
+
+/// Every instruction, and the classes: rows of one opcode with the same form and aim.
+pub struct Table {
+    pub rows: Vec<Row>,
+    classes: Vec<Vec<usize>>,
+}
+
+impl Table {
+    /// The table of these rows.
+    pub fn new(rows: Vec<Row>) -> Table {
+        let class = |row: &Row| (row.bits & 0x7F, row.form, row.aim);
+        let mut classes: Vec<Vec<usize>> = Vec::new();
+        for (index, row) in rows.iter().enumerate() {
+            let mut known = classes.iter_mut();
+            match known.find(|known| class(&rows[known[0]]) == class(row)) {
+                Some(known) => known.push(index),
+                None => classes.push(vec![index]),
+            }
+        }
+        Table { rows, classes }
+    }
+
+    /// A row: each class as often as another, and each row of a class.
+    pub fn pick(&self, random: &mut Random) -> &Row {
+        let class = &self.classes[random.below(self.classes.len() as u32) as usize];
+        &self.rows[class[random.below(class.len() as u32) as usize]]
+    }
+
+    /// The number of the row that a word is of.
+    pub fn find(&self, word: u32) -> Option<usize> {
+        self.rows.iter().position(|row| row.fits(word))
+    }
+}

@@ -1,0 +1,69 @@
+/* Oddersnow: the CHERIoT bench machine and its cutter, for C.
+ *
+ * Numbers and slices only. A slice is a pointer and a count of elements. Every function takes any
+ * numbers and any slices, answers by a number, and keeps nothing between calls; a slice may be empty, and
+ * slices of one call do not overlap. What each function answers is proved; "number" below is document
+ * 01's number of an answer, 0 where nothing is refused.
+ *
+ *   libraries: `rt staticlib label` has the first six functions (target/staticlib/liblabel.a),
+ *   `rt staticlib bench_api` the last two (target/staticlib/libbench_api.a).
+ */
+#ifndef ODDERSNOW_H
+#define ODDERSNOW_H
+
+#include <stddef.h>
+#include <stdint.h>
+
+#ifdef __cplusplus
+extern "C" {
+#endif
+
+/* The cut of the request [base, base + length): the least region that a capability can have and that
+ * contains the request. Refused, with number 6, exactly where base + length > 2^32: there is no region then,
+ * and the other three answer 0.
+ *
+ * low and high are the region's bounds, high up to 2^32. exact is 1 if the region is the request, else 0.
+ */
+uint32_t oddersnow_cut_number(uint32_t base, uint32_t length);
+uint32_t oddersnow_cut_low(uint32_t base, uint32_t length);
+uint64_t oddersnow_cut_high(uint32_t base, uint32_t length);
+uint32_t oddersnow_cut_exact(uint32_t base, uint32_t length);
+
+/* The bounds that a metadata word gives at an address; low is below 2^32 and high below 2^33. */
+uint32_t oddersnow_bounds_low(uint32_t address, uint32_t metadata);
+uint64_t oddersnow_bounds_high(uint32_t address, uint32_t metadata);
+
+/* One step of the machine, and a run of `steps` steps. What is lent:
+ *
+ *   regs     66 words: the capabilities c0 to c15, PCC, MTCC, MTDC, MScratchC and MEPCC, each as address,
+ *            metadata and tag (0 or 1), then mstatus, mcause and mtval
+ *   start    the address of mem[0], a multiple of 8
+ *   mem      64 to 65,536 bytes, a multiple of 64, ending at 2^32 at the most
+ *   tags     mem_len / 64 bytes: bit i % 8 of byte i / 8 is the tag of the 8 bytes from mem[8 * i] on
+ *   revoked  mem_len / 64 bytes, in the same order: the revocation bits, which nothing changes
+ *
+ * The answer is number * 2^48 + trapped * 2^24 + retired, with the counts of the steps that trapped and of
+ * those that retired; oddersnow_number and the two below take it apart. The number is
+ *
+ *   1  regs_len is not 66                   4  a tag word is not 0 or 1, or a word of c0 is not 0
+ *   2  start or mem_len breaks the limits   5  a run asks for more than 1,000,000 steps
+ *   3  tags_len or revoked_len is not mem_len / 64
+ *
+ * and the lowest wins. Where it is not 0, nothing is changed and both counts are 0.
+ */
+uint64_t oddersnow_step(uint32_t *regs, size_t regs_len, uint32_t start,
+                        uint8_t *mem, size_t mem_len, uint8_t *tags, size_t tags_len,
+                        const uint8_t *revoked, size_t revoked_len);
+uint64_t oddersnow_run(uint32_t *regs, size_t regs_len, uint32_t start,
+                       uint8_t *mem, size_t mem_len, uint8_t *tags, size_t tags_len,
+                       const uint8_t *revoked, size_t revoked_len, uint32_t steps);
+
+static inline uint32_t oddersnow_number(uint64_t answer) { return (uint32_t)(answer >> 48); }
+static inline uint32_t oddersnow_trapped(uint64_t answer) { return (uint32_t)(answer >> 24) & 0xffffff; }
+static inline uint32_t oddersnow_retired(uint64_t answer) { return (uint32_t)answer & 0xffffff; }
+
+#ifdef __cplusplus
+}
+#endif
+
+#endif
