@@ -1,5 +1,5 @@
-//! Links the proved static libraries. They are in the directory that ODDERSNOW_STATICLIB names, else where
-//! `rt staticlib` writes them.
+//! Links the proved static libraries. They are in the directory that ODDERSNOW_STATICLIB names,
+//! else where `rt staticlib` writes them.
 
 use std::env;
 use std::path::{absolute, PathBuf};

@@ -13,8 +13,5 @@ fn main() {
     println!("cargo::rerun-if-env-changed=ODDERSNOW_STATICLIB");
     // A library that is new or has changed is linked again.
     println!("cargo::rerun-if-changed={}", archive.display());
-    println!(
-        "cargo::rustc-link-arg-bin=published={}",
-        archive.display()
-    );
+    println!("cargo::rustc-link-arg-bin=published={}", archive.display());
 }

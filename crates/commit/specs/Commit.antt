@@ -67,7 +67,7 @@ withCsr regs rd old csr value = advanced (set (writeRegister regs rd (integer ol
 unfoldable pub stored : (mem : List ℕ) → (n i value : ℕ) → List ℕ
 stored mem n i value = cond (leb (i + n) (length mem)) (setBytes n mem i value) mem
 
--- the tag of the granule that they touch: "non-capability stores clear the tag"
+-- the tag of the granule that they touch: "non-capability stores (e.g. csw) clear the tag bits"
 unfoldable pub retagged : (mem tags : List ℕ) → (n i tag : ℕ) → List ℕ
 retagged mem tags n i tag = cond (leb (i + n) (length mem)) (putBit tags (i / granuleBytes) tag) tags
 

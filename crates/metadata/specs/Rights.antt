@@ -59,7 +59,7 @@ U0 = 11
 abbrev pub right : (k b : ℕ) → ℕ
 right k b = b * 2 ^ k
 
--- The rights of a code: those that it holds and those also granted. The six rows of the paper's table, in its order; the first three bits after GL name the row.
+-- The rights of a code: those that it holds and those also granted. The six rows of the paper's table, in its order; the bits after GL name the row.
 unfoldable pub rightsOf : (code : ℕ) → ℕ
 rightsOf c =
     right GL (bit c 5)

@@ -71,7 +71,7 @@ fn explained(asked: &Explain) -> Result<Status, String> {
         say_json(&json::explained(&state, trap.as_ref()))?;
     } else {
         let last = trap.map_or("No trap is recorded.\n".into(), |trap| {
-            report::trap(&trap, &state, &names)
+            report::recorded(&trap, &state, &names)
         });
         say(&format!("{last}\n{}", report::registers(&state)))?;
     }

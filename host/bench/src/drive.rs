@@ -1,5 +1,8 @@
-//! A run of any number of steps by calls of at most 1,000,000, up to the exact step that traps or from
-//! which on nothing changes.
+//! A run of any number of steps by calls of at most 1,000,000, up to the exact step that traps or
+//! from which on nothing changes.
+
+#[cfg(test)]
+mod tests;
 
 use crate::proved::{self, Counts, Refusal, MOST_STEPS};
 use crate::state::State;
@@ -21,7 +24,8 @@ pub struct Outcome {
     pub end: End,
 }
 
-/// What is asked of a run, and who is shown each call's counts, with the states before and after it.
+/// What is asked of a run, and who is shown each call's counts, with the states before and after
+/// it.
 pub struct Plan<'a> {
     pub steps: u64,
     pub through_traps: bool,
@@ -55,8 +59,8 @@ pub fn run(state: &mut State, plan: Plan) -> Result<Outcome, Refusal> {
     })
 }
 
-/// Whether a run stops at the latest after steps with these counts, which left this state. What stops a
-/// run stops every longer one, so that the first such step can be searched for by halves.
+/// Whether a run stops at the latest after steps with these counts, which left this state. What
+/// stops a run stops every longer one, so that the first such step can be searched for by halves.
 fn stops(state: &State, made: Counts, through_traps: bool) -> Result<bool, Refusal> {
     Ok((made.trapped > 0 && !through_traps) || is_still(state)?)
 }
@@ -68,7 +72,8 @@ fn is_still(state: &State) -> Result<bool, Refusal> {
     Ok(made.retired == 1 && next == *state)
 }
 
-/// Makes the steps up to and with the first one that stops the run, which is among the next `steps`.
+/// Makes the steps up to and with the first one that stops the run, which is among the next
+/// `steps`.
 fn first_stop(
     state: &mut State,
     mut steps: u64,

@@ -83,8 +83,8 @@ fn raw(bytes: Vec<u8>, address: u32) -> Image {
     }
 }
 
-/// Puts segments into a state's memory and clears the tags of the granules they touch. Nothing is put
-/// there unless all of them fit and no two overlap.
+/// Puts segments into a state's memory and clears the tags of the granules they touch. Nothing is
+/// put there unless all of them fit and no two overlap.
 pub fn load(state: &mut State, segments: &[Segment]) -> Result<(), String> {
     let memory_end = u64::from(state.start) + state.memory.len() as u64;
     for segment in segments {
@@ -92,7 +92,7 @@ pub fn load(state: &mut State, segments: &[Segment]) -> Result<(), String> {
             let (origin, place) = (&segment.origin, segment.shown());
             let start = state.start;
             return Err(format!(
-                "{origin} at {place} does not lie in memory, [{start:08x}, {memory_end:08x})"
+                "{origin} at {place}: not all inside memory, [{start:08x}, {memory_end:08x})"
             ));
         }
     }

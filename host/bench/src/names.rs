@@ -1,4 +1,5 @@
-//! Names of places in memory, for reports: the symbols of an ELF image and the regions of a map sheet.
+//! Names of places in memory, for reports: the symbols of an ELF image and the regions of a map
+//! sheet.
 
 /// A named stretch of memory.
 #[derive(Clone, PartialEq, Eq, Debug)]
@@ -12,7 +13,7 @@ pub struct Name {
 pub struct Names(pub Vec<Name>);
 
 impl Names {
-    /// The stretches that hold an address, as the end of a line: the name and how far into it.
+    /// The stretches that hold an address, as the end of a line: how far into which.
     pub fn place(&self, address: u32) -> String {
         let mut text = String::new();
         for Name {
@@ -25,7 +26,7 @@ impl Names {
                 continue;
             };
             if u64::from(offset) < *length {
-                text.push_str(&format!(", {name} + {offset}"));
+                text.push_str(&format!(", byte {offset} of {name}"));
             }
         }
         text

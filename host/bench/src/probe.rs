@@ -1,5 +1,8 @@
-//! Questions that the proved machine answers by executing one instruction on a scratch state: the rights
-//! and the type of a capability, and the address that an access or a jump asks for.
+//! Questions that the proved machine answers by executing one instruction on a scratch state: the
+//! rights and the type of a capability, and the address that an access or a jump asks for.
+
+#[cfg(test)]
+mod tests;
 
 use crate::proved;
 use crate::state::{Capability, State, EXECUTABLE_ROOT, MCAUSE, MEMORY_ROOT, MTVAL, PCC};
@@ -48,8 +51,8 @@ pub fn seal_type(metadata: u32) -> u32 {
     query(CGETTYPE, metadata)
 }
 
-/// The address that a load or store asks for, its authority at `address`. The same word is made a byte
-/// access through a root, where there is no memory: that traps with the address in mtval.
+/// The address that a load or store asks for, its authority at `address`. The same word is made a
+/// byte access through a root, where there is no memory: that traps with the address in mtval.
 pub fn access(word: u32, address: u32) -> Option<u32> {
     // An offset reaches 2,048 bytes, so half the address space away is far enough.
     let start = address.wrapping_add(1 << 31) & !63;

@@ -1,5 +1,6 @@
-//! The proved libraries: the machine's run (libbench_api.a), the cut and the bounds lookup (liblabel.a).
-//! Everything that the command says about the machine or about bounds comes through here.
+//! The proved libraries: the machine's run (libbench_api.a), the cut and the bounds lookup
+//! (liblabel.a). Everything that the command says about the machine or about bounds comes through
+//! here.
 
 use crate::state::State;
 
@@ -46,8 +47,8 @@ impl Refusal {
         match self.0 {
             1 => "the register file is not 66 words",
             2 => {
-                "the memory's start or size breaks the limits: the size is 64 to 65,536 bytes and a multiple \
-                 of 64, the start a multiple of 8, and the end at most 2^32"
+                "the memory's start or size breaks the limits: the size is 64 to 65,536 bytes and \
+                 a multiple of 64, the start a multiple of 8, and the end at most 2^32"
             }
             3 => "the tags or the revocation bits are not memory size / 64 bytes",
             4 => "a tag word is not 0 or 1, or a word of c0 is not 0",

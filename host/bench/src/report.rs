@@ -3,8 +3,10 @@
 use crate::capability_text::{count, grouped, is_integer, length, region, rights, type_words};
 use crate::drive::{End, Outcome};
 use crate::names::Names;
-use crate::state::{place_name, Capability, State, CAPABILITIES, MCAUSE, MSTATUS, MTVAL, PCC};
-use crate::trap::{Asked, Authority, Trap};
+use crate::state::{
+    place_name, Capability, State, CAPABILITIES, MCAUSE, MSTATUS, MTCC, MTVAL, PCC,
+};
+use crate::trap::{Action, Asked, Authority, Trap};
 use std::fmt::Write;
 
 /// Bytes on a line of memory.
@@ -23,7 +25,7 @@ pub fn counts(state: &State, outcome: &Outcome) -> String {
     format!("{retired} retired, {trapped} trapped. {end}\n")
 }
 
-/// A trap: where, the word, the cause, what was asked beside what was allowed, and what lies there.
+/// A trap: where, the word, the cause, what was asked beside its bounds, and what lies there.
 pub fn trap(trap: &Trap, state: &State, names: &Names) -> String {
     let mut text = format!("Trap: {}.\n\n", trap.cause);
     let place = names.place(trap.pcc.address);
@@ -35,7 +37,7 @@ pub fn trap(trap: &Trap, state: &State, names: &Names) -> String {
         text.push_str(&asked_line(asked, trap, names));
     }
     if let Some(authority) = &trap.authority {
-        text.push_str(&allowed_line(authority, trap.asked));
+        text.push_str(&authority_lines(authority, trap.asked));
     }
     let _ = writeln!(
         text,
@@ -48,29 +50,44 @@ pub fn trap(trap: &Trap, state: &State, names: &Names) -> String {
     text
 }
 
+/// The last trap that a state records, which the program may have left behind it.
+pub fn recorded(trap: &Trap, state: &State, names: &Names) -> String {
+    let handler = state.capability(MTCC).address & !3;
+    let gone_on = state.capability(PCC).address != handler;
+    let note = if gone_on {
+        "The program has gone on since its last trap, and may have written registers since.\n"
+    } else {
+        ""
+    };
+    format!("{note}{}", self::trap(trap, state, names))
+}
+
 fn asked_line(asked: Asked, trap: &Trap, names: &Names) -> String {
     let end = u64::from(asked.address) + u64::from(asked.size);
     let size = count(asked.size.into(), "byte");
-    let noun = trap.action.noun();
+    let what = match trap.action {
+        Action::Jump => "target of the jump".into(),
+        action => format!("{} of {size}", action.noun()),
+    };
     let place = names.place(asked.address);
     format!(
-        "  asked    [{:08x}, {end:08x}), {noun} of {size}{place}\n",
+        "  asked    [{:08x}, {end:08x}), {what}{place}\n",
         asked.address
     )
 }
 
-fn allowed_line(authority: &Authority, asked: Option<Asked>) -> String {
+/// The bounds of the authority beside the request, if there is one, and the rest of the authority.
+fn authority_lines(authority: &Authority, asked: Option<Asked>) -> String {
     let Authority {
         name,
         value,
         bounds,
     } = authority;
-    let side = asked.map_or(String::new(), |asked| distance(authority, asked));
-    let mut text = format!(
-        "  allowed  {}, {} by {name}{side}\n",
-        region(*bounds),
-        length(*bounds)
-    );
+    let (low_high, long) = (region(*bounds), length(*bounds));
+    let mut text = asked.map_or(String::new(), |asked| {
+        let side = distance(authority, asked);
+        format!("  bounds   {low_high}, {long} of {name}; the request {side}\n")
+    });
     let tag = if value.tag == 1 { "tagged" } else { "no tag" };
     let held = rights(value.metadata).join(" ");
     let held = if held.is_empty() {
@@ -81,7 +98,7 @@ fn allowed_line(authority: &Authority, asked: Option<Asked>) -> String {
     let kind = type_words(value.metadata);
     let _ = writeln!(
         text,
-        "  {name:<8} at {:08x}, {tag}, {held}, {kind}",
+        "  {name:<8} {:08x}, {tag}, {held}, {kind}",
         value.address
     );
     text
@@ -92,41 +109,35 @@ fn distance(authority: &Authority, asked: Asked) -> String {
     let (address, bounds) = (u64::from(asked.address), authority.bounds);
     let (low, end) = (u64::from(bounds.low), address + u64::from(asked.size));
     if address < low {
-        format!(
-            "; the request starts {} below",
-            count(low - address, "byte")
-        )
+        format!("starts {} below them", count(low - address, "byte"))
     } else if end > bounds.high {
-        format!(
-            "; the request ends {} past",
-            count(end - bounds.high, "byte")
-        )
+        format!("ends {} past them", count(end - bounds.high, "byte"))
     } else {
-        "; the request is inside".into()
+        "is inside them".into()
     }
 }
 
-/// The memory around a request, a line before and a line after it, with a mark below each byte asked for.
+/// The memory around a request, a line before and a line after it, with a mark below each byte
+/// asked for.
 fn memory_there(asked: Asked, state: &State) -> String {
     let first = u64::from(asked.address);
     let end = first + u64::from(asked.size);
-    let memory_end = u64::from(state.start) + state.memory.len() as u64;
     let mut text = String::from("\n  memory there\n");
-    let rows = (first / LINE).saturating_sub(1)..=(end - 1) / LINE + 1;
-    let rows: Vec<u64> = rows
-        .map(|row| row * LINE)
-        .filter(|row| (*row..row + LINE).any(|address| state.byte(address).is_some()))
-        .collect();
-    for row in &rows {
-        text.push_str(&memory_line(*row, state));
-        text.push_str(&marks(*row, first, end));
-    }
-    if rows.is_empty() {
+    if !(first..end).any(|address| state.byte(address).is_some()) {
+        let memory_end = u64::from(state.start) + state.memory.len() as u64;
         let _ = writeln!(
             text,
             "  none: memory is [{:08x}, {memory_end:08x})",
             state.start
         );
+        return text;
+    }
+    for row in (first / LINE).saturating_sub(1)..=(end - 1) / LINE + 1 {
+        let row = row * LINE;
+        if (row..row + LINE).any(|address| state.byte(address).is_some()) {
+            text.push_str(&memory_line(row, state));
+            text.push_str(&marks(row, first, end));
+        }
     }
     text
 }
@@ -162,8 +173,9 @@ fn marks(row: u64, first: u64, end: u64) -> String {
 
 /// The registers as one table.
 pub fn registers(state: &State) -> String {
-    let mut text =
-        String::from("  register   address   tag  bounds                 type        rights\n");
+    let mut text = String::from(
+        "  register   address   tag  bounds                 rights                type\n",
+    );
     for place in 0..CAPABILITIES {
         text.push_str(&register_line(&place_name(place), state.capability(place)));
     }
@@ -177,17 +189,13 @@ pub fn registers(state: &State) -> String {
 }
 
 fn register_line(name: &str, value: Capability) -> String {
+    let (address, tag) = (value.address, value.tag);
+    let start = format!("  {name:<10} {address:08x}  {tag}    ");
     if is_integer(value) {
-        let number = value.address as i32;
-        return format!(
-            "  {name:<10} {:08x}        integer {number}\n",
-            value.address
-        );
+        return format!("{start}integer {}\n", address as i32);
     }
     let bounds = region(value.bounds());
     let kind = type_words(value.metadata);
     let held = rights(value.metadata).join(" ");
-    let (address, tag) = (value.address, value.tag);
-    let line = format!("  {name:<10} {address:08x}   {tag}    {bounds:<22} {kind:<11} {held}");
-    format!("{}\n", line.trim_end())
+    format!("{start}{bounds:<22} {held:<21} {kind}\n")
 }

@@ -1,5 +1,5 @@
-//! Board map sheets, read for the names of regions: one region a line, its fields parted by single tabs,
-//! the word region, a name, start and length as eight hexadecimal digits, rights.
+//! Board map sheets, read for the names of regions: one region a line, its fields parted by single
+//! tabs, the word region, a name, start and length as eight hexadecimal digits, rights.
 
 use crate::names::Name;
 use std::path::Path;

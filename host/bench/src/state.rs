@@ -1,5 +1,5 @@
-//! The state that a run is lent (document 01, "What is lent"), and the state at reset (the CHERIoT report,
-//! 7.3, Table 7.2 and 7.13).
+//! The state that a run is lent (document 01, "What is lent"), and the state at reset (the CHERIoT
+//! report, 7.3, Table 7.2 and 7.13).
 
 use crate::proved::{bounds, Region};
 

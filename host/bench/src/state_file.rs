@@ -1,5 +1,9 @@
-//! State files, version 1: text that holds all that a run is lent, with a check word at its end. The
-//! format is docs/STATE.md's. A file is read only if writing what was read gives the same bytes.
+//! State files, version 1: text that holds all that a run is lent, with a check word at its end.
+//! The format is docs/STATE.md's. A file is read only if writing what was read gives the same
+//! bytes.
+
+#[cfg(test)]
+mod tests;
 
 use crate::state::{place_name, State, CAPABILITIES};
 use std::fmt::Write;

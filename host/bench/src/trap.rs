@@ -1,11 +1,12 @@
-//! A trap in words, from what the machine left: mcause, mtval, PCC and the registers, which a trap does
-//! not change (document 01, "Traps"; the CHERIoT report, Table 7.3).
+//! A trap in words, from what the machine left: mcause, mtval, PCC and the registers, which a trap
+//! does not change (document 01, "Traps"; the CHERIoT report, Table 7.3).
 
 use crate::probe;
 use crate::proved::Region;
 use crate::state::{place_name, Capability, State, MCAUSE, MEPCC, MTVAL, PCC};
 
-/// The name of PCC in mtval; a special register n is named by this plus n (the CHERIoT report, 7.11).
+/// The name of PCC in mtval; a special register n is named by this plus n (the CHERIoT report,
+/// 7.11).
 const PCC_NAME: u32 = 32;
 /// The special register with the lowest number, MTCC (the CHERIoT report, Table 7.2).
 const FIRST_SPECIAL: u32 = 28;
@@ -15,6 +16,13 @@ const CAPABILITY_CHECK: u32 = 28;
 // Capability causes (the CHERIoT report, Table 7.3).
 const BOUNDS: u32 = 1;
 const SYSTEM_REGISTERS: u32 = 24;
+
+// The opcodes of what asks for an address.
+const LOAD: u32 = 0x03;
+const STORE: u32 = 0x23;
+const BRANCH: u32 = 0x63;
+const CJALR: u32 = 0x67;
+const CJAL: u32 = 0x6F;
 
 /// What the step was doing when it trapped.
 #[derive(Clone, Copy, PartialEq, Eq, Debug)]
@@ -73,8 +81,8 @@ impl Trap {
         Trap::new(after, before.capability(PCC))
     }
 
-    /// The last trap that a state records, if it records one. MEPCC stands for the PCC of that time, and
-    /// the registers for what they were, unless the program has written them since.
+    /// The last trap that a state records, if it records one. MEPCC stands for the PCC of that
+    /// time, and the registers for what they were, unless the program has written them since.
     pub fn recorded(state: &State) -> Option<Trap> {
         let none = state.word(MCAUSE) == 0 && state.word(MTVAL) == 0;
         (!none).then(|| Trap::new(state, state.capability(MEPCC)))
@@ -83,8 +91,8 @@ impl Trap {
     fn new(after: &State, pcc: Capability) -> Trap {
         let (mcause, mtval) = (after.word(MCAUSE), after.word(MTVAL));
         let action = action(after, pcc, mcause, mtval);
-        let fetched = action != Action::Fetch;
-        let word = fetched.then(|| after.memory_word(pcc.address)).flatten();
+        let word = after.memory_word(pcc.address);
+        let word = word.filter(|_| action != Action::Fetch);
         let authority = authority(after, pcc, mcause, mtval, action, word);
         let mut trap = Trap {
             pcc,
@@ -109,22 +117,14 @@ impl Trap {
             (CAPABILITY_CHECK, Action::Load | Action::Store) => {
                 probe::access(self.word?, self.authority.as_ref()?.value.address)
             }
-            (CAPABILITY_CHECK, Action::Jump) => self.target(after),
+            (CAPABILITY_CHECK, Action::Jump) => target(after, self.pcc, self.word?),
             _ => None,
         }?;
         Some(Asked { address, size })
     }
 
-    /// The target of a jump that a capability check refused.
-    fn target(&self, after: &State) -> Option<u32> {
-        if self.mtval / 32 == PCC_NAME {
-            probe::relative_jump(after, self.pcc)
-        } else {
-            probe::register_jump(self.word?, self.authority.as_ref()?.value.address)
-        }
-    }
-
-    /// The bytes of the access: funct3 of a load or store holds the power of two, an instruction has 4.
+    /// The bytes of the access: funct3 of a load or store holds the power of two, an instruction
+    /// has 4.
     fn size(&self) -> u32 {
         match (self.action, self.word) {
             (Action::Load | Action::Store, Some(word)) => 1 << (word >> 12 & 3),
@@ -135,26 +135,41 @@ impl Trap {
 
 /// What the step was doing.
 fn action(after: &State, pcc: Capability, mcause: u32, mtval: u32) -> Action {
+    let word = after.memory_word(pcc.address).unwrap_or(0);
     match mcause {
+        0 if target(after, pcc, word) == Some(mtval) => Action::Jump,
         0 | 1 => Action::Fetch,
         4 | 5 => Action::Load,
         6 | 7 => Action::Store,
-        CAPABILITY_CHECK => checked_action(after, pcc, mtval),
+        CAPABILITY_CHECK => checked_action(pcc, word, mtval),
         _ => Action::Other,
     }
 }
 
+/// The target of the jump or branch at an aligned PCC.
+fn target(after: &State, pcc: Capability, word: u32) -> Option<u32> {
+    match (pcc.address % 4, word & 0x7F) {
+        (0, BRANCH | CJAL) => probe::relative_jump(after, pcc),
+        (0, CJALR) => probe::register_jump(word, after.capability(source(word)).address),
+        _ => None,
+    }
+}
+
+/// The register in the rs1 field.
+fn source(word: u32) -> usize {
+    (word >> 15 & 15) as usize
+}
+
 /// What a capability check refused. One of PCC is a fetch, unless the fetch was in bounds.
-fn checked_action(after: &State, pcc: Capability, mtval: u32) -> Action {
+fn checked_action(pcc: Capability, word: u32, mtval: u32) -> Action {
     let (name, cause) = (mtval / 32, mtval % 32);
-    let word = after.memory_word(pcc.address).unwrap_or(0);
     match (name, word & 0x7F) {
         _ if cause == SYSTEM_REGISTERS => Action::Other,
         (PCC_NAME, _) if cause == BOUNDS && holds(pcc.bounds(), pcc.address, 4) => Action::Jump,
         (PCC_NAME, _) => Action::Fetch,
-        (_, 0x03) => Action::Load,
-        (_, 0x23) => Action::Store,
-        (_, 0x67) => Action::Jump,
+        (_, LOAD) => Action::Load,
+        (_, STORE) => Action::Store,
+        (_, CJALR) => Action::Jump,
         _ => Action::Other,
     }
 }
@@ -178,20 +193,21 @@ fn authority(
         value,
         bounds: value.bounds(),
     };
-    let register = match (mcause, action) {
-        (CAPABILITY_CHECK, _) if mtval / 32 < 16 => mtval / 32,
-        (_, Action::Load | Action::Store) => word? >> 15 & 15,
+    let by_register = matches!(word, Some(word) if word & 0x7F == CJALR);
+    let place = match (mcause, action) {
+        (CAPABILITY_CHECK, _) if mtval / 32 < 16 => (mtval / 32) as usize,
+        (_, Action::Load | Action::Store) => source(word?),
+        (0, Action::Jump) if by_register => source(word?),
         (0 | 1 | CAPABILITY_CHECK, _) => return Some(named("PCC".into(), pcc)),
         _ => return None,
     };
-    let place = register as usize;
     Some(named(place_name(place), after.capability(place)))
 }
 
 /// The cause in words.
 fn cause(mcause: u32, mtval: u32, action: Action) -> String {
     match mcause {
-        0 => "instruction address that is not a multiple of 4".into(),
+        0 => format!("misaligned {}", action.noun()),
         1 => "fetch outside memory".into(),
         2 => "illegal instruction".into(),
         3 => "breakpoint (EBREAK)".into(),

@@ -2,12 +2,12 @@
 // standard input gives. The bench has the same link as its memory, up to `arena_end`; there
 // EBREAK stands at `returned`.
 //
-// A record is 48 words, in and out. In: the routine's address, x1 to x15, and the 32 words from
+// A record is 32 words, in and out. In: the routine's address, x1 to x15, and the 16 words from
 // the stack pointer on; x1 and x2 are not taken, x1 is the link and x2 the stack pointer. Out: where EBREAK
 // stopped the routine, or 0 if it returned; then x1 to x15 and the stack words as it left them.
 // RV32E has a system call's number in t0.
 
-    .equ WINDOW_BYTES, 128
+    .equ WINDOW_BYTES, 64
     .equ RECORD_BYTES, 64 + WINDOW_BYTES
     .equ RECORDS, 256
     .equ READ, 63
@@ -25,6 +25,7 @@
     .equ END, WINDOW_BYTES + 4      // the end of the last record read
     .equ SAVED, WINDOW_BYTES + 8    // x8 as the routine left it
     .equ STOPPED, WINDOW_BYTES + 12 // where EBREAK stopped the routine, or 0
+    .equ LEFT_SP, WINDOW_BYTES + 16 // the stack pointer as the routine left it
 
     .macro address rd, label
     lui   \rd, %hi(\label)
@@ -66,8 +67,7 @@ saved:
     .skip 128               // the repairing handler's registers
     .skip 1024              // the stack
 sp_start:
-    .skip WINDOW_BYTES
-    .skip 16
+    .skip WINDOW_BYTES + 20
 
     .section .driver, "ax"
     .globl _start
@@ -101,6 +101,7 @@ batch:
 enter:
     sw    x8, RECORD(sp)
     sw    x0, STOPPED(sp)
+    sw    sp, LEFT_SP(sp)
     addi  x5, x8, 64
     mv    x6, sp
     addi  x7, sp, WINDOW_BYTES
@@ -119,8 +120,9 @@ keep:
     sw    x8, SAVED(sp)
     lw    x8, RECORD(sp)
     sw    x1, 4(x8)
-    sw    x2, 8(x8)
     each  sw
+    lw    x9, LEFT_SP(sp)
+    sw    x9, 8(x8)
     lw    x9, SAVED(sp)
     sw    x9, 32(x8)
     lw    x9, STOPPED(sp)
@@ -154,12 +156,11 @@ finished:
     li    t0, EXIT
     ecall
 
-// SIGTRAP: a1 is the siginfo, a2 the context. The context's program counter is the word that is
-// the fault's address and has x1 after it, which is `returned` or in the routine.
+// SIGTRAP: a1 is the siginfo, a2 the context. The context has the program counter, which is the
+// fault's address, then x1, which leads into the bench's memory, then x2. The driver goes on at
+// `returned`, with its own stack pointer.
 trapped:
     lw    a3, 12(a1)
-    address a4, sp_start
-    sw    a3, STOPPED(a4)
     address a4, returned
 find:
     addi  a2, a2, 4
@@ -170,6 +171,11 @@ find:
     srli  t0, a4, 16
     bne   a5, t0, find
     sw    a4, 0(a2)
+    address a4, sp_start
+    lw    a5, 8(a2)
+    sw    a5, LEFT_SP(a4)
+    sw    a3, STOPPED(a4)
+    sw    a4, 8(a2)
     li    t0, SIGRETURN     // qemu's own return has the number in a7
     ecall
 

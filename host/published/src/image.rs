@@ -87,8 +87,7 @@ impl Image {
 
     /// The place of a symbol in the memory.
     fn offset(&self, name: &str) -> Result<usize, String> {
-        self.address(name)
-            .map(|address| (address - START) as usize)
+        self.address(name).map(|address| (address - START) as usize)
     }
 
     /// The word at an address of the memory.
@@ -101,7 +100,12 @@ impl Image {
 
 /// Bytes as little-endian words.
 pub fn words(bytes: &[u8]) -> Vec<u32> {
-    let word = |chunk: &[u8]| chunk.iter().rev().fold(0, |sum, &byte| sum << 8 | u32::from(byte));
+    let word = |chunk: &[u8]| {
+        chunk
+            .iter()
+            .rev()
+            .fold(0, |sum, &byte| sum << 8 | u32::from(byte))
+    };
     bytes.chunks(4).map(word).collect()
 }
 

@@ -32,15 +32,17 @@ pub fn tool(name: &str) -> Command {
 
 /// Runs a command: what it printed, or how it failed.
 pub fn run(command: &mut Command) -> Result<String, String> {
-    let named = |error| format!("{}: {error}", command.get_program().to_string_lossy());
-    let output = match command.output() {
-        Ok(output) => output,
-        Err(error) => return Err(named(error.to_string())),
-    };
+    let name = command.get_program().to_string_lossy().into_owned();
+    let output = command
+        .output()
+        .map_err(|error| format!("{name}: {error}"))?;
     if output.status.success() {
         Ok(String::from_utf8_lossy(&output.stdout).into_owned())
     } else {
-        Err(named(String::from_utf8_lossy(&output.stderr).into_owned()))
+        Err(format!(
+            "{name}: {}",
+            String::from_utf8_lossy(&output.stderr)
+        ))
     }
 }
 
@@ -60,9 +62,11 @@ pub fn assemble(source: &Path, object: &Path) -> Result<(), String> {
     run(&mut gcc).map(|_| ())
 }
 
-/// The global symbols that a file defines; of an archive, those of all its members.
+/// The symbols that a file defines, local ones too; of an archive, the global ones.
 pub fn symbols(file: &Path) -> Result<Symbols, String> {
-    let text = run(tool("nm").args(["-g", "--defined-only"]).arg(file))?;
+    let archive = file.extension().is_some_and(|end| end == "a");
+    let scope = if archive { "-g" } else { "-p" };
+    let text = run(tool("nm").args([scope, "--defined-only"]).arg(file))?;
     Ok(text.lines().filter_map(symbol).collect())
 }
 
@@ -85,11 +89,7 @@ pub fn section(file: &Path, name: &str) -> Result<Vec<u8>, String> {
 
 /// The archive of compiler routines for RV32E.
 pub fn libgcc() -> Result<PathBuf, String> {
-    let options = [
-        "-march=rv32e",
-        "-mabi=ilp32e",
-        "-print-libgcc-file-name",
-    ];
+    let options = ["-march=rv32e", "-mabi=ilp32e", "-print-libgcc-file-name"];
     run(tool("gcc").args(options)).map(|text| PathBuf::from(text.trim_end()))
 }
 

@@ -5,7 +5,7 @@ use crate::arguments::Run;
 use crate::drive::{self, End, Outcome, Plan};
 use crate::image::{self, Image};
 use crate::names::Names;
-use crate::proved::{Counts, Refusal, MOST_STEPS};
+use crate::proved::{self, Counts, Refusal, MOST_STEPS};
 use crate::state::State;
 use crate::trap::Trap;
 use crate::{json, report, sheet, state_file, trace, Status};
@@ -18,7 +18,12 @@ const DEFAULT_SIZE: u64 = 65_536;
 
 pub fn run(asked: Run) -> Result<Status, String> {
     let mut names = read_names(asked.map.as_deref())?;
-    let mut state = start_state(&asked, &mut names)?;
+    let (mut state, images) = start(&asked, &names)?;
+    if let Err(refusal) = proved::run(&mut state, 0) {
+        return refused(refusal, asked.json);
+    }
+    image::load(&mut state, &images.segments)?;
+    names.0.extend(images.names);
     match drive(&asked, &mut state) {
         Err(refusal) => refused(refusal, asked.json),
         Ok(outcome) => {
@@ -30,8 +35,8 @@ pub fn run(asked: Run) -> Result<Status, String> {
     }
 }
 
-/// The state to start from: a saved one or reset, with the images in its memory.
-fn start_state(asked: &Run, names: &mut Names) -> Result<State, String> {
+/// The state to start from, a saved one or reset, and the images that go into its memory.
+fn start(asked: &Run, names: &Names) -> Result<(State, Image), String> {
     let saved = asked.state.as_deref().map(read_state).transpose()?;
     let (map_start, map_size) = sheet::span(&names.0).unwrap_or((DEFAULT_START, DEFAULT_SIZE));
     let start = asked.start.unwrap_or(map_start);
@@ -43,18 +48,13 @@ fn start_state(asked: &Run, names: &mut Names) -> Result<State, String> {
         images.segments.extend(image.segments);
         images.names.extend(image.names);
     }
-    let mut state = match saved {
-        Some(state) => state,
-        None => {
-            let entry = asked.entry.or(images.entry).unwrap_or(start);
-            let size = usize::try_from(asked.size.unwrap_or(map_size));
-            let size = size.map_err(|_| "--size: too large for this computer")?;
-            State::reset(start, vec![0; size], entry)
-        }
-    };
-    image::load(&mut state, &images.segments)?;
-    names.0.extend(images.names);
-    Ok(state)
+    if let Some(state) = saved {
+        return Ok((state, images));
+    }
+    let entry = asked.entry.or(images.entry).unwrap_or(start);
+    let size = usize::try_from(asked.size.unwrap_or(map_size));
+    let size = size.map_err(|_| "--size: too large for this computer")?;
+    Ok((State::reset(start, vec![0; size], entry), images))
 }
 
 /// Runs, with a line a step or a bar of progress.
@@ -85,7 +85,7 @@ fn progress(asked: &Run) -> ProgressBar {
     if asked.trace || asked.steps <= MOST_STEPS {
         return ProgressBar::hidden();
     }
-    let form = "{elapsed_precise} {wide_bar} {pos} of {len} steps, {per_sec}";
+    let form = "{elapsed_precise} {wide_bar} {human_pos} of {human_len} steps, {eta} left";
     let style = ProgressStyle::with_template(form);
     let style = style.unwrap_or_else(|_| ProgressStyle::default_bar());
     ProgressBar::new(asked.steps).with_style(style)
@@ -129,7 +129,11 @@ fn conclude(
     } else {
         let mut text = report::counts(state, outcome);
         if let Some(trap) = &trap {
-            text.push_str(&report::trap(trap, state, names));
+            text.push('\n');
+            text.push_str(&match outcome.end {
+                End::Trap(_) => report::trap(trap, state, names),
+                _ => report::recorded(trap, state, names),
+            });
         }
         say(&format!("{text}\n{}", report::registers(state)))?;
     }

@@ -1,4 +1,5 @@
-//! ELF for 32-bit RISC-V: its loadable segments by their physical addresses, its entry, its symbols.
+//! ELF for 32-bit RISC-V: its loadable segments by their physical addresses, its entry, its
+//! symbols.
 
 use super::{Image, Segment};
 use crate::names::Name;
@@ -7,19 +8,28 @@ use object::elf::{EM_RISCV, ET_EXEC, PT_LOAD, STT_FUNC, STT_OBJECT};
 use object::read::elf::{FileHeader, ProgramHeader, Sym};
 use object::LittleEndian as Order;
 
+// The marks of the file's class and byte order.
+const CLASS_32: u8 = 1;
+const LITTLE_ENDIAN: u8 = 1;
+
+fn broken(error: object::Error) -> String {
+    format!("it is no whole ELF file: {error}")
+}
+
 /// The image of an ELF file, or what is wrong with it.
 pub fn read(bytes: &[u8]) -> Result<Image, String> {
-    let header = FileHeader32::<Order>::parse(bytes).map_err(|error| error.to_string())?;
-    let order = header.endian().map_err(|error| error.to_string())?;
+    if !matches!(bytes, [_, _, _, _, CLASS_32, LITTLE_ENDIAN, ..]) {
+        return Err("it is no ELF file of 32 bits with its low bytes first".into());
+    }
+    let header = FileHeader32::<Order>::parse(bytes).map_err(broken)?;
+    let order = header.endian().map_err(broken)?;
     if header.e_machine(order) != EM_RISCV {
         return Err("it is an ELF file for another processor, not RISC-V".into());
     }
     if header.e_type(order) != ET_EXEC {
         return Err("it is an ELF file that is not linked to run (its type is not EXEC)".into());
     }
-    let headers = header
-        .program_headers(order, bytes)
-        .map_err(|error| error.to_string())?;
+    let headers = header.program_headers(order, bytes).map_err(broken)?;
     let loaded = headers.iter().enumerate();
     let loaded = loaded.filter(|(_, header)| header.p_type(order) == PT_LOAD);
     let mut image = Image {

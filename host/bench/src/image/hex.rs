@@ -1,5 +1,8 @@
 //! Intel HEX: one record a line, each with its own sum.
 
+#[cfg(test)]
+mod tests;
+
 use super::{Image, Segment};
 use crate::state_file::pairs;
 

@@ -1,0 +1,79 @@
+-- A run is its single steps, one after another, and their answers counted. Document 01, "Answers". Assumes nothing.
+use mathlib.Core.Path.{_≡_, refl, sym, ap, _∙_}
+use mathlib.Core.Bool.{Bool, true, false, cond}
+use mathlib.Core.List.{List}
+use Prim.Native.Nat.{ℕ, zero, suc, _+_, _≤_}
+use native.Mathlib.Omega.{arith}
+use native.Mathlib.Nat.{add-assoc, zero-add}
+use lib.Dec.{eqb}
+use Rattle.commit.specs.Commit.{State, retires}
+use Rattle.execution.specs.Step.{effectAt, stepOf}
+use Rattle.machine.specs.Refusals.{refusalOf, runRefusal, mostSteps}
+use Rattle.machine.specs.Run.{stepAnswer, stepAfter, Ran, ran, oneMore, iterate, ranFrom, runAnswer, runAfter, stepRetired, stepTrapped}
+use Rattle.machine.specs.declared.StepAnswer.the-variants.{Retired, Trapped}
+use Rattle.machine.specs.declared.RunAnswer.the-variants as RunAnswer
+use Rattle.machine_laws.specs.Steps.{stepsAfter, retiredIn, trappedIn}
+use Rattle.machine_laws.proofs.Kept.{good-stays}
+use Rattle.machine_laws.proofs.Refusals.{not-too-many}
+
+module _ (start : ℕ) (revoked : List ℕ) where
+  -- a run of 0 steps changes nothing and counts nothing
+  pub run-none : (s : State) → iterate 0 start revoked (ran s 0 0) ≡ ran s 0 0
+  unfolding iterate
+  run-none s = refl
+
+  -- a run of m + n steps is one of m, and one of n from where that ends
+  pub run-split : (m n : ℕ) (r : Ran) → iterate (m + n) start revoked r ≡ iterate n start revoked (iterate m start revoked r)
+  unfolding iterate
+  run-split zero n r = let e : zero + n ≡ n = omega arith in rw e
+  run-split (suc m) n r = let e : suc m + n ≡ suc (m + n) = omega arith in rw e (run-split m n (oneMore start revoked r))
+
+  -- each step either retires or traps
+  pub run-counts : (n : ℕ) (r : Ran) → iterate n start revoked r .retired + iterate n start revoked r .trapped ≡ r .retired + r .trapped + n
+  unfolding iterate oneMore
+  run-counts zero r = omega arith
+  run-counts (suc n) r = run-counts n (oneMore start revoked r) ∙ one (retires (effectAt start revoked (r .at)))
+    where
+      one : (b : Bool) → r .retired + cond b 1 0 + (r .trapped + cond b 0 1) + n ≡ r .retired + r .trapped + suc n
+      one true = omega arith
+      one false = omega arith
+
+  module _ (s : State) (good : refusalOf start revoked s ≡ 0) where
+    step-good : stepAfter start revoked s ≡ stepOf start revoked s
+    unfolding stepAfter
+    step-good = rw good
+
+    answer-retired : stepRetired (stepAnswer start revoked s) ≡ cond (retires (effectAt start revoked s)) 1 0
+    unfolding stepAnswer
+    answer-retired = rw good (go (retires (effectAt start revoked s)))
+      where
+        go : (b : Bool) → stepRetired (cond b Retired Trapped) ≡ cond b 1 0
+        go true = refl
+        go false = refl
+
+    answer-trapped : stepTrapped (stepAnswer start revoked s) ≡ cond (retires (effectAt start revoked s)) 0 1
+    unfolding stepAnswer
+    answer-trapped = rw good (go (retires (effectAt start revoked s)))
+      where
+        go : (b : Bool) → stepTrapped (cond b Retired Trapped) ≡ cond b 0 1
+        go true = refl
+        go false = refl
+
+  -- buffers and counts after a run are those of its single steps
+  pub run-is-steps : (n : ℕ) (s : State) (r t : ℕ) → refusalOf start revoked s ≡ 0
+      → iterate n start revoked (ran s r t) ≡ ran (stepsAfter n start revoked s) (r + retiredIn n start revoked s) (t + trappedIn n start revoked s)
+  unfolding iterate stepsAfter retiredIn trappedIn oneMore
+  run-is-steps zero s r t h = let a : r + 0 ≡ r = omega arith in let b : t + 0 ≡ t = omega arith in rw (a, b)
+  run-is-steps (suc n) s r t h =
+      rw (step-good s h, answer-retired s h, answer-trapped s h)
+      (run-is-steps n (stepOf start revoked s) _ _ (good-stays start revoked s h) ∙ rw (add-assoc, add-assoc))
+
+  -- the public run leaves what n public steps leave, and answers how many of them retired and trapped
+  module _ (n : ℕ) (s : State) (good : refusalOf start revoked s ≡ 0) (few : n ≤ mostSteps) where
+    pub run-after : runAfter n start revoked s ≡ stepsAfter n start revoked s
+    unfolding runAfter
+    run-after = rw (not-too-many start revoked s good n few) (ap (λ (r : Ran). r .at) (run-is-steps n s 0 0 good))
+
+    pub run-answer : runAnswer n start revoked s ≡ RunAnswer.Ran (retiredIn n start revoked s) (trappedIn n start revoked s)
+    unfolding runAnswer
+    run-answer = rw (not-too-many start revoked s good n few) (ap (λ (r : Ran). RunAnswer.Ran (r .retired) (r .trapped)) (run-is-steps n s 0 0 good) ∙ simp zero-add)

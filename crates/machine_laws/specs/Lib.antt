@@ -1,0 +1,5 @@
+pub mod Lent
+pub mod Steps
+pub mod Memory
+pub mod Integers
+pub mod Cases

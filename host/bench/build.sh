@@ -1,0 +1,18 @@
+#!/usr/bin/env bash
+# Builds the bench command: the Debian crates where they are missing, the proved libraries by rt (or those
+# in the directory that ODDERSNOW_STATICLIB names), the command. It is then target/release/bench.
+set -eu
+cd "$(dirname "$0")"
+
+missing=()
+for crate in clap indicatif object serde_json; do
+  compgen -G "/usr/share/cargo/registry/$crate-[0-9]*" >/dev/null || missing+=("librust-${crate/_/-}-dev")
+done
+if [ ${#missing[@]} -gt 0 ]; then
+  apt-get -o DPkg::Lock::Timeout=300 update -qq
+  apt-get -o DPkg::Lock::Timeout=300 install -y -qq --no-install-recommends "${missing[@]}"
+fi
+if [ -z "${ODDERSNOW_STATICLIB:-}" ]; then
+  (cd ../.. && rt staticlib label && rt staticlib bench_api)
+fi
+cargo build --release

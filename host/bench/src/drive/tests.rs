@@ -1,0 +1,125 @@
+//! Runs in calls against runs step by step.
+
+use super::*;
+use crate::state::{MCAUSE, PCC};
+
+const EBREAK: u32 = 0x0010_0073;
+const JUMP_TO_ITSELF: u32 = 0x0000_006F;
+/// addi c10, c10, 1
+const COUNT: u32 = 0x0015_0513;
+/// bne c10, c11, -4
+const AGAIN: u32 = 0xFEB5_1EE3;
+
+/// A loop of `rounds` rounds of two steps, then a last word.
+fn counting(rounds: u32, last: u32) -> State {
+    let mut memory = vec![0; 64];
+    for (place, word) in [COUNT, AGAIN, last].into_iter().enumerate() {
+        memory[4 * place..4 * place + 4].copy_from_slice(&word.to_le_bytes());
+    }
+    let mut state = State::reset(0x2000_0000, memory, 0x2000_0000);
+    state.regs[3 * 11] = rounds;
+    state
+}
+
+fn plan(
+    steps: u64,
+    through_traps: bool,
+    watch: &mut dyn FnMut(&State, &State, Counts),
+) -> Plan<'_> {
+    Plan {
+        steps,
+        through_traps,
+        call: MOST_STEPS,
+        watch,
+    }
+}
+
+fn driven(state: &mut State, steps: u64, through_traps: bool) -> Outcome {
+    run(state, plan(steps, through_traps, &mut |_, _, _| {})).unwrap()
+}
+
+#[test]
+fn a_run_stops_at_the_exact_step_that_traps() {
+    for rounds in (1..70).chain([1_000, 499_999, 500_000, 700_001, 3_000_000]) {
+        let mut state = counting(rounds, EBREAK);
+        let outcome = driven(&mut state, u64::MAX, false);
+        let retired = 2 * u64::from(rounds);
+        assert_eq!(
+            outcome.counts,
+            Counts {
+                retired,
+                trapped: 1
+            }
+        );
+        let End::Trap(before) = outcome.end else {
+            panic!("no trap");
+        };
+        assert_eq!(before.capability(PCC).address, 0x2000_0008);
+        assert_eq!((before.word(MCAUSE), state.word(MCAUSE)), (0, 3));
+    }
+}
+
+#[test]
+fn a_run_ends_where_the_program_stands_still() {
+    for rounds in (1..70).chain([1_000, 600_000]) {
+        let mut state = counting(rounds, JUMP_TO_ITSELF);
+        let outcome = driven(&mut state, u64::MAX, false);
+        let retired = 2 * u64::from(rounds);
+        assert_eq!(
+            outcome.counts,
+            Counts {
+                retired,
+                trapped: 0
+            }
+        );
+        assert_eq!(outcome.end, End::Still);
+    }
+}
+
+#[test]
+fn a_run_makes_the_steps_asked_for_and_leaves_what_single_steps_leave() {
+    for steps in [0, 1, 2, 3, 63, 64, 1_000] {
+        let mut state = counting(1_000_000, EBREAK);
+        let mut single = state.clone();
+        let outcome = driven(&mut state, steps, false);
+        assert_eq!(outcome.counts.retired, steps);
+        assert_eq!(outcome.end, End::Steps);
+        for _ in 0..steps {
+            proved::run(&mut single, 1).unwrap();
+        }
+        assert_eq!(state, single);
+    }
+}
+
+#[test]
+fn a_run_through_traps_counts_them_all() {
+    let mut state = counting(10, EBREAK);
+    let outcome = driven(&mut state, 5_000, true);
+    let counts = Counts {
+        retired: 20,
+        trapped: 4_980,
+    };
+    assert_eq!(outcome.counts, counts);
+    assert_eq!(outcome.end, End::Steps);
+}
+
+#[test]
+fn the_watcher_sees_every_step() {
+    let mut state = counting(100, EBREAK);
+    let mut seen = 0;
+    let mut watch = |_: &State, _: &State, made: Counts| seen += made.retired + made.trapped;
+    let mut plan = plan(u64::MAX, false, &mut watch);
+    plan.call = 1;
+    run(&mut state, plan).unwrap();
+    assert_eq!(seen, 201);
+}
+
+#[test]
+fn a_refused_run_changes_nothing() {
+    let mut state = counting(100, EBREAK);
+    state.regs[2] = 1;
+    let before = state.clone();
+    let refused = run(&mut state, plan(100, false, &mut |_, _, _| {}));
+    assert_eq!(refused, Err(Refusal(4)));
+    assert_eq!(state, before);
+}

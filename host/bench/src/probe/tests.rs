@@ -1,0 +1,82 @@
+//! The probes against the second program.
+
+use super::*;
+use second::capability;
+use second::decode::{decode, Instruction};
+
+#[test]
+fn rights_and_types_of_every_code_are_the_second_programs() {
+    for upper in 0..1 << 10 {
+        let metadata = upper << 22 | 0x3E_0000;
+        assert_eq!(
+            rights(metadata),
+            capability::rights(metadata),
+            "{metadata:08x}"
+        );
+        assert_eq!(
+            seal_type(metadata),
+            capability::seal_type(metadata),
+            "{metadata:08x}"
+        );
+    }
+}
+
+/// Words of a fixed sequence.
+struct Sequence(u64);
+
+impl Sequence {
+    fn word(&mut self) -> u32 {
+        self.0 = self
+            .0
+            .wrapping_mul(6_364_136_223_846_793_005)
+            .wrapping_add(1);
+        (self.0 >> 32) as u32
+    }
+}
+
+#[test]
+fn the_address_asked_for_is_the_authoritys_plus_the_offset() {
+    let mut sequence = Sequence(1);
+    for _ in 0..20_000 {
+        let address = sequence.word();
+        let word = sequence.word() & !0x7F | [0x03, 0x23][(address & 1) as usize];
+        let offset = match decode(word) {
+            Some(Instruction::Load { offset, .. } | Instruction::Clc { offset, .. }) => offset,
+            Some(Instruction::Store { offset, .. } | Instruction::Csc { offset, .. }) => offset,
+            _ => continue,
+        };
+        assert_eq!(
+            access(word, address),
+            Some(address.wrapping_add(offset)),
+            "{word:08x}"
+        );
+    }
+}
+
+#[test]
+fn a_register_jumps_target_is_the_authoritys_plus_the_offset() {
+    let mut sequence = Sequence(2);
+    for _ in 0..20_000 {
+        let address = sequence.word() >> 1;
+        let word = sequence.word() & !0x707F | 0x67;
+        if let Some(Instruction::Cjalr { offset, .. }) = decode(word) {
+            let target = address.wrapping_add(offset) & !1;
+            assert_eq!(register_jump(word, address), Some(target), "{word:08x}");
+        }
+    }
+}
+
+#[test]
+fn a_relative_jumps_target_is_pccs_plus_the_offset() {
+    let mut sequence = Sequence(3);
+    for _ in 0..20_000 {
+        let address = 0x4000_0000;
+        let word = sequence.word() & !0x7F | 0x6F;
+        if let Some(Instruction::Cjal { offset, .. }) = decode(word) {
+            let state = scratch(address, word, Capability::tagged(0, 0));
+            let pcc = state.capability(PCC);
+            let target = address.wrapping_add(offset);
+            assert_eq!(relative_jump(&state, pcc), Some(target), "{word:08x}");
+        }
+    }
+}

@@ -1,0 +1,84 @@
+//! State files: what is written is read again, and damage is told.
+
+use super::*;
+
+fn sample() -> State {
+    let memory: Vec<u8> = (0..256u32).map(|place| (place * 7 % 31) as u8).collect();
+    let mut state = State::reset(0x2000_0000, memory, 0x2000_0040);
+    state.memory[64..128].fill(0);
+    state.tags[3] = 0x81;
+    state.revoked[0] = 0x10;
+    state.regs[65] = 0xFFFF_FFFF;
+    state
+}
+
+#[test]
+fn the_check_word_is_crc_32() {
+    assert_eq!(checksum(b"123456789"), 0xCBF4_3926);
+}
+
+#[test]
+fn what_is_written_is_read_again() {
+    let odd = |regs: usize, memory: usize, tags: usize| State {
+        regs: vec![5; regs],
+        start: 4,
+        memory: vec![9; memory],
+        tags: vec![1; tags],
+        revoked: Vec::new(),
+    };
+    let states = [
+        sample(),
+        odd(0, 0, 0),
+        odd(65, 33, 1),
+        odd(67, 1, 40),
+        odd(5, 31, 0),
+    ];
+    for state in states {
+        let text = write(&state);
+        assert_eq!(read(text.as_bytes()), Ok(state), "{text}");
+    }
+}
+
+#[test]
+fn every_changed_bit_and_every_cut_is_told() {
+    let text = write(&sample()).into_bytes();
+    for place in 0..text.len() {
+        for bit in 0..8 {
+            let mut damaged = text.clone();
+            damaged[place] ^= 1 << bit;
+            assert!(read(&damaged).is_err(), "byte {place}, bit {bit}");
+        }
+        assert!(read(&text[..place]).is_err(), "cut at {place}");
+    }
+}
+
+/// A text with a right check word.
+fn checked(body: &str) -> Vec<u8> {
+    format!("{body}check {:08x}\n", checksum(body.as_bytes())).into_bytes()
+}
+
+#[test]
+fn a_right_check_word_does_not_make_another_form_good() {
+    let text = write(&sample());
+    let body = &text[..text.rfind("check").unwrap()];
+    assert!(read(&checked(body)).is_ok());
+    for (old, new) in [
+        ("state 1", "state 2"),
+        ("start 2", "start  2"),
+        ("registers 66", "registers 066"),
+        ("registers 66", "registers 65"),
+        ("c1 ", "c2 "),
+        ("memory 256", "memory 255"),
+        ("memory 256", "memory 99999999999999999999"),
+        ("tags 4\n", "tags 4\n00000000 00\n"),
+        ("000000e0 ", "00000100 "),
+        ("ffffffff", "FFFFFFFF"),
+        ("mtval ffffffff", "mtval ffffffff 00000000"),
+        ("revoked 4\n", "revoked 4\n\n"),
+    ] {
+        assert!(body.contains(old), "{old}");
+        let changed = body.replacen(old, new, 1);
+        assert!(read(&checked(&changed)).is_err(), "{old} to {new}");
+    }
+    assert!(read(&checked(&format!("{body}more\n"))).is_err());
+}

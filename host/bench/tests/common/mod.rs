@@ -1,0 +1,70 @@
+//! What the tests of the command share: running it, golden files, state files and images.
+
+#![allow(dead_code)]
+
+pub mod state;
+pub mod words;
+
+use serde_json::Value;
+use std::path::{Path, PathBuf};
+use std::process::Command;
+
+/// What the command wrote, and its exit status.
+pub struct Answer {
+    pub status: i32,
+    pub out: String,
+    pub err: String,
+}
+
+impl Answer {
+    pub fn json(&self) -> Value {
+        serde_json::from_str(&self.out).expect("JSON on standard output")
+    }
+
+    /// All of it as one text, for a golden file.
+    pub fn text(&self) -> String {
+        format!("{}{}status {}\n", self.out, self.err, self.status)
+    }
+}
+
+/// Runs the command in a directory.
+pub fn bench_in(directory: &Path, arguments: &[&str]) -> Answer {
+    let output = Command::new(env!("CARGO_BIN_EXE_bench"))
+        .args(arguments)
+        .current_dir(directory)
+        .output()
+        .expect("the command runs");
+    Answer {
+        status: output.status.code().expect("the command ends by itself"),
+        out: String::from_utf8(output.stdout).expect("text"),
+        err: String::from_utf8(output.stderr).expect("text"),
+    }
+}
+
+/// An empty directory for a test.
+pub fn directory(name: &str) -> PathBuf {
+    let directory = Path::new(env!("CARGO_TARGET_TMPDIR")).join(name);
+    let _ = std::fs::remove_dir_all(&directory);
+    std::fs::create_dir_all(&directory).expect("a directory");
+    directory
+}
+
+/// Where the demonstration is.
+pub fn examples() -> PathBuf {
+    Path::new(env!("CARGO_MANIFEST_DIR")).join("../../examples")
+}
+
+/// Compares a text with its golden file; with BENCH_GOLDEN=write, writes it.
+pub fn golden(name: &str, text: &str) {
+    let golden = Path::new(env!("CARGO_MANIFEST_DIR")).join("tests/golden");
+    let path = golden.join(format!("{name}.txt"));
+    if std::env::var_os("BENCH_GOLDEN").is_some_and(|value| value == "write") {
+        std::fs::write(&path, text).expect("the golden file is written");
+    }
+    let expected = std::fs::read_to_string(&path).unwrap_or_default();
+    let differing = text.lines().zip(expected.lines()).find(|(a, b)| a != b);
+    assert!(
+        text == expected,
+        "{name} differs from its golden file: {differing:?}\n{text}"
+    );
+}

@@ -1,0 +1,88 @@
+//! Document 01's refusals, by number, with nothing saved.
+
+mod common;
+
+use common::state::State;
+use common::{bench_in, directory, golden};
+
+/// A state that is refused, by name.
+fn states() -> Vec<(&'static str, State)> {
+    let changed = |change: fn(&mut State)| {
+        let mut state = State::new(&[0x13]);
+        change(&mut state);
+        state
+    };
+    vec![
+        ("1, too few words", changed(|state| state.regs.truncate(65))),
+        ("2, start", changed(|state| state.start = 4)),
+        ("2, size", changed(|state| state.memory.truncate(100))),
+        ("2, end", changed(|state| state.start = 0xFFFF_FFF8)),
+        ("3, tags", changed(|state| state.tags.push(0))),
+        ("3, revocation bits", changed(|state| state.revoked.clear())),
+        ("4, tag word", changed(|state| state.regs[5] = 2)),
+        ("4, c0", changed(|state| state.regs[0] = 1)),
+        (
+            "lowest first",
+            changed(|state| {
+                state.regs[0] = 1;
+                state.tags.clear();
+            }),
+        ),
+    ]
+}
+
+#[test]
+fn a_refused_state_is_neither_run_nor_saved() {
+    let directory = directory("refused_states");
+    let mut text = String::new();
+    for (name, state) in states() {
+        std::fs::write(directory.join("start"), state.text()).unwrap();
+        let answer = bench_in(&directory, &["run", "--state", "start", "--save", "end"]);
+        assert_eq!((answer.status, answer.out.as_str()), (2, ""), "{name}");
+        assert!(!directory.join("end").exists(), "{name}");
+        assert_eq!(
+            bench_in(&directory, &["explain", "start"]).status,
+            2,
+            "{name}"
+        );
+        text.push_str(&format!("== {name}\n{}", answer.text()));
+    }
+    golden("refusals", &text);
+}
+
+#[test]
+fn a_refused_memory_is_said_before_the_image_is_placed() {
+    let directory = directory("refused_memory");
+    std::fs::write(directory.join("image"), [0x13, 0, 0, 0]).unwrap();
+    for bad in [
+        ["--size", "100"],
+        ["--size", "65600"],
+        ["--size", "0x100000000"],
+        ["--start", "4"],
+    ] {
+        let answer = bench_in(&directory, &["run", "image", bad[0], bad[1]]);
+        assert_eq!(answer.status, 2, "{bad:?}");
+        assert!(
+            answer.err.starts_with("bench: refused, number 2: "),
+            "{}",
+            answer.err
+        );
+    }
+}
+
+#[test]
+fn refusals_are_json_too() {
+    let directory = directory("refused_json");
+    let answer = bench_in(&directory, &["cut", "0xffffffff", "2", "--json"]);
+    assert_eq!(answer.status, 2);
+    assert_eq!(answer.json()["refused"]["number"], 6);
+}
+
+#[test]
+fn a_cut_past_the_end_is_refused() {
+    let directory = directory("refused_cut");
+    golden(
+        "refused_cut",
+        &bench_in(&directory, &["cut", "0xffffffff", "2"]).text(),
+    );
+}

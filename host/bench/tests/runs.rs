@@ -1,0 +1,229 @@
+//! Runs: the demonstration, saved states, JSON, the trace, cuts and capabilities.
+
+mod common;
+
+use common::state::{State, MEMORY, START};
+use common::words::{addi, cjal, store, EBREAK};
+use common::{bench_in, directory, examples, golden};
+use serde_json::json;
+
+const SMALL: [&str; 5] = [
+    "run",
+    "--map",
+    "interlock_small.map",
+    "interlock_small.hex",
+    "interlock_image.hex",
+];
+const LARGE: [&str; 5] = [
+    "run",
+    "--map",
+    "interlock_large.map",
+    "interlock_large.hex",
+    "interlock_image.hex",
+];
+
+#[test]
+fn the_demonstration_stops_on_the_small_board() {
+    golden("demonstration_small", &bench_in(&examples(), &SMALL).text());
+}
+
+#[test]
+fn the_demonstration_ends_on_the_large_board() {
+    golden("demonstration_large", &bench_in(&examples(), &LARGE).text());
+}
+
+#[test]
+fn the_demonstration_as_json() {
+    let answer = bench_in(&examples(), &[&SMALL[..], &["--json"]].concat());
+    let value = answer.json();
+    assert_eq!(answer.status, 1);
+    assert_eq!(
+        (&value["retired"], &value["trapped"]),
+        (&json!(364), &json!(1))
+    );
+    assert_eq!(value["end"], "trap");
+    let trap = &value["trap"];
+    assert_eq!(trap["cause"], "store outside the bounds of c2");
+    assert_eq!(trap["at"], 0x2000_010Cu32);
+    assert_eq!(trap["word"], 0xFE11_3C23u32);
+    assert_eq!(
+        trap["asked"],
+        json!({ "address": 0x2000_0478u32, "size": 8 })
+    );
+    let bounds = json!({ "low": 0x2000_0480u32, "high": 0x2000_0800u32 });
+    assert_eq!(trap["authority"]["bounds"], bounds);
+    assert_eq!(trap["authority"]["name"], "c2");
+    assert_eq!(
+        value["state"]["registers"].as_array().map(Vec::len),
+        Some(21)
+    );
+    let large = bench_in(&examples(), &[&LARGE[..], &["--json"]].concat());
+    assert_eq!((large.status, &large.json()["end"]), (0, &json!("still")));
+    assert_eq!(large.json()["trap"], json!(null));
+}
+
+#[test]
+fn a_run_in_two_parts_leaves_the_state_of_one_run() {
+    let directory = directory("parts");
+    let path = |name: &str| directory.join(name).display().to_string();
+    let (whole, part, end) = (path("whole"), path("part"), path("end"));
+    bench_in(&examples(), &[&SMALL[..], &["--save", &whole]].concat());
+    for steps in ["0", "1", "100", "364"] {
+        let first = [&SMALL[..], &["--steps", steps, "--save", &part]].concat();
+        assert_eq!(bench_in(&examples(), &first).status, 0);
+        let rest = bench_in(&examples(), &["run", "--state", &part, "--save", &end]);
+        assert_eq!(rest.status, 1);
+        let [one, two] = [&whole, &end].map(|path| std::fs::read(path).unwrap());
+        assert_eq!(one, two, "{steps} steps first");
+    }
+    let none = ["run", "--state", &whole, "--steps", "0", "--save", &end];
+    assert_eq!(bench_in(&directory, &none).status, 0);
+    assert_eq!(std::fs::read(&whole).unwrap(), std::fs::read(&end).unwrap());
+}
+
+#[test]
+fn the_test_writer_of_states_is_the_commands() {
+    let directory = directory("writers");
+    let text = State::new(&[addi(1, 0, 1)]).text();
+    std::fs::write(directory.join("start"), &text).unwrap();
+    let same = ["run", "--state", "start", "--steps", "0", "--save", "end"];
+    assert_eq!(bench_in(&directory, &same).status, 0);
+    assert_eq!(
+        std::fs::read_to_string(directory.join("end")).unwrap(),
+        text
+    );
+}
+
+#[test]
+fn damaged_states_are_refused() {
+    let directory = directory("damaged");
+    let text = State::new(&[addi(1, 0, 1)]).text();
+    let mut said = String::new();
+    for (name, damaged) in [
+        ("a digit", text.replacen("5e3e0000", "5e3e0001", 1)),
+        ("cut short", text[..200].into()),
+        ("another version", text.replacen("state 1", "state 2", 1)),
+        ("empty", String::new()),
+    ] {
+        std::fs::write(directory.join("start"), damaged).unwrap();
+        let answer = bench_in(&directory, &["run", "--state", "start", "--save", "end"]);
+        assert_eq!((answer.status, answer.out.as_str()), (3, ""), "{name}");
+        assert!(!directory.join("end").exists());
+        said.push_str(&format!("== {name}\n{}", answer.text()));
+    }
+    golden("damaged_states", &said);
+}
+
+#[test]
+fn an_image_over_a_saved_state_clears_the_tags_it_covers() {
+    let directory = directory("over");
+    let mut state = State::new(&[]);
+    state.tags = vec![0xFF; 4];
+    std::fs::write(directory.join("start"), state.text()).unwrap();
+    std::fs::write(directory.join("image"), [0x13; 12]).unwrap();
+    let over = [
+        "run", "image", "--state", "start", "--steps", "0", "--save", "end",
+    ];
+    assert_eq!(bench_in(&directory, &over).status, 0);
+    let saved = std::fs::read_to_string(directory.join("end")).unwrap();
+    assert!(saved.contains("tags 4\n00000000 fcffffff\n"), "{saved}");
+}
+
+/// A state whose program counts, stores c3, jumps over a word and stops.
+fn traced() -> State {
+    let mut state = State::new(&[
+        addi(10, 0, 7),
+        store(3, 8),
+        cjal(8),
+        0,
+        store(2, 12),
+        EBREAK,
+    ]);
+    state.set(2, START + 0x40, MEMORY, 1);
+    state.set(3, START + 0x80, MEMORY, 1);
+    state
+}
+
+#[test]
+fn the_trace_has_a_line_a_step() {
+    let directory = directory("trace");
+    std::fs::write(directory.join("start"), traced().text()).unwrap();
+    let answer = bench_in(&directory, &["run", "--state", "start", "--trace"]);
+    golden("trace", &answer.text());
+    let json = bench_in(
+        &directory,
+        &["run", "--state", "start", "--trace", "--json"],
+    );
+    assert_eq!(json.json()["retired"], 4);
+    assert_eq!(json.err.lines().count(), 5);
+    assert!(answer.out.starts_with(&json.err));
+}
+
+#[test]
+fn through_traps_goes_on_at_mtcc() {
+    let directory = directory("through");
+    let mut state = traced();
+    state.set(17, START + 8, 0x5E3E_0000, 1);
+    std::fs::write(directory.join("start"), state.text()).unwrap();
+    let through = [
+        "run",
+        "--state",
+        "start",
+        "--through-traps",
+        "--steps",
+        "1000",
+        "--json",
+    ];
+    let answer = bench_in(&directory, &through);
+    let value = answer.json();
+    assert_eq!((answer.status, &value["end"]), (1, &json!("steps")));
+    assert_eq!(
+        (&value["retired"], &value["trapped"]),
+        (&json!(668), &json!(332))
+    );
+}
+
+#[test]
+fn a_long_run_is_made_in_calls() {
+    let directory = directory("long");
+    let back = addi(10, 10, 1);
+    let jump = 0xFFDF_F06Fu32;
+    let image: Vec<u8> = [back, jump]
+        .iter()
+        .flat_map(|word| word.to_le_bytes())
+        .collect();
+    std::fs::write(directory.join("image"), image).unwrap();
+    let answer = bench_in(
+        &directory,
+        &["run", "image", "--steps", "5000001", "--json"],
+    );
+    let value = answer.json();
+    assert_eq!((answer.status, &value["end"]), (0, &json!("steps")));
+    assert_eq!(value["retired"], 5_000_001);
+    assert_eq!(value["state"]["registers"][10]["address"], 2_500_001);
+    assert_eq!(answer.err, "", "no bar where standard error is no terminal");
+}
+
+#[test]
+fn cuts_and_capabilities_are_the_papers() {
+    let directory = directory("cuts");
+    let mut text = String::new();
+    for arguments in [
+        &["cut", "0x20000001", "511"][..],
+        &["cut", "0x20000001", "512"],
+        &["cut", "0x20000001", "1022"],
+        &["cut", "0x20000000", "8372225"],
+        &["cut", "0x20000000", "0"],
+        &["cut", "0", "0xffffffff", "--json"],
+        &["cap", "0", "0x7e3e0000"],
+        &["cap", "0", "0x5e3e0000"],
+        &["cap", "0", "0x4e3e0000"],
+        &["cap", "0x20000480", "0x56840080"],
+        &["cap", "0x20000480", "0x7e040040", "--json"],
+        &["cap", "5", "0"],
+    ] {
+        let answer = bench_in(&directory, arguments);
+        text.push_str(&format!("== {}\n{}", arguments.join(" "), answer.text()));
+    }
+    golden("cuts_and_capabilities", &text);
+}

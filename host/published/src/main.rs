@@ -1,0 +1,27 @@
+//! Runs one part against the proved machine (`rt staticlib bench_api`): `published PART`.
+
+#[path = "../../compare/src/bin/machine/proved.rs"]
+mod proved;
+
+use compare::conclude;
+use compare::machines::Machine;
+use published::{decoding, instructions, programs, routines};
+use std::process::ExitCode;
+
+type Part = fn(Machine) -> Result<String, String>;
+
+const PARTS: [(&str, Part); 4] = [
+    ("routines", routines::run),
+    ("instructions", instructions::run),
+    ("decoding", decoding::run),
+    ("programs", programs::run),
+];
+
+fn main() -> ExitCode {
+    let named = std::env::args().nth(1).unwrap_or_default();
+    let part = PARTS.iter().find(|(name, _)| *name == named);
+    conclude(match part {
+        Some((_, part)) => part(proved::machine),
+        None => Err(format!("no part {named:?}")),
+    })
+}

@@ -1,0 +1,230 @@
+//! Capability programs of our own (tests/programs), assembled by Debian's assembler and run on both
+//! machines: in one run and step by step, with the state compared after every step, and the end
+//! compared with what the program's comments derive from the papers.
+
+use crate::bench::{EXECUTABLE_ROOT, MEMORY_ROOT};
+use crate::image::START;
+use crate::script::{lines, Line, Place};
+use crate::tools::{self, Symbols};
+use compare::machines::{second, shown, Machine};
+use compare::state::{Call, State, MEPCC, MSCRATCHC, MTCC, MTDC, PCC, WORDS};
+use second::Capability;
+use std::fs;
+use std::path::{Path, PathBuf};
+
+const SEALING_ROOT: u32 = 0x4E3E_0000;
+const SIZE: u32 = 4096;
+/// The fewest programs and expectations, so that none goes unnoticed.
+const FEWEST: (usize, usize) = (11, 150);
+
+/// A program's state on both machines, and the counts of its last run.
+struct Running {
+    machine: Machine,
+    ours: State,
+    theirs: State,
+    retired: u32,
+    trapped: u32,
+}
+
+impl Running {
+    /// The state at reset (report, Table 7.2 and 7.13.1): the special registers and PCC hold the
+    /// roots, the general registers are NULL. PCC's address is the start of memory.
+    fn new(machine: Machine, start: u32, mut memory: Vec<u8>, size: u32) -> Running {
+        memory.resize(size as usize, 0);
+        let granules = memory.len() / 64;
+        let mut state = State {
+            regs: vec![0; WORDS],
+            start,
+            mem: memory,
+            tags: vec![0; granules],
+            revoked: vec![0; granules],
+        };
+        let roots = [
+            (PCC, start, EXECUTABLE_ROOT),
+            (MTCC, 0, EXECUTABLE_ROOT),
+            (MTDC, 0, MEMORY_ROOT),
+            (MSCRATCHC, 0, SEALING_ROOT),
+            (MEPCC, 0, EXECUTABLE_ROOT),
+        ];
+        for (place, address, metadata) in roots {
+            state.set(place, capability(&[address, metadata, 1]));
+        }
+        Running {
+            machine,
+            theirs: state.clone(),
+            ours: state,
+            retired: 0,
+            trapped: 0,
+        }
+    }
+
+    /// Does a line; whether it was an expectation.
+    fn line(&mut self, line: &Line) -> Result<bool, String> {
+        match line {
+            Line::Memory(..) => {}
+            Line::Lend(place, values) => {
+                lend(&mut self.ours, place, values)?;
+                lend(&mut self.theirs, place, values)?;
+            }
+            Line::Revoke(first, end) => {
+                for granule in (*first..*end).step_by(8) {
+                    revoke(&mut self.ours, granule);
+                    revoke(&mut self.theirs, granule);
+                }
+            }
+            Line::Run(steps) => self.run(*steps)?,
+            Line::Expect(place, values) => {
+                let found = self.found(place)?;
+                if found != *values {
+                    return Err(format!("{place:x?} is {found:x?}, expected {values:x?}"));
+                }
+                return Ok(true);
+            }
+        }
+        Ok(false)
+    }
+
+    /// Runs both machines, at once and step by step.
+    fn run(&mut self, steps: u32) -> Result<(), String> {
+        let (mut ours, mut theirs) = (self.ours.clone(), self.theirs.clone());
+        let mut counts = 0;
+        for step in 1..=steps {
+            let answers = (
+                (self.machine)(&mut ours, Call::Step),
+                second(&mut theirs, Call::Step),
+            );
+            if answers.0 != answers.1 || ours != theirs {
+                let (left, right) = (shown(answers.0), shown(answers.1));
+                return Err(format!("step {step}: ours {left}, second {right}"));
+            }
+            counts += answers.0;
+        }
+        let answer = (self.machine)(&mut self.ours, Call::Run(steps));
+        let their_answer = second(&mut self.theirs, Call::Run(steps));
+        if answer != counts || their_answer != counts {
+            let shown = [counts, answer, their_answer].map(shown);
+            return Err(format!("{steps} steps and a run differ: {shown:?}"));
+        }
+        if self.ours != ours || self.theirs != ours {
+            return Err(format!("{steps} steps and a run leave different states"));
+        }
+        self.retired = answer as u32 & 0xFF_FFFF;
+        self.trapped = (answer >> 24) as u32 & 0xFF_FFFF;
+        Ok(())
+    }
+
+    /// What a place holds.
+    fn found(&self, place: &Place) -> Result<Vec<u32>, String> {
+        let state = &self.ours;
+        let three = |at| {
+            let found: Capability = state.capability(at);
+            vec![found.address, found.metadata, found.tag]
+        };
+        match *place {
+            Place::Capability(at) => Ok(three(at)),
+            Place::Integer(at) => match three(at)[..] {
+                [value, 0, 0] => Ok(vec![value]),
+                _ => Err(format!("c{at} is no integer: {:x?}", three(at))),
+            },
+            Place::Control(at) => Ok(vec![state.regs[at]]),
+            Place::Word(at) => Ok(state.word(at).into_iter().collect()),
+            Place::Stored(at) => {
+                let offset = state.offset(at, 8).ok_or(format!("{at:x}: no memory"))?;
+                let tag = state.tags[offset / 64] >> (offset / 8 % 8) & 1;
+                let words = [state.word(at), state.word(at + 4), Some(tag.into())];
+                Ok(words.into_iter().flatten().collect())
+            }
+            Place::Retired => Ok(vec![self.retired]),
+            Place::Trapped => Ok(vec![self.trapped]),
+        }
+    }
+}
+
+fn capability(words: &[u32]) -> Capability {
+    match *words {
+        [address, metadata, tag] => Capability {
+            address,
+            metadata,
+            tag,
+        },
+        _ => second::capability::NULL,
+    }
+}
+
+/// Lends a value at a place.
+fn lend(state: &mut State, place: &Place, values: &[u32]) -> Result<(), String> {
+    match *place {
+        Place::Capability(at) => state.set(at, capability(values)),
+        Place::Integer(at) => state.set(at, capability(&[values[0], 0, 0])),
+        Place::Control(at) => state.regs[at] = values[0],
+        Place::Word(at) => state.write(at, &values[0].to_le_bytes()),
+        _ => return Err(format!("{place:?} is not lent")),
+    }
+    Ok(())
+}
+
+/// Sets the revocation bit of a granule.
+fn revoke(state: &mut State, address: u32) {
+    if let Some(offset) = state.offset(address, 8) {
+        state.revoked[offset / 64] |= 1 << (offset / 8 % 8);
+    }
+}
+
+/// The memory that a source asks for, before there are labels.
+fn memory(source: &str) -> Result<(u32, u32), String> {
+    let line = source.lines().find(|line| line.starts_with("// memory: "));
+    match line.map(|line| lines(line, &Symbols::new())).transpose()? {
+        Some(found) => match found[..] {
+            [(_, Line::Memory(start, size))] => Ok((start, size)),
+            _ => Err("no memory".to_string()),
+        },
+        None => Ok((START, SIZE)),
+    }
+}
+
+/// Assembles, links and runs a program; how many expectations it met.
+fn program(machine: Machine, place: &Path, source: &Path) -> Result<usize, String> {
+    let text = String::from_utf8_lossy(&tools::read(source)?).into_owned();
+    let (start, size) = memory(&text)?;
+    let named = place.join(source.file_name().unwrap_or_default());
+    let (object, linked) = (named.with_extension("o"), named.with_extension("elf"));
+    tools::assemble(source, &object)?;
+    let mut ld = tools::tool("ld");
+    ld.args(["-m", "elf32lriscv", "--no-relax", "-e", "0"]);
+    ld.arg(format!("-Ttext={start:#x}")).arg(&object);
+    tools::run(ld.arg("-o").arg(&linked))?;
+    let image = tools::section(&linked, ".text")?;
+    let mut running = Running::new(machine, start, image, size);
+    let mut met = 0;
+    for (number, line) in lines(&text, &tools::symbols(&linked)?)? {
+        let expected = running.line(&line);
+        met += usize::from(expected.map_err(|error| format!("line {number}: {error}"))?);
+    }
+    Ok(met)
+}
+
+/// Runs every program.
+pub fn run(machine: Machine) -> Result<String, String> {
+    let place = tools::workplace("programs")?;
+    let listed = fs::read_dir(tools::programs()).map_err(|error| error.to_string())?;
+    let paths = listed.filter_map(|entry| Some(entry.ok()?.path()));
+    let mut sources: Vec<PathBuf> = paths
+        .filter(|path| path.extension().is_some_and(|end| end == "S"))
+        .collect();
+    sources.sort();
+    let (mut expectations, mut report) = (0, String::new());
+    for source in &sources {
+        let name = source.file_stem().unwrap_or_default().to_string_lossy();
+        let met = program(machine, &place, source).map_err(|text| format!("{name}: {text}"))?;
+        expectations += met;
+        report.push_str(&format!("{name}: {met}\n"));
+    }
+    let totals = format!(
+        "{report}{} programs, {expectations} expectations",
+        sources.len()
+    );
+    if (sources.len(), expectations) < FEWEST || expectations < FEWEST.1 {
+        return Err(format!("{totals}: fewer than there were"));
+    }
+    Ok(totals)
+}

@@ -1,0 +1,89 @@
+//! Three endless programs, as instruction words: integer work, memory work, capability work.
+
+/// Where memory starts, and its size.
+pub const START: u32 = 0x2000_0000;
+pub const SIZE: usize = 4096;
+
+/// The executable root and the memory root (document 01, "Cases"), which cover the whole address space.
+const EXECUTABLE: u32 = 0x5E3E_0000;
+const MEMORY: u32 = 0x7E3E_0000;
+
+/// What is lent to a run.
+pub struct Lent {
+    pub regs: [u32; 66],
+    pub mem: Vec<u8>,
+    pub tags: Vec<u8>,
+    pub revoked: Vec<u8>,
+}
+
+fn i_type(imm: u32, rs1: u32, funct3: u32, rd: u32, opcode: u32) -> u32 {
+    imm << 20 | rs1 << 15 | funct3 << 12 | rd << 7 | opcode
+}
+
+fn r_type(funct7: u32, rs2: u32, rs1: u32, funct3: u32, rd: u32, opcode: u32) -> u32 {
+    funct7 << 25 | rs2 << 20 | rs1 << 15 | funct3 << 12 | rd << 7 | opcode
+}
+
+/// SW or CSC at offset 0.
+fn s_type(rs2: u32, rs1: u32, funct3: u32) -> u32 {
+    rs2 << 20 | rs1 << 15 | funct3 << 12 | 0x23
+}
+
+/// A jump 16 bytes back: CJAL c0, -16.
+const BACK: u32 = 0xFF1F_F06F;
+
+/// The words of a program's loop.
+fn words(name: &str) -> Option<[u32; 5]> {
+    let loop_words = match name {
+        // addi c1, c1, 1; xor c2, c2, c1; add c3, c1, c2; sra c4, c3, c2
+        "integer" => [
+            i_type(1, 1, 0, 1, 0x13),
+            r_type(0, 1, 2, 4, 2, 0x33),
+            r_type(0, 2, 1, 0, 3, 0x33),
+            r_type(0x20, 2, 3, 5, 4, 0x33),
+            BACK,
+        ],
+        // lw c1, 0(c5); addi c1, c1, 1; sw c1, 0(c5); lb c6, 4(c5)
+        "memory" => [
+            i_type(0, 5, 2, 1, 0x03),
+            i_type(1, 1, 0, 1, 0x13),
+            s_type(1, 5, 2),
+            i_type(4, 5, 0, 6, 0x03),
+            BACK,
+        ],
+        // cincaddrimm c2, c5, 4; csetboundsimm c3, c2, 64; csc c8, 0(c5); clc c7, 0(c5)
+        "capability" => [
+            i_type(4, 5, 1, 2, 0x5B),
+            i_type(64, 2, 2, 3, 0x5B),
+            s_type(8, 5, 3),
+            i_type(0, 5, 3, 7, 0x03),
+            BACK,
+        ],
+        _ => return None,
+    };
+    Some(loop_words)
+}
+
+/// A program ready to run from its first word.
+pub fn lent(name: &str) -> Option<Lent> {
+    let words = words(name)?;
+    let mut state = Lent {
+        regs: [0; 66],
+        mem: vec![0; SIZE],
+        tags: vec![0; SIZE / 64],
+        revoked: vec![0; SIZE / 64],
+    };
+    let roots = [
+        (5, START + 0x100, MEMORY),
+        (8, START + 0x200, MEMORY),
+        (16, START, EXECUTABLE),
+        (17, START, EXECUTABLE),
+    ];
+    for (register, address, metadata) in roots {
+        state.regs[3 * register..3 * register + 3].copy_from_slice(&[address, metadata, 1]);
+    }
+    for (bytes, word) in state.mem.chunks_exact_mut(4).zip(words) {
+        bytes.copy_from_slice(&word.to_le_bytes());
+    }
+    Some(state)
+}

@@ -1,0 +1,25 @@
+// memory: 0xfffff000 4096
+// The end of the address space: document 01, "Cases", the last of them. A PCC of [0xFFFFF000, 2^32)
+// with its address at 0xFFFFFFFC retires a no-op; the next PCC is untagged at 0.
+//
+// 4096 bytes need the exponent 4: B is 0xFFFFF00 mod 512, T is 2^28 mod 512; the code is 0x2F.
+// The next fetch is cause 2 of register 32. MTCC at 0 then fetches outside memory: mcause 1.
+
+    .org  0xffc
+    nop
+
+// lend: PCC = 0xfffffffc 0x5e100100 1
+// run: 1
+// expect: retired = 1
+// expect: PCC = 0 0x5e100100 0
+// run: 1
+// expect: trapped = 1
+// expect: mcause = 28
+// expect: mtval = 0x402
+// expect: MEPCC = 0 0x5e100100 0
+// expect: PCC = 0 0x5e3e0000 1
+// run: 1
+// expect: trapped = 1
+// expect: mcause = 1
+// expect: mtval = 0
+// expect: MEPCC = 0 0x5e3e0000 1

@@ -1,0 +1,56 @@
+/* The worked cases of document 01 that are run and not proved: moves from the first of the 0x20000001 cuts, by the list
+   runner, and the no-op at the end of the address space, by the machine. One line for each check. */
+#include <stdio.h>
+#include <string.h>
+
+#include "oddersnow.h"
+
+/* The list runner of crate call_lists: kinds 0 cut, 1 exact cut, 2 move, 3 narrowing; three words out for each call. */
+uint32_t oddersnow_calls(uint32_t address, uint32_t metadata, uint32_t tag, const uint32_t *kinds, size_t kinds_len,
+                         const uint32_t *values, size_t values_len, uint32_t *out, size_t out_len);
+
+static int failed;
+
+static void check(const char *name, int good)
+{
+    printf("%s %s\n", good ? "ok" : "FAIL", name);
+    if (!good)
+        failed = 1;
+}
+
+/* "From the first of the 0x20000001 cuts, a move to 0x20000200 keeps the tag; to 0x20000201 or 0x20000000 clears it." */
+static uint32_t tag_after_move(uint32_t to)
+{
+    uint32_t kinds[3] = {2, 0, 2}, values[3] = {0x20000001, 511, to}, out[9];
+    uint32_t number = oddersnow_calls(0, 0x7E3E0000, 1, kinds, 3, values, 3, out, 9);
+    if (number != 0 || out[2] != 1 || out[5] != 1 || out[6] != to || out[7] != out[4])
+        return 2;
+    return out[8];
+}
+
+/* "A PCC of [0xFFFFF000, 2^32) with its address at 0xFFFFFFFC retires a no-op; the next PCC is untagged at 0." */
+static void last_instruction(void)
+{
+    uint32_t kinds[3] = {2, 1, 2}, values[3] = {0xFFFFF000, 0x1000, 0xFFFFFFFC}, out[9];
+    uint32_t regs[66] = {0}, before[66];
+    uint8_t mem[64] = {0}, tags[1] = {0}, revoked[1] = {0};
+    check("the PCC of the last page", oddersnow_calls(0, 0x5E3E0000, 1, kinds, 3, values, 3, out, 9) == 0 && out[8] == 1);
+    check("its low bound", oddersnow_bounds_low(out[6], out[7]) == 0xFFFFF000);
+    check("its high bound", oddersnow_bounds_high(out[6], out[7]) == 0x100000000);
+    memcpy(&regs[48], &out[6], 12);
+    mem[60] = 0x13; /* ADDI x0, x0, 0 */
+    memcpy(before, regs, sizeof regs);
+    check("a no-op at 0xFFFFFFFC retires", oddersnow_step(regs, 66, 0xFFFFFFC0, mem, 64, tags, 1, revoked, 1) == 1);
+    check("the next PCC is untagged at 0", regs[48] == 0 && regs[49] == before[49] && regs[50] == 0);
+    memcpy(&regs[48], &before[48], 12);
+    check("and nothing else changed", memcmp(regs, before, sizeof regs) == 0);
+}
+
+int main(void)
+{
+    check("a move to 0x20000200 keeps the tag", tag_after_move(0x20000200) == 1);
+    check("a move to 0x20000201 clears it", tag_after_move(0x20000201) == 0);
+    check("a move to 0x20000000 clears it", tag_after_move(0x20000000) == 0);
+    last_instruction();
+    return failed;
+}
