@@ -16,5 +16,8 @@ fn main() {
         let archive = directory.join(format!("lib{library}.a"));
         println!("cargo::rerun-if-changed={}", archive.display());
         println!("cargo::rustc-link-arg={}", archive.display());
+        if !archive.exists() {
+            println!("cargo::warning=no {}: build.sh makes it", archive.display());
+        }
     }
 }

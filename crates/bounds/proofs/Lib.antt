@@ -4,3 +4,5 @@ pub mod Exponent
 pub mod Suggested
 pub mod Program
 pub mod Limits
+pub mod Decode
+pub mod Blocks

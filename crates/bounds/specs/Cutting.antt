@@ -92,7 +92,7 @@ abbrev pub answerExact : CutAnswer → ℕ
 answerExact (Cut r exact) = cond exact 1 0
 answerExact PastEnd = 0
 
--- what the leading zeros of the length suggest: the exponent, or one less
+-- what the leading zeros of the length suggest. The cut's exponent is the suggestion or one more, where 15 and above stand for 24
 unfoldable pub suggestion : (length : ℕ) → ℕ
 suggestion length = 23 - leadingZeros 32 length
 

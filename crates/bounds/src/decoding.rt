@@ -1,11 +1,13 @@
 // The bounds of a metadata word at an address.
 use crate::Region;
-use crate::shifts::block;
+use crate::shifts::base_block;
 use crate::shifts::if_less;
-use crate::shifts::scaled;
+use crate::shifts::placed;
 ghost use mathlib.Core.Path.{_≡_};
+ghost use mathlib.Core.Bool.{_&&_};
 ghost use Prim.Native.Nat.{_<_, _≤_};
-ghost use Rattle.bounds.specs.Bounds.{exponentOf, boundsOf};
+ghost use lib.Dec.{eqb};
+ghost use Rattle.bounds.specs.Bounds.{exponentOf, lowAt, highAt, boundsOf};
 
 // The exponent of a field E.
 fn exponent(field: u32) -> u32
@@ -15,21 +17,31 @@ fn exponent(field: u32) -> u32
     if field == 15 { 24 } else { field }
 }
 
-// Low and high of a metadata word at an address. 2^33 is added before what may be more is taken away.
+// Low and high of a metadata word at an address.
 pub fn bounds(address: u32, metadata: u32) -> Region
     ensures { λ r. ⌜ r ≡ boundsOf address metadata ⌝ }
 {
     let e = exponent(metadata::scale_of(metadata));
-    let top = metadata::top_of(metadata) as u64;
-    let base = metadata::base_of(metadata) as u64;
-    let a = address as u64;
-    let start = block(a, e + 9);
-    let back = if_less((a >> e) % 512, base, e + 9);
-    let low = (0x2_0000_0000 + start + scaled(base, e) - back) % 0x1_0000_0000;
-    let next = if_less(top, base, e + 9);
-    let high = (0x2_0000_0000 + start + next + scaled(top, e) - back) % 0x2_0000_0000;
+    let top = metadata::top_of(metadata);
+    let base = metadata::base_of(metadata);
+    let block = base_block(address, e, base);
+    let next = block + if_less(top, base);
+    let low = placed(block * 512 + base as u64, e) % 0x1_0000_0000;
+    let high = placed(next * 512 + top as u64, e) % 0x2_0000_0000;
     Region {
         low: low as u32,
         high,
     }
+}
+
+// Whether both bounds are the same at another address: at exponent 24 always, else in the same block.
+pub fn same_bounds(address: u32, to: u32, metadata: u32) -> bool
+    ensures { λ r. ⌜ r ≡ (eqb (lowAt to metadata) (lowAt address metadata) && eqb (highAt to metadata) (highAt address metadata)) ⌝ }
+{
+    let e = exponent(metadata::scale_of(metadata));
+    if e == 24 {
+        return true;
+    }
+    let base = metadata::base_of(metadata);
+    base_block(to, e, base) == base_block(address, e, base)
 }

@@ -8,6 +8,7 @@ pub use cutting::cut;
 pub use cutting::is_unrounded;
 pub use cutting::with_cut;
 pub use decoding::bounds;
+pub use decoding::same_bounds;
 pub use lengths::alignment_mask;
 pub use lengths::representable_length;
 

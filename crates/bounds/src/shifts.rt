@@ -20,12 +20,27 @@ pub(crate) fn block(a: u64, k: u32) -> u64
     (a >> k) << k
 }
 
-// 2^k where x < y, else 0.
-pub(crate) fn if_less(x: u64, y: u64, k: u32) -> u64
-    requires { ⌜ k ≤ 33 ⌝ }
-    ensures { λ r. ⌜ (r ≡ less x y * 2 ^ k) × (r ≤ 2 ^ 33) ⌝ }
+// The block of 512 units of 2^e that the base stands in, counted from 1: floor((q - base) / 512) + 1 for the address's unit q.
+pub(crate) fn base_block(address: u32, e: u32, base: u32) -> u64
+    requires { ⌜ (e ≤ 24) × (base < 512) ⌝ }
+    ensures { λ r. ⌜ (r ≡ (address / 2 ^ e + 512 - base) / 512) × (r ≤ 2 ^ 23) ⌝ }
 {
-    if x < y { 1u64 << k } else { 0 }
+    ((address as u64 >> e) + 512 - base as u64) >> 9
+}
+
+// 1 where x < y, else 0.
+pub(crate) fn if_less(x: u32, y: u32) -> u64
+    ensures { λ r. ⌜ (r ≡ less x y) × (r ≤ 1) ⌝ }
+{
+    if x < y { 1 } else { 0 }
+}
+
+// The address of a unit counted from one block below 0. 2^33 is added before what may be more is taken away.
+pub(crate) fn placed(unit: u64, e: u32) -> u64
+    requires { ⌜ (unit < 2 ^ 33) × (e ≤ 24) ⌝ }
+    ensures { λ r. ⌜ r ≡ 2 ^ 33 + unit * 2 ^ e - 512 * 2 ^ e ⌝ }
+{
+    0x2_0000_0000 + (unit << e) - (512u64 << e)
 }
 
 // 2^e - 1.

@@ -52,6 +52,7 @@ sealOf c a =
 unfoldable pub globalMask : (authority : Capability) → ℕ
 globalMask a = cond (grants a GL) (2 ^ 12 - 1) (2 ^ 12 - 2)
 
+-- (7.13.2 also says that a reserved type, 4 or 5, clears the tag; the clause of 9.4, followed here, has no such test.)
 -- CUnseal: type 0, GL only if both have it; the tag is kept only of a sealed capability, by an authority with US whose address is its type
 unfoldable pub unsealOf : (c authority : Capability) → Capability
 unsealOf c a =

@@ -2,13 +2,9 @@
 use crate::Capability;
 use crate::choosing::both;
 use crate::choosing::choose;
-use crate::reading::bounds_of;
 use crate::reading::covers_range;
 use crate::reading::is_unsealed;
-use bounds::Region;
 ghost use mathlib.Core.Path.{_≡_};
-ghost use mathlib.Core.Bool.{_&&_};
-ghost use lib.Dec.{eqb};
 ghost use Rattle.capability.specs.Capability.{clearTag, sameBounds, moveOf, setBoundsOf, setBoundsExactOf, narrowOf};
 
 // The capability without its tag.
@@ -22,18 +18,11 @@ pub fn clear_tag(c: Capability) -> Capability
     }
 }
 
-// Whether two regions have the same bounds.
-fn same_region(x: Region, y: Region) -> bool
-    ensures { λ r. ⌜ r ≡ (eqb (x .low) (y .low) && eqb (x .high) (y .high)) ⌝ }
-{
-    both(x.low == y.low, x.high == y.high)
-}
-
 // Whether both bounds are the same at another address.
 fn same_bounds(c: Capability, to: u32) -> bool
     ensures { λ r. ⌜ r ≡ sameBounds c to ⌝ }
 {
-    same_region(bounds::bounds(to, c.metadata), bounds_of(c))
+    bounds::same_bounds(c.address, to, c.metadata)
 }
 
 // The capability at another address.

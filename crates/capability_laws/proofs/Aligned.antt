@@ -11,8 +11,9 @@ use lib.Pow.{pow-pos, shr-mod}
 use Rattle.bounds.specs.Cutting.{floorAt, ceilAt, roundDown, roundUp, cutExponent, unrounded}
 use Rattle.bounds.proofs.Rounding.{ceil-le, pow-split}
 use Rattle.bounds.proofs.Exponent.{Exponent, cut-exponent}
+use Rattle.bounds.proofs.Decode.{whole-space}
 use Rattle.capability_laws.proofs.Tests.{both-equal}
-use Rattle.capability_laws.proofs.Region.{whole-space, fits-of, of-fits, ceil-space, cut-least-exponent}
+use Rattle.capability_laws.proofs.Region.{fits-of, of-fits, ceil-space, cut-least-exponent}
 
 -- the alignment mask rounds down
 pub mask-down : (e x : ℕ) → e ≤ 24 → x < 2 ^ 32 → bitAnd x (2 ^ 32 - 2 ^ e) ≡ x / 2 ^ e * 2 ^ e

@@ -1,6 +1,5 @@
--- The cut is the least region around its request: Decode, Region. Which addresses keep bounds: Moves. The report's properties: Representable.
+-- The cut is the least region around its request: Region. Addresses in the bounds keep them: Moves. The report's properties: Representable.
 pub mod Tests
-pub mod Decode
 pub mod Region
 pub mod Answers
 pub mod Moves

@@ -1,37 +1,27 @@
 -- The cut of a request is the least region that the encoding can express around it: demand 3 of one cut, once over the exponent.
 -- Assumes nothing.
-use mathlib.Core.Path.{_≡_, refl, sym, ap, _∙_}
+use mathlib.Core.Path.{_≡_, refl, sym, _∙_}
 use mathlib.Core.Logic.{inl, inr, _↔_}
 use mathlib.Core.Bool.{true}
 use Prim.Native.Nat.{ℕ, _+_, _-_, _*_, _/_, _%_, _^_, _≤_, _<_}
-use native.Mathlib.Nat.{div-lt-iff-lt-mul, div-mul-le-self, eq-zero-or-pos, le-of-mul-le-mul-right, mul-le-mul-right, le-trans, le-refl}
+use native.Mathlib.Nat.{div-mul-le-self, eq-zero-or-pos, le-of-mul-le-mul-right, mul-le-mul-right, le-trans, le-refl}
 use native.Mathlib.Omega.{arith}
 use borrow.Author.Tests.{leb-true, le-leb}
-use lib.Pow.{pow-pos, pow-add}
+use lib.Pow.{pow-pos}
 use Rattle.metadata.specs.Word.{scaleOf, topOf, baseOf}
 use Rattle.metadata.proofs.Words.{scale-lt, top-lt, base-lt}
 use Rattle.bounds.specs.Bounds.{less, lowOf, highOf, lowAt, highAt, exponentOf, Expressible, Contains}
 use Rattle.bounds.specs.Cutting.{floorAt, ceilAt, roundDown, roundUp, fits, cutExponent, cutBase, cutTop, withCut, unrounded, cutLow, cutHigh, cutExact, CutClaim}
 use Rattle.bounds.proofs.Rounding.{floor-ge, ceil-ge, ceil-le, floor-nest, ceil-nest, pow-split}
 use Rattle.bounds.proofs.Exponent.{Exponent, exponent-of, exponent-of-field, exponent-le, cut-exponent, IsLeast, least}
-use Rattle.bounds.proofs.Program.{test, space}
+use Rattle.bounds.proofs.Program.{test}
+use Rattle.bounds.proofs.Decode.{whole-space, unit-below, many, Units, blockOf, units-many, units-few, low-at, high-at, own-low, own-high}
 use Rattle.bounds.proofs.Limits.{scale-of-cut, top-of-cut, base-of-cut, cut-word}
 use Rattle.capability.specs.Capability.{low, high}
 use Rattle.capability.specs.declared.Capability.{Capability}
 use Rattle.capability_laws.specs.Authority.{Authority}
-use Rattle.capability_laws.proofs.Decode.{Units, blockOf, units-many, units-few, low-at, high-at, own-low, own-high}
 
--- ---- the address space in units of 2^e
-
-pub whole-space : {e : ℕ} → Exponent e → 2 ^ (32 - e) * 2 ^ e ≡ 2 ^ 32
-whole-space {e} x = space e (exponent-le x)
-
-pub unit-below : {e a : ℕ} → Exponent e → a < 2 ^ 32 → a / 2 ^ e < 2 ^ (32 - e)
-unit-below {e} {a} x h = div-lt-iff-lt-mul (pow-pos e) .1 (rw (whole-space x) h)
-
--- 512 units divide the address space, where e is at most 14
-pub many : (e : ℕ) → e ≤ 14 → 2 ^ (32 - e) ≡ 512 * 2 ^ (23 - e)
-many e x = ap (λ y. 2 ^ y) (omega arith) ∙ pow-add 2 9 (23 - e)
+-- ---- the bounds in units of 2^e
 
 pub units-of : (e T B a : ℕ) → Exponent e → T < 512 → B < 512 → a < 2 ^ 32 → Units (2 ^ (32 - e)) (blockOf (a / 2 ^ e) B) T B (less T B)
 units-of e T B a (inl x) hT hB ha =

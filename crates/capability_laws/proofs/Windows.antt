@@ -11,13 +11,13 @@ use Rattle.bounds.specs.Cutting.{floorAt, cutExponent, cutBase, cutTop, cutLow,
 use Rattle.bounds.proofs.Rounding.{floor-ge}
 use Rattle.bounds.proofs.Exponent.{Exponent, cut-exponent, exponent-le}
 use Rattle.bounds.proofs.Program.{cut-base-lt, cut-top-lt}
+use Rattle.bounds.proofs.Decode.{blockOf}
+use Rattle.bounds.proofs.Blocks.{Same, same-block, few-same, block-of-same}
 use Rattle.capability.specs.Capability.{low, high, sameBounds, setBoundsOf}
 use Rattle.capability.specs.declared.Capability.{Capability}
 use Rattle.capability_laws.proofs.Tests.{both-equal}
 use Rattle.bounds.proofs.Limits.{top-of-cut, base-of-cut}
 use Rattle.capability_laws.proofs.Region.{cut-exponent-again, cut-low, low-any, high-any}
-use Rattle.capability_laws.proofs.Decode.{blockOf}
-use Rattle.capability_laws.proofs.Moves.{Same, same-block, few-same, block-of-same}
 
 -- ---- the bounds after CSetBounds
 

@@ -50,7 +50,7 @@ storeOf f3 rs1 rs2 offset =
     (cond (eqb f3 3) (Memory (StoreCapability rs1 rs2 offset))
     Illegal)))))
 
--- FENCE: standard, MISC-MEM; every other bit is ignored, and FENCE.I is not in RV32E
+-- FENCE: standard, MISC-MEM; every other bit is ignored. FENCE.I (funct3 1) belongs to Zifencei, which is not here
 unfoldable pub fenceOf : ℕ → Instruction
 fenceOf f3 = cond (eqb f3 0) (System Fence) Illegal
 

@@ -1,24 +1,20 @@
 -- An instruction whose result is an integer leaves no metadata and no tag in its register. Document 01, "What is lent". Assumes nothing.
-use mathlib.Core.Path.{_≡_, refl, sym, _∙_, subst}
+use mathlib.Core.Path.{_≡_, refl, sym, _∙_}
 use mathlib.Core.Bool.{Bool, true, false, cond, true≢false}
 use mathlib.Core.List.{List}
-use Prim.Native.Nat.{ℕ, _+_, _*_, _%_, _≤_, _<_}
+use Prim.Native.Nat.{ℕ, _+_, _*_, _%_, _<_}
 use native.Mathlib.Omega.{arith}
 use lib.Dec.{eqb}
 use lib.ListN.{getD, set, length, length-set}
 use lib.Seq.{getD-set-same, getD-set-other}
-use borrow.Author.Tests.{eqb-true, ne-eqb}
-use Rattle.words.proofs.Word.{by-test}
+use borrow.Author.Tests.{eqb-true}
 use Rattle.capability.specs.Capability.{integer}
 use Rattle.capability.specs.declared.Capability.{Capability}
 use Rattle.instructions.specs.Decode.{decodeOf}
 use Rattle.instructions.specs.declared.Csr.{Csr}
-use Rattle.instructions.specs.declared.Csr.the-variants.{Mstatus, Mcause, Mtval}
 use Rattle.instructions.specs.declared.Instruction.{Instruction}
 use Rattle.state.specs.Registers.{registerWords, capabilityAt, registerAt, csrIndex}
 use Rattle.state.specs.Memory.{Lent, placeOf, loadWidth}
-use Rattle.state.specs.declared.Place.{Place}
-use Rattle.state.specs.declared.Place.the-variants.{At, Misaligned, Outside}
 use Rattle.state.specs.declared.Effect.{Effect}
 use Rattle.state.specs.declared.Effect.the-variants as Effect
 use Rattle.state.proofs.Laws.{checked-holds}
@@ -29,13 +25,11 @@ use Rattle.system_instructions.specs.System.{csrEffect, systemEffect}
 use Rattle.commit.specs.Commit.{State, setCapability, writeRegister, advanced, withCsr, applyEffect, retires}
 use Rattle.execution.specs.Step.{effectOf, seen, effectAt, stepOf}
 use Rattle.machine.specs.Refusals.{refusalOf}
-use Rattle.machine_laws.specs.Lent.{GoodState}
 use Rattle.machine_laws.specs.Steps.{wordAt}
 use Rattle.machine_laws.specs.Integers.{WritesInteger, IsInteger, by-lui, by-op-imm, by-op, by-load, by-inspection, by-difference, by-subset, by-equality, by-csr, by-csr-immediate}
 use Rattle.machine_laws.proofs.Fetch.{fetched-holds}
 use Rattle.machine_laws.proofs.Refusals.{good-of}
-use Rattle.machine_laws.proofs.Registers.{Each, Holds, each-set}
-use Rattle.machine_laws.proofs.Kept.{csr-place, register-long}
+use Rattle.machine_laws.proofs.Kept.{csr-place}
 use Rattle.machine_laws.proofs.Stores.{placed}
 use Rattle.machine_laws.proofs.Traps.{advanced-same}
 

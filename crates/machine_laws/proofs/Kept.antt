@@ -1,11 +1,10 @@
 -- What a step keeps: c0 is NULL, tag words are 0 or 1, no buffer changes its length. So a step that is not refused is followed by one that is not. Assumes nothing.
-use mathlib.Core.Path.{_≡_, refl, sym, _∙_}
-use mathlib.Core.Bool.{Bool, true, false, cond}
+use mathlib.Core.Path.{_≡_, refl, _∙_}
 use mathlib.Core.List.{List}
-use Prim.Native.Nat.{ℕ, _+_, _*_, _/_, _%_, _^_, _≤_, _<_}
+use Prim.Native.Nat.{ℕ, _+_, _*_, _/_, _%_, _≤_, _<_}
 use native.Mathlib.Omega.{arith}
 use lib.Dec.{eqb, leb}
-use lib.ListN.{getD, set, length, length-set}
+use lib.ListN.{length, length-set}
 use Rattle.words.specs.Words.{setBytes, putBit}
 use Rattle.words.proofs.Bytes.{length-setBytes}
 use Rattle.words.proofs.Bits.{length-putBit}
@@ -25,9 +24,9 @@ use Rattle.state.proofs.Laws.{cond-holds, kept-good, legalized-tag}
 use Rattle.commit.specs.Commit.{State, setCapability, writeRegister, advanced, trapped, jumped, withScr, withCsr, stored, retagged, storedCapability, applyEffect}
 use Rattle.execution.specs.Step.{effectAt, stepOf}
 use Rattle.machine.specs.Refusals.{refusalOf}
-use Rattle.machine_laws.specs.Lent.{ZeroRegister, LentBits, GoodState}
+use Rattle.machine_laws.specs.Lent.{ZeroRegister, GoodState}
 use Rattle.machine_laws.proofs.Fetch.{next-good}
-use Rattle.machine_laws.proofs.Registers.{Each, Holds, Written, Rule, Keeps, each-applied}
+use Rattle.machine_laws.proofs.Registers.{Holds, Rule, Keeps, each-applied}
 use Rattle.machine_laws.proofs.Refusals.{good-of, of-good}
 
 scr-place : (scr : Scr) → (17 ≤ scrIndex scr) × (scrIndex scr ≤ 20)
@@ -136,7 +135,7 @@ capability-long : (l : List ℕ) (i : ℕ) (c : Capability) → length (setCapab
 unfolding setCapability
 capability-long l i c = simp length-set
 
-pub register-long : (l : List ℕ) (rd : ℕ) (c : Capability) → length (writeRegister l rd c) ≡ length l
+register-long : (l : List ℕ) (rd : ℕ) (c : Capability) → length (writeRegister l rd c) ≡ length l
 unfolding writeRegister
 register-long l rd c = cond-holds (Long (length l)) (eqb (rd % 16) 0) l (setCapability l (rd % 16) c) refl (capability-long l (rd % 16) c)
 

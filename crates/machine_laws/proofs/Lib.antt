@@ -1,9 +1,11 @@
--- Which lent buffers are refused: Refusals. What a step keeps, and that a run is its single steps: Kept, Runs.
+-- Which lent buffers are refused: Refusals. What a step keeps, and that a run is its single steps: Kept, Runs, Bytes. What a trap changes: Traps.
+-- What a step changes in memory, and where a tag comes from: Stores. Integer results: Integers. The other two serve them; worked cases are in specs/Cases.
 pub mod Fetch
 pub mod Registers
 pub mod Refusals
 pub mod Kept
 pub mod Runs
+pub mod Bytes
 pub mod Traps
 pub mod Stores
 pub mod Integers

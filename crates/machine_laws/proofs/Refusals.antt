@@ -1,16 +1,14 @@
 -- A refusal's number says what is wrong with the lent buffers, the lowest first, and a refused call changes nothing. Assumes nothing.
-use mathlib.Core.Path.{_≡_, refl, sym, _∙_, subst}
+use mathlib.Core.Path.{_≡_, refl, sym, _∙_}
 use mathlib.Core.Bool.{Bool, true, false, cond, _&&_, true≢false}
-use mathlib.Core.Logic.{_↔_}
 use mathlib.Core.List.{List}
 use Prim.Native.Nat.{ℕ, zero, suc, _+_, _*_, _/_, _%_, _^_, _≤_, _<_}
 use native.Mathlib.Omega.{arith}
-use lib.Dec.{eqb, leb, ltb}
+use lib.Dec.{eqb, leb}
 use lib.ListN.{getD, length}
 use borrow.Author.Tests.{eqb-true, eqb-false, eq-eqb, ne-eqb, leb-true, leb-false, le-leb, lt-ltb, le-ltb}
 use Rattle.words.proofs.Word.{by-test}
 use Rattle.state.specs.Registers.{registerWords, capabilityCount}
-use Rattle.state.specs.Effects.{GoodTags}
 use Rattle.commit.specs.Commit.{State}
 use Rattle.machine.specs.Refusals.{goodMemory, goodTags, goodZero, refusalOf, runRefusal, mostMemory, leastMemory, mostSteps}
 use Rattle.machine.specs.Run.{stepAnswer, stepAfter, runAnswer, runAfter}

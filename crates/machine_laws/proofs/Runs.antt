@@ -1,15 +1,14 @@
 -- A run is its single steps, one after another, and their answers counted. Document 01, "Answers". Assumes nothing.
-use mathlib.Core.Path.{_≡_, refl, sym, ap, _∙_}
+use mathlib.Core.Path.{_≡_, refl, ap, _∙_}
 use mathlib.Core.Bool.{Bool, true, false, cond}
 use mathlib.Core.List.{List}
 use Prim.Native.Nat.{ℕ, zero, suc, _+_, _≤_}
 use native.Mathlib.Omega.{arith}
 use native.Mathlib.Nat.{add-assoc, zero-add}
-use lib.Dec.{eqb}
 use Rattle.commit.specs.Commit.{State, retires}
 use Rattle.execution.specs.Step.{effectAt, stepOf}
-use Rattle.machine.specs.Refusals.{refusalOf, runRefusal, mostSteps}
-use Rattle.machine.specs.Run.{stepAnswer, stepAfter, Ran, ran, oneMore, iterate, ranFrom, runAnswer, runAfter, stepRetired, stepTrapped}
+use Rattle.machine.specs.Refusals.{refusalOf, mostSteps}
+use Rattle.machine.specs.Run.{stepAnswer, stepAfter, Ran, ran, oneMore, iterate, runAnswer, runAfter, stepRetired, stepTrapped}
 use Rattle.machine.specs.declared.StepAnswer.the-variants.{Retired, Trapped}
 use Rattle.machine.specs.declared.RunAnswer.the-variants as RunAnswer
 use Rattle.machine_laws.specs.Steps.{stepsAfter, retiredIn, trappedIn}
@@ -68,6 +67,15 @@ module _ (start : ℕ) (revoked : List ℕ) where
       rw (step-good s h, answer-retired s h, answer-trapped s h)
       (run-is-steps n (stepOf start revoked s) _ _ (good-stays start revoked s h) ∙ rw (add-assoc, add-assoc))
 
+  -- the two counts are all of its steps
+  pub answers-counted : (n : ℕ) (s : State) → refusalOf start revoked s ≡ 0 → retiredIn n start revoked s + trappedIn n start revoked s ≡ n
+  answers-counted n s good =
+      let e = run-is-steps n s 0 0 good in
+      let c = run-counts n (ran s 0 0) in
+      let r = ap (λ (x : Ran). x .retired) e in
+      let t = ap (λ (x : Ran). x .trapped) e in
+      omega arith
+
   -- the public run leaves what n public steps leave, and answers how many of them retired and trapped
   module _ (n : ℕ) (s : State) (good : refusalOf start revoked s ≡ 0) (few : n ≤ mostSteps) where
     pub run-after : runAfter n start revoked s ≡ stepsAfter n start revoked s
@@ -77,3 +85,8 @@ module _ (start : ℕ) (revoked : List ℕ) where
     pub run-answer : runAnswer n start revoked s ≡ RunAnswer.Ran (retiredIn n start revoked s) (trappedIn n start revoked s)
     unfolding runAnswer
     run-answer = rw (not-too-many start revoked s good n few) (ap (λ (r : Ran). RunAnswer.Ran (r .retired) (r .trapped)) (run-is-steps n s 0 0 good) ∙ simp zero-add)
+
+  -- a public run of 0 steps changes nothing, and counts 0 and 0
+  pub run-of-none : (s : State) → refusalOf start revoked s ≡ 0 → (runAfter 0 start revoked s ≡ s) × (runAnswer 0 start revoked s ≡ RunAnswer.Ran 0 0)
+  unfolding stepsAfter retiredIn trappedIn
+  run-of-none s good = (run-after 0 s good (omega arith), run-answer 0 s good (omega arith))

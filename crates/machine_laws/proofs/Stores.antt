@@ -1,10 +1,9 @@
 -- What a step changes in memory, and that a tag is set by CSC alone. Document 01, "What is lent"; CHERIoT report, 7.6. Assumes nothing.
-use mathlib.Core.Path.{_≡_, refl, sym, ap, _∙_, subst}
-use mathlib.Core.Bool.{true}
+use mathlib.Core.Path.{_≡_, refl, sym, ap, _∙_}
 use mathlib.Core.List.{List}
-use Prim.Native.Nat.{ℕ, _+_, _*_, _/_, _%_, _^_, _≤_, _<_}
+use Prim.Native.Nat.{ℕ, _+_, _*_, _/_, _%_, _^_, _≤_}
 use native.Mathlib.Omega.{arith}
-use lib.Dec.{eqb, leb}
+use lib.Dec.{eqb}
 use lib.ListN.{getD, length}
 use borrow.Author.Tests.{le-leb, eqb-true, eqb-false}
 use Rattle.words.specs.Words.{leBytes, setBytes, bitAt, putBit}
@@ -21,7 +20,7 @@ use Rattle.instructions.specs.declared.MemoryInstruction.{MemoryInstruction}
 use Rattle.instructions.specs.declared.MemoryInstruction.the-variants as Access
 use Rattle.state.specs.Registers.{registerAt, integerAt}
 use Rattle.state.specs.Memory.{Lent, placeOf, loadWidth, storeWidth, granuleBytes}
-use Rattle.state.specs.Effects.{OneGranule, StoresWithin, Storeless, GoodTag, GoodEffect}
+use Rattle.state.specs.Effects.{StoresWithin, Storeless, GoodEffect}
 use Rattle.state.specs.declared.Place.{Place}
 use Rattle.state.specs.declared.Place.the-variants.{At, Misaligned, Outside}
 use Rattle.state.specs.declared.Effect.{Effect}
@@ -39,10 +38,9 @@ use Rattle.system_instructions.proofs.Laws.{system-storeless}
 use Rattle.commit.specs.Commit.{State, stored, retagged, storedCapability, applyEffect}
 use Rattle.execution.specs.Step.{effectOf, seen, effectAt, stepOf}
 use Rattle.machine.specs.Refusals.{refusalOf}
-use Rattle.machine_laws.specs.Lent.{GoodState}
 use Rattle.machine_laws.specs.Steps.{wordAt}
 use Rattle.machine_laws.specs.Memory.{SameMemory, OnlyAt, MemoryAfter, FromRegister, StoredTagged}
-use Rattle.machine_laws.proofs.Fetch.{fetchedEffect, fetched-holds, next-within, next-good}
+use Rattle.machine_laws.proofs.Fetch.{fetched-holds, next-within, next-good}
 use Rattle.machine_laws.proofs.Refusals.{good-of}
 
 -- ---- what a store leaves

@@ -1,19 +1,19 @@
 -- A trap changes no memory, no tag and no general register. Document 01, "Traps". Assumes nothing.
-use mathlib.Core.Path.{_≡_, refl, sym}
-use mathlib.Core.Bool.{true, false, true≢false}
+use mathlib.Core.Path.{_≡_, refl}
+use mathlib.Core.Bool.{false, true≢false}
 use mathlib.Core.List.{List}
-use Prim.Native.Nat.{ℕ, _+_, _*_, _<_}
+use Prim.Native.Nat.{ℕ, _<_}
 use native.Mathlib.Omega.{arith}
 use lib.ListN.{getD}
 use Rattle.capability.specs.Capability.{moveOf}
 use Rattle.capability.specs.declared.Capability.{Capability}
-use Rattle.state.specs.Registers.{capabilityAt, legalized}
+use Rattle.state.specs.Registers.{legalized}
 use Rattle.state.specs.declared.Effect.{Effect}
 use Rattle.state.specs.declared.Effect.the-variants.{Advance, Write, Store, StoreCapability, Jump, WriteScr, WriteCsr, Trap}
 use Rattle.commit.specs.Commit.{State, advanced, applyEffect, retires, trapped}
 use Rattle.execution.specs.Step.{effectAt, stepOf}
 use Rattle.machine_laws.specs.Memory.{SameMemory}
-use Rattle.machine_laws.proofs.Registers.{Each, Holds, Rule, each-advanced, each-trapped}
+use Rattle.machine_laws.proofs.Registers.{Holds, Rule, each-advanced, each-trapped}
 
 -- the words of c0 to c15 are those of a register file
 abbrev Same : List ℕ → ℕ → ℕ → Type 0

@@ -1,4 +1,4 @@
--- Single steps with all that they leave, in one table with one statement. Document 01, "Cases" and "Tempting mistakes". Memory is 64 bytes, one tag byte.
+-- Single steps, with the answer, the registers and the tag byte that they leave, in one table with one statement. Document 01, "Cases" and "Tempting mistakes". Memory is 64 bytes, one tag byte.
 -- Assumes nothing.
 use mathlib.Core.Bool.{Bool, true, _&&_}
 use mathlib.Core.List.{List, [], _∷_}

@@ -17,6 +17,11 @@ use Rattle.words.proofs.Bytes.{set-Bytes}
 low-bit : (n j l : ℕ) → n % 2 ^ (j + 1 + l) / 2 ^ l % 2 ≡ n / 2 ^ l % 2
 low-bit n j l = ap (λ (x : ℕ). x % 2) (field n (j + 1) l) ∙ mod-mod-pow (n / 2 ^ l) j 1
 
+-- a bit put in its place, as a sum
+pub withBit-is : (b k v : ℕ) → withBit b k v ≡ (b / 2 ^ k / 2 * 2 + v % 2) * 2 ^ k + b % 2 ^ k
+unfolding withBit
+withBit-is b k v = refl
+
 module _ (b k v : ℕ) where
   above : withBit b k v / 2 ^ k ≡ b / 2 ^ k / 2 * 2 + v % 2
   unfolding withBit

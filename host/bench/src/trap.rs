@@ -1,6 +1,9 @@
 //! A trap in words, from what the machine left: mcause, mtval, PCC and the registers, which a trap
 //! does not change (document 01, "Traps"; the CHERIoT report, Table 7.3).
 
+#[cfg(test)]
+mod tests;
+
 use crate::probe;
 use crate::proved::Region;
 use crate::state::{place_name, Capability, State, MCAUSE, MEPCC, MTVAL, PCC};

@@ -1,4 +1,5 @@
-use Rattle.words.specs.Words.{withBit}
+use Rattle.words.proofs.Bits.{withBit-is}
+use Rattle.state.specs.Registers.{MIE}
 use native.Mathlib.Omega.{arith}
 use borrow.Author.Needs.{needs}
 use Rattle.state.proofs.with_mie.Statement.{statement}
@@ -24,8 +25,7 @@ add-result-2 c = search needs
 
 -- src/lib.rt:118:1
 returns : tie.Need-returns
-unfolding withBit
-returns c = omega arith
+returns c = rw (withBit-is (c .args .mstatus) MIE (c .args .v)) (omega arith)
 
 pub with-mie-spec : {M : Type 1} → statement M
 with-mie-spec = tie.close (tie.spec mul-result add-result mul-result-2 add-result-2 returns)

@@ -3,12 +3,13 @@
 use mathlib.Core.Path.{_≡_, ap, _∙_}
 use mathlib.Core.Logic.{_⊎_, inl, inr}
 use Prim.Native.Nat.{ℕ, _+_, _-_, _*_, _/_, _%_, _^_, _≤_, _<_}
-use native.Mathlib.Nat.{mul-le-mul-right, mul-lt-mul-of-pos-right, div-div-eq-div-mul, mod-add-mod, mul-add-mod-self-right, add-assoc}
+use native.Mathlib.Nat.{mul-le-mul-right, mul-lt-mul-of-pos-right, div-div-eq-div-mul, div-lt-iff-lt-mul, mod-add-mod, mul-add-mod-self-right, add-assoc}
 use native.Mathlib.Omega.{arith}
 use lib.Arith.{digits-mod}
 use lib.Pow.{pow-pos, pow-add, pow-mono}
 use Rattle.bounds.specs.Bounds.{less, midOf, upOf, lowOf, highOf}
-use Rattle.bounds.proofs.Program.{Test, test, less-le}
+use Rattle.bounds.proofs.Exponent.{Exponent, exponent-le}
+use Rattle.bounds.proofs.Program.{Test, test, less-le, space}
 
 -- ---- the definitions are those of whole numbers: with no difference, modulo 2^32 and 2^33
 
@@ -43,6 +44,18 @@ high-whole e T B a l =
     ap (λ x. ((x - h) % 2 ^ 33 + h) % 2 ^ 33) (add-assoc (2 ^ 33) y (T * 2 ^ e))
     ∙ whole 1 (2 ^ 33) (y + T * 2 ^ e) h (omega (arith, back-le e (midOf e a) B l))
 
+-- ---- the address space in units of 2^e
+
+pub whole-space : {e : ℕ} → Exponent e → 2 ^ (32 - e) * 2 ^ e ≡ 2 ^ 32
+whole-space {e} x = space e (exponent-le x)
+
+pub unit-below : {e a : ℕ} → Exponent e → a < 2 ^ 32 → a / 2 ^ e < 2 ^ (32 - e)
+unit-below {e} {a} x h = div-lt-iff-lt-mul (pow-pos e) .1 (rw (whole-space x) h)
+
+-- 512 units divide the address space, where e is at most 14
+pub many : (e : ℕ) → e ≤ 14 → 2 ^ (32 - e) ≡ 512 * 2 ^ (23 - e)
+many e x = ap (λ y. 2 ^ y) (omega arith) ∙ pow-add 2 9 (23 - e)
+
 -- ---- in units of 2^e
 
 -- The 512-unit block that the base stands in, counted from 1, for an address in unit q: up - h + 1. It is 0 where that block lies below 0.
@@ -52,6 +65,10 @@ blockOf q B = (q + 512 - B) / 512
 block-is : (q B h : ℕ) → B < 512 → Test (q % 512) B h → blockOf q B + h ≡ q / 512 + 1
 block-is q B h l (inl t) = omega arith
 block-is q B h l (inr t) = omega arith
+
+-- so for an address: up - h + 1
+pub block-up : (e B a : ℕ) → B < 512 → blockOf (a / 2 ^ e) B + less (midOf e a) B ≡ upOf e a + 1
+block-up e B a l = rw (pow-add 2 e 9, ← (div-div-eq-div-mul a (2 ^ e) 512)) (block-is (a / 2 ^ e) B _ l (test _ _))
 
 blocks : (p m u h s f : ℕ) → p * 512 ≤ 2 * m → s + h ≡ u + 1 → 2 * m + u * (p * 512) + f * p - h * (p * 512) ≡ 2 * m + s * (p * 512) + f * p - p * 512
 blocks p m u h s f l q = omega (arith, ap (λ x. x * (p * 512)) q)
@@ -73,6 +90,14 @@ high-block e T B a l b =
     rw (pow-add 2 e 9, ← (div-div-eq-div-mul a (2 ^ e) 512))
     (ap (λ x. x % 2 ^ 33) (blocks (2 ^ e) (2 ^ 32) (a / 2 ^ e / 512 + less T B) (less (midOf e a) B) (blockOf (a / 2 ^ e) B + less T B) T (unit-le e l)
     (omega (arith, block-is (a / 2 ^ e) B (less (midOf e a) B) b (test _ _)))))
+
+-- with the block's units and the field's together
+pub low-placed : (e B a : ℕ) → e ≤ 24 → B < 512 → lowOf e B a ≡ (2 ^ 33 + (blockOf (a / 2 ^ e) B * 512 + B) * 2 ^ e - 512 * 2 ^ e) % 2 ^ 32
+low-placed e B a l b = low-block e B a l b ∙ ap (λ x. x % 2 ^ 32) (omega arith)
+
+pub high-placed : (e T B a : ℕ) → e ≤ 24 → B < 512
+    → highOf e T B a ≡ (2 ^ 33 + ((blockOf (a / 2 ^ e) B + less T B) * 512 + T) * 2 ^ e - 512 * 2 ^ e) % 2 ^ 33
+high-placed e T B a l b = high-block e T B a l b ∙ ap (λ x. x % 2 ^ 33) (omega arith)
 
 -- a sum with quotient c and remainder r, in units
 in-units : (p K c r s f m : ℕ) → K * p ≡ m → c * K + r + 512 ≡ 2 * K + 512 * s + f → 2 * m + s * (p * 512) + f * p - p * 512 ≡ c * m + r * p

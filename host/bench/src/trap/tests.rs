@@ -1,0 +1,169 @@
+//! What is said of a trap holds of the state it happened in, over many random steps.
+
+use super::*;
+use crate::capability_text::rights;
+use crate::names::Names;
+use crate::state::{EXECUTABLE_ROOT, MTCC};
+use crate::{json, proved, report};
+
+const START: u32 = 0x2000_0000;
+const SIZE: u32 = 256;
+
+/// Words of a fixed sequence.
+struct Sequence(u64);
+
+impl Sequence {
+    fn word(&mut self) -> u32 {
+        self.0 = self
+            .0
+            .wrapping_mul(6_364_136_223_846_793_005)
+            .wrapping_add(1);
+        (self.0 >> 32) as u32
+    }
+
+    fn below(&mut self, limit: u32) -> u32 {
+        self.word() % limit
+    }
+
+    /// A capability at or near memory: of any rights, mostly tagged and unsealed, of small bounds.
+    fn capability(&mut self) -> Capability {
+        let address = START - 16 + self.below(SIZE + 32);
+        let address = if self.below(16) == 0 {
+            self.word()
+        } else {
+            address
+        };
+        let kind = if self.below(4) == 0 { self.below(8) } else { 0 };
+        let top = address.wrapping_add(self.below(64)) % 512;
+        let base = address.wrapping_sub(self.below(64)) % 512;
+        let bounds = [0x3E_0000, top << 9 | base][self.below(2) as usize];
+        Capability {
+            address,
+            metadata: self.below(64) << 25 | kind << 22 | bounds,
+            tag: u32::from(self.below(8) != 0),
+        }
+    }
+
+    /// An instruction of a kind that can trap, with registers below 16 and small offsets.
+    fn instruction(&mut self) -> u32 {
+        let offset = self.below(64).wrapping_sub(32);
+        let (rd, rest) = (self.below(16) << 7, self.word());
+        let (rs1, rs2) = (self.below(16) << 15, self.below(16) << 20);
+        let width = self.below(4) << 12;
+        match self.below(7) {
+            0 => LOAD | rd | rs1 | width | offset << 20,
+            1 | 2 => STORE | (offset & 31) << 7 | rs1 | rs2 | width | (offset >> 5) << 25,
+            3 => BRANCH | self.below(16) << 8 | rs1 | rs2 | rest & 0x7000,
+            4 => CJALR | rd | rs1 | [0, offset << 20][(rest & 1) as usize],
+            5 => CJAL | rd | self.below(64) << 21,
+            _ => [0x73, 0x10_0073, 0x3020_0073, 0x3000_1073, 0x03D0_005B, 0][rest as usize % 6],
+        }
+    }
+
+    /// A state with random registers, and PCC mostly at an instruction that can trap.
+    fn state(&mut self) -> State {
+        let word = self.instruction();
+        let mut memory = vec![0; SIZE as usize];
+        memory[64..68].copy_from_slice(&word.to_le_bytes());
+        let mut state = State::reset(START, memory, START + 64);
+        for place in 1..16 {
+            state.set_capability(place, self.capability());
+        }
+        match self.below(4) {
+            0 => state.set_capability(PCC, self.capability()),
+            1 => state.set_capability(
+                PCC,
+                Capability::tagged(START + 64, 0x2B << 25 | 0x50 << 9 | 0x40),
+            ),
+            _ => {}
+        }
+        state
+    }
+}
+
+fn inside(trap: &Trap, asked: Asked) -> bool {
+    holds(
+        trap.authority.as_ref().unwrap().bounds,
+        asked.address,
+        asked.size,
+    )
+}
+
+/// What the cause of a capability check claims of its authority and its request.
+fn check_holds(trap: &Trap) -> bool {
+    let authority = trap.authority.as_ref().unwrap();
+    let lacks = |right| !rights(authority.value.metadata).contains(&right);
+    match trap.mtval % 32 {
+        1 => trap.asked.is_none_or(|asked| !inside(trap, asked)),
+        2 => authority.value.tag == 0,
+        3 => probe::seal_type(authority.value.metadata) != 0,
+        17 => lacks("EX"),
+        18 => lacks("LD") && trap.action == Action::Load,
+        19 => lacks("SD") && trap.action == Action::Store,
+        21 => lacks("MC") && trap.action == Action::Store,
+        22 => lacks("SL") && trap.action == Action::Store,
+        24 => lacks("SR") && authority.name == "PCC",
+        _ => false,
+    }
+}
+
+/// What any cause claims.
+fn cause_holds(trap: &Trap, state: &State) -> bool {
+    let Some(asked) = trap.asked else {
+        return matches!(trap.mcause, 2 | 3 | 11) || check_holds(trap);
+    };
+    let (first, size) = (u64::from(asked.address), u64::from(asked.size));
+    let there = (first..first + size).all(|address| state.byte(address).is_some());
+    match trap.mcause {
+        0 => !first.is_multiple_of(4) && inside(trap, asked),
+        1 | 5 | 7 => first.is_multiple_of(size) && !there && inside(trap, asked),
+        4 | 6 => !first.is_multiple_of(size) && inside(trap, asked),
+        CAPABILITY_CHECK => check_holds(trap),
+        _ => false,
+    }
+}
+
+#[test]
+fn what_is_said_of_a_trap_holds() {
+    let mut sequence = Sequence(7);
+    let mut seen = std::collections::BTreeMap::new();
+    for _ in 0..60_000 {
+        let before = sequence.state();
+        let mut after = before.clone();
+        if proved::run(&mut after, 1).unwrap().trapped == 0 {
+            continue;
+        }
+        let trap = Trap::of_step(&before, &after);
+        let text = report::trap(&trap, &after, &Names::default());
+        assert!(cause_holds(&trap, &after), "{text}");
+        let check = if trap.mcause == CAPABILITY_CHECK {
+            trap.mtval % 32
+        } else {
+            0
+        };
+        *seen
+            .entry((trap.mcause, check, trap.action.noun()))
+            .or_insert(0) += 1;
+    }
+    // Ten ordinary causes (mcause 0 of fetches and of jumps), and nineteen checks: bounds, tag and
+    // seal of four actions each, execute of two, and five of one.
+    assert_eq!(seen.len(), 10 + 19, "{seen:?}");
+}
+
+#[test]
+fn any_words_left_in_a_state_are_explained() {
+    let mut sequence = Sequence(11);
+    for _ in 0..20_000 {
+        let mut state = sequence.state();
+        let pcc = sequence.capability();
+        state.set_capability(MEPCC, pcc);
+        state.set_capability(MTCC, Capability::tagged(0, EXECUTABLE_ROOT));
+        state.regs[MCAUSE] = [sequence.below(32), sequence.word()][sequence.below(2) as usize];
+        state.regs[MTVAL] = [sequence.below(2_048), sequence.word()][sequence.below(2) as usize];
+        if let Some(trap) = Trap::recorded(&state) {
+            let text = report::recorded(&trap, &state, &Names::default());
+            assert!(text.contains("Trap: "));
+            assert!(json::explained(&state, Some(&trap))["trap"]["cause"].is_string());
+        }
+    }
+}
