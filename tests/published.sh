@@ -9,7 +9,7 @@ out=host/target/published
 mkdir -p "$out"
 bad=0
 
-check() { # NAME COMMAND..: its last line but one tells what it counted
+check() { # NAME COMMAND..
   local name=$1
   shift
   if "$@" >"$out/$name.txt" 2>&1; then
@@ -30,7 +30,8 @@ need() { # COMMAND PACKAGE: installed where it is missing
 tools() {
   need riscv64-unknown-elf-objdump binutils-riscv64-unknown-elf &&
     need riscv64-unknown-elf-gcc gcc-riscv64-unknown-elf &&
-    need qemu-riscv32 qemu-user
+    need qemu-riscv32 qemu-user &&
+    riscv64-unknown-elf-gcc --version && riscv64-unknown-elf-objdump --version && qemu-riscv32 --version
 }
 units() {
   (
