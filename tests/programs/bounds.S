@@ -1,8 +1,8 @@
 // The cuts and moves of document 01, "Cases", by CSetBounds and its exact form, and the two
 // instructions that tell a length's rounding.
 //
-// Document 01, "Cutting bounds": the least exponent for which the rounded ends are at most 511 * 2^e
-// apart; the exact form loses the tag if rounding changed anything.
+// Document 01, "Cutting bounds": the least exponent for which the rounded ends are at most 511 *
+// 2^e apart; the exact form loses the tag if rounding changed anything.
 
 #include "cheriot.inc"
 #include "handler.inc"

@@ -2,8 +2,8 @@
 // capability that was in their register.
 //
 // Report, 7.12, AUICGP and AUIPCC: the immediate is signed and shifted by 11; AUICGP clears the tag
-// if c3 is sealed or the address is not representable. 7.3: an integer result is a NULL capability with that
-// address.
+// if c3 is sealed or the address is not representable. 7.3: an integer result is a NULL capability
+// with that address.
 
 #include "cheriot.inc"
 #include "handler.inc"

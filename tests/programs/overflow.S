@@ -1,8 +1,8 @@
 // A buffer that overruns into a table, and a stack that grows down into it: both stop at their
 // bounds, and the table between them stays.
 //
-// Report, 7.6: an access outside the bounds is cause 1. 7.13.5: an address below the base leaves the representable
-// range, so the stack pointer loses its tag there, and the store is cause 2.
+// Report, 7.6: an access outside the bounds is cause 1. 7.13.5: an address below the base leaves
+// the representable range, so the stack pointer loses its tag there, and the store is cause 2.
 
 #include "cheriot.inc"
 #include "handler.inc"

@@ -1,8 +1,8 @@
 // A read-only view of a linked structure: without SD and LM the view and all that is loaded through
 // it are read-only.
 //
-// Document 01, house: without LM on the authority a tagged, unsealed value loses SD and LM, through narrowing;
-// a sealed one keeps them (report, 7.13.1). A store without SD: cause 19.
+// Document 01, house: without LM on the authority a tagged, unsealed value loses SD and LM, through
+// narrowing; a sealed one keeps them (report, 7.13.1). A store without SD: cause 19.
 
 #include "cheriot.inc"
 #include "handler.inc"
@@ -39,8 +39,9 @@ node:
 next:
     .org  0x820
 
-// node is 0x20000800: T 0x10, B 0. next: T 0x20, B 0x10. The rights 0x07F without SD and LM keep GL LG LD MC
-// (SL has no place in that row): the code GL 1 0 1 0 LG is 0x35. Without SD alone: GL 1 0 1 LM LG, 0x37.
+// node is 0x20000800: T 0x10, B 0. next: T 0x20, B 0x10. The rights 0x07F without SD and LM keep GL
+// LG LD MC (SL has no place in that row): the code GL 1 0 1 0 LG is 0x35. Without SD alone: GL 1 0
+// 1 LM LG, 0x37.
 // run: 100
 // expect: trapped = 3
 // expect: c7 = node 0x7e002000 1

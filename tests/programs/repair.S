@@ -1,9 +1,10 @@
-// A trap handler that repairs and returns with MRET: it gives a register the authority that it lacks and
-// tries again, and it does what an illegal instruction asks, MUL, and goes on behind it.
+// A trap handler that repairs and returns with MRET: it gives a register the authority that it
+// lacks and tries again, and it does what an illegal instruction asks, MUL, and goes on behind it.
 //
-// Report, 7.11: MEPCC holds PCC at the instruction that trapped, and MRET goes there. The privileged
-// standard: a trap keeps MIE in MPIE and clears it, MRET brings it back and sets MPIE. Document 01: an illegal
-// instruction is mcause 2 with the word in mtval, and multiplying is not in the base.
+// Report, 7.11: MEPCC holds PCC at the instruction that trapped, and MRET goes there. The
+// privileged standard: a trap keeps MIE in MPIE and clears it, MRET brings it back and sets MPIE.
+// Document 01: an illegal instruction is mcause 2 with the word in mtval, and multiplying is not in
+// the base.
 
 #include "cheriot.inc"
 

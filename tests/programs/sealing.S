@@ -93,8 +93,8 @@
 data:
     .word 7
 
-// data is 0x20000800. Bounds of 64 bytes there: E 0, T 0x40, B 0: 0x7E000000 + 0x40 * 2^9. A stored type t
-// adds t * 2^22. The authority [9, 10): T 10, B 9, of the sealing root's code 0x27.
+// data is 0x20000800. Bounds of 64 bytes there: E 0, T 0x40, B 0: 0x7E000000 + 0x40 * 2^9. A stored
+// type t adds t * 2^22. The authority [9, 10): T 10, B 9, of the sealing root's code 0x27.
 // run: 250
 // expect: trapped = 5
 // expect: c7 = data 0x7e008000 1
@@ -114,7 +114,7 @@ data:
 // expect: cap results+8 = data 0x7e408000 0
 // expect: cap results+16 = data 0x7e401000 0
 // expect: cap results+24 = data 0x7e408000 1
-// Refused seals. PCC's copy in c6 is where AUIPCC stood, the ninth instruction of the program.
+// Refused seals. PCC's copy in c6 is where AUIPCC stood, the seventh instruction.
 // expect: cap results+32 = data 0x7e008000 0
 // expect: cap results+40 = data 0x7ec08000 0
 // expect: cap results+48 = 0x20000018 0x5e7e0000 0

@@ -1,10 +1,10 @@
 // Calls into a compartment through the three kinds of sentry, with interrupts off and on. The entry
 // and the caller after each return note mstatus.MIE as the next bit of x13.
 //
-// Report, 7.13.2 and CJALR: a sentry of type 1 leaves MIE alone, type 2 clears it, type 3 sets it; the link
-// is a sentry of type 3 if MIE was set before the jump, else of type 2; a jump through the link
-// brings MIE back. A sentry is entered without an offset only, else cause 3; a move of a sealed
-// capability clears the tag.
+// Report, 7.13.2 and CJALR: a sentry of type 1 leaves MIE alone, type 2 clears it, type 3 sets it;
+// the link is a sentry of type 3 if MIE was set before the jump, else of type 2; a jump through the
+// link brings MIE back. A sentry is entered without an offset only, else cause 3; a move of a
+// sealed capability clears the tag.
 
 #include "cheriot.inc"
 #include "handler.inc"

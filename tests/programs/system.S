@@ -1,5 +1,5 @@
-// A compartment whose code lacks SR: no CSR, no special register and no MRET, whatever it tries; the
-// caller has them again after the return.
+// A compartment whose code lacks SR: no CSR, no special register and no MRET, whatever it tries;
+// the caller has them again after the return.
 //
 // Report, 7.9, CSpecialRW and Figure 7.1: cause 24 (0x18) with register 32 for PCC, and 32 + scr
 // for CSpecialRW. Document 01, house: a CSR number other than the three is an illegal instruction,

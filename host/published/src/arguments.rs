@@ -76,125 +76,36 @@ impl Kind {
     }
 }
 
+#[rustfmt::skip]
 const WORDS: [u32; 40] = [
-    0,
-    1,
-    2,
-    3,
-    4,
-    7,
-    8,
-    10,
-    15,
-    16,
-    31,
-    32,
-    33,
-    63,
-    64,
-    100,
-    0x7F,
-    0x80,
-    0xFF,
-    0x100,
-    0x1000,
-    0x7FFF,
-    0x8000,
-    0xFFFF,
-    0x1_0000,
-    0x00FF_FFFF,
-    0x0F0F_0F0F,
-    0x1234_5678,
-    0x3FFF_FFFF,
-    0x4000_0000,
-    0x5555_5555,
-    0x7FFF_FFFE,
-    0x7FFF_FFFF,
-    0x8000_0000,
-    0x8000_0001,
-    0xAAAA_AAAA,
-    0xC000_0000,
-    0xFFFF_0000,
-    0xFFFF_FFFE,
-    0xFFFF_FFFF,
+    0, 1, 2, 3, 4, 7, 8, 10, 15, 16, 31, 32, 33, 63, 64, 100, 0x7F, 0x80, 0xFF, 0x100, 0x1000,
+    0x7FFF, 0x8000, 0xFFFF, 0x1_0000, 0x00FF_FFFF, 0x0F0F_0F0F, 0x1234_5678, 0x3FFF_FFFF,
+    0x4000_0000, 0x5555_5555, 0x7FFF_FFFE, 0x7FFF_FFFF, 0x8000_0000, 0x8000_0001, 0xAAAA_AAAA,
+    0xC000_0000, 0xFFFF_0000, 0xFFFF_FFFE, 0xFFFF_FFFF,
 ];
 
 /// Zeros, the least and greatest, infinities, numbers that are none, and what lies at the ends of
 /// the integers.
+#[rustfmt::skip]
 const FLOATS: [u32; 34] = [
-    0,
-    1,
-    2,
-    0x007F_FFFF,
-    0x0080_0000,
-    0x0080_0001,
-    0x3380_0000,
-    0x3400_0000,
-    0x3F00_0000,
-    0x3F7F_FFFF,
-    0x3F80_0000,
-    0x3F80_0001,
-    0x3FC0_0000,
-    0x4000_0000,
-    0x4B7F_FFFF,
-    0x4B80_0000,
-    0x4EFF_FFFF,
-    0x4F00_0000,
-    0x4F7F_FFFF,
-    0x4F80_0000,
-    0x5F00_0000,
-    0x5F80_0000,
-    0x7F7F_FFFF,
-    0x7F80_0000,
-    0x7F80_0001,
-    0x7FC0_0000,
-    0x8000_0000,
-    0x8000_0001,
-    0xBF80_0000,
-    0xCF00_0000,
-    0xCF00_0001,
-    0xDF00_0000,
-    0xFF80_0000,
-    0xFFFF_FFFF,
+    0, 1, 2, 0x007F_FFFF, 0x0080_0000, 0x0080_0001, 0x3380_0000, 0x3400_0000, 0x3F00_0000,
+    0x3F7F_FFFF, 0x3F80_0000, 0x3F80_0001, 0x3FC0_0000, 0x4000_0000, 0x4B7F_FFFF, 0x4B80_0000,
+    0x4EFF_FFFF, 0x4F00_0000, 0x4F7F_FFFF, 0x4F80_0000, 0x5F00_0000, 0x5F80_0000, 0x7F7F_FFFF,
+    0x7F80_0000, 0x7F80_0001, 0x7FC0_0000, 0x8000_0000, 0x8000_0001, 0xBF80_0000, 0xCF00_0000,
+    0xCF00_0001, 0xDF00_0000, 0xFF80_0000, 0xFFFF_FFFF,
 ];
 
 /// The upper words of the like.
+#[rustfmt::skip]
 const DOUBLES: [u32; 18] = [
-    0,
-    0x0000_0001,
-    0x000F_FFFF,
-    0x0010_0000,
-    0x36A0_0000,
-    0x380F_FFFF,
-    0x3CA0_0000,
-    0x3FF0_0000,
-    0x41DF_FFFF,
-    0x41E0_0000,
-    0x41EF_FFFF,
-    0x43E0_0000,
-    0x47EF_FFFF,
-    0x7FEF_FFFF,
-    0x7FF0_0000,
-    0x7FF8_0000,
-    0xBFF0_0000,
-    0xC1E0_0000,
+    0, 0x0000_0001, 0x000F_FFFF, 0x0010_0000, 0x36A0_0000, 0x380F_FFFF, 0x3CA0_0000, 0x3FF0_0000,
+    0x41DF_FFFF, 0x41E0_0000, 0x41EF_FFFF, 0x43E0_0000, 0x47EF_FFFF, 0x7FEF_FFFF, 0x7FF0_0000,
+    0x7FF8_0000, 0xBFF0_0000, 0xC1E0_0000,
 ];
+#[rustfmt::skip]
 const QUADS: [u32; 16] = [
-    0,
-    1,
-    0x0000_FFFF,
-    0x0001_0000,
-    0x3F69_0000,
-    0x3F8F_0000,
-    0x3FFF_0000,
-    0x401D_FFFF,
-    0x401E_0000,
-    0x403E_0000,
-    0x407F_0000,
-    0x43FE_FFFF,
-    0x7FFE_FFFF,
-    0x7FFF_0000,
-    0x7FFF_8000,
+    0, 1, 0x0000_FFFF, 0x0001_0000, 0x3F69_0000, 0x3F8F_0000, 0x3FFF_0000, 0x401D_FFFF,
+    0x401E_0000, 0x403E_0000, 0x407F_0000, 0x43FE_FFFF, 0x7FFE_FFFF, 0x7FFF_0000, 0x7FFF_8000,
     0xBFFF_0000,
 ];
 
@@ -206,15 +117,7 @@ fn upper(words: &[u32], join: fn(u32, u32) -> [u32; 4]) -> Vec<[u32; 4]> {
 
 /// Edges of 64 bits.
 fn longs() -> Vec<[u32; 4]> {
-    const UPPER: [u32; 7] = [
-        0,
-        1,
-        0xFFFF,
-        0x7FFF_FFFF,
-        0x8000_0000,
-        0xFFFF_FFFE,
-        0xFFFF_FFFF,
-    ];
+    const UPPER: [u32; 6] = [0, 1, 0xFFFF, 0x7FFF_FFFF, 0x8000_0000, 0xFFFF_FFFF];
     const LOWER: [u32; 6] = [0, 1, 10, 0x7FFF_FFFF, 0x8000_0000, 0xFFFF_FFFF];
     let under = |&high: &u32| LOWER.map(|low| [low, high, 0, 0]);
     UPPER.iter().flat_map(under).collect()

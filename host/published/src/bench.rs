@@ -86,6 +86,8 @@ pub struct Bench<'a> {
     lent: State,
     ours: State,
     theirs: State,
+    /// The traps of the last call, the one that ended it among them.
+    pub traps: u64,
 }
 
 impl<'a> Bench<'a> {
@@ -110,6 +112,7 @@ impl<'a> Bench<'a> {
             ours: lent.clone(),
             theirs: lent.clone(),
             lent,
+            traps: 0,
         })
     }
 
@@ -158,6 +161,7 @@ impl<'a> Bench<'a> {
     fn run(&mut self) -> Result<(), String> {
         self.ours.clone_from(&self.lent);
         self.theirs.clone_from(&self.lent);
+        self.traps = 0;
         for _ in 0..CALLS {
             let ours = (self.machine)(&mut self.ours, Call::Run(STEPS));
             let theirs = second(&mut self.theirs, Call::Run(STEPS));
@@ -165,6 +169,7 @@ impl<'a> Bench<'a> {
                 let (ours, theirs) = (shown(ours), shown(theirs));
                 return Err(format!("answer: ours {ours}, second {theirs}"));
             }
+            self.traps += ours >> 24 & 0xFF_FFFF;
             if self.ours.capability(PCC).address == self.stop {
                 return self.agree();
             }

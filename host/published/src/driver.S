@@ -2,10 +2,10 @@
 // standard input gives. The bench has the same link as its memory, up to `arena_end`; there
 // EBREAK stands at `returned`.
 //
-// A record is 32 words, in and out. In: the routine's address, x1 to x15, and the 16 words from
-// the stack pointer on; x1 and x2 are not taken, x1 is the link and x2 the stack pointer. Out: where EBREAK
-// stopped the routine, or 0 if it returned; then x1 to x15 and the stack words as it left them.
-// RV32E has a system call's number in t0.
+// A record is 32 words, in and out. In: the routine's address, x1 to x15, and the 16 words from the
+// stack pointer on; x1 and x2 are not taken, x1 is the link and x2 the stack pointer. Out: where
+// EBREAK stopped the routine, or 0 if it returned; then x1 to x15 and the stack words as it left
+// them. RV32E has a system call's number in t0.
 
     .equ WINDOW_BYTES, 64
     .equ RECORD_BYTES, 64 + WINDOW_BYTES

@@ -109,6 +109,7 @@ struct Totals {
     broke: usize,
     integer_returns: usize,
     repaired_calls: usize,
+    repairs: u64,
     not_run: Vec<String>,
 }
 
@@ -120,13 +121,14 @@ impl fmt::Display for Totals {
         write!(
             out,
             "{} routines of libgcc; {} without memory: {} calls, {} ended by EBREAK, {} at a return \
-             through an integer; {} calls with the repairing handler",
+             through an integer; {} calls with the repairing handler, {} repairs",
             self.routines,
             self.plain,
             self.calls,
             self.broke,
             self.integer_returns,
-            self.repaired_calls
+            self.repaired_calls,
+            self.repairs
         )
     }
 }
@@ -217,6 +219,7 @@ fn check(
             return Err(told("a return was not repaired".to_string()));
         }
         totals.repaired_calls += 1;
+        totals.repairs += bench.traps - 1;
     }
     Ok(())
 }

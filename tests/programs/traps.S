@@ -1,0 +1,89 @@
+// Sixteen traps, each noted and passed over: misaligned, outside memory, illegal, breakpoint,
+// ecall, and the checks of jumps.
+//
+// Document 01, "Traps": capability checks come first, then alignment, then access; misaligned is 0,
+// 4, 6 and outside memory 5, 7, with the address in mtval; illegal is 2 with the word; breakpoint 3
+// and ecall 11 with 0. CJALR: tag, seal, EX (17), bounds (1), alignment. A trap changes no general
+// register.
+
+#include "cheriot.inc"
+#include "handler.inc"
+
+    begin
+    object c7, data, 64
+    li    x8, 0x20001000
+    csetaddr c8, c4, x8
+    li    x9, 0x20000000
+    csetaddr c9, c4, x9
+    place x10, here
+    csetaddr c10, c6, x10
+    csetboundsimm c11, c10, 8
+    li    x5, 5
+here:
+    lw    x5, 2(c7)
+    sh    x5, 1(c7)
+    clc   c5, 4(c7)
+    csc   c5, 12(c7)
+    lw    x5, 62(c7)            // out of bounds and misaligned
+    lw    x5, 0(c8)             // the end of memory
+    sw    x5, 0(c8)
+    lb    x5, -1(c9)            // before memory
+    .insn 0x00080813            // addi x16, x16, 0
+    .4byte 0
+    ebreak
+    ecall
+    jalr  c1, 0(c7)             // data
+    jalr  c1, 2(c10)            // code, misaligned
+    jalr  c1, 8(c11)            // the end of 8 bytes of code
+branch:
+    .insn 0x00000163            // beq x0, x0, 2 further
+    finish
+
+    .org  0x800
+data:
+    .word 0x01234567
+
+// data is 0x20000800: T 0x40, B 0.
+// run: 300
+// expect: trapped = 16
+// expect: word log = 4
+// expect: word log+0x4 = data+2
+// expect: word log+0x10 = 6
+// expect: word log+0x14 = data+1
+// expect: word log+0x20 = 4
+// expect: word log+0x24 = data+4
+// expect: word log+0x30 = 6
+// expect: word log+0x34 = data+12
+// c7, cause 1.
+// expect: word log+0x40 = 28
+// expect: word log+0x44 = 0xe1
+// expect: word log+0x50 = 5
+// expect: word log+0x54 = 0x20001000
+// expect: word log+0x60 = 7
+// expect: word log+0x64 = 0x20001000
+// expect: word log+0x70 = 5
+// expect: word log+0x74 = 0x1fffffff
+// expect: word log+0x80 = 2
+// expect: word log+0x84 = 0x00080813
+// expect: word log+0x90 = 2
+// expect: word log+0x94 = 0
+// expect: word log+0xa0 = 3
+// expect: word log+0xa4 = 0
+// expect: word log+0xb0 = 11
+// expect: word log+0xb4 = 0
+// c7, cause 17.
+// expect: word log+0xc0 = 28
+// expect: word log+0xc4 = 0xf1
+// expect: word log+0xd0 = 0
+// expect: word log+0xd4 = here+2
+// c11, cause 1.
+// expect: word log+0xe0 = 28
+// expect: word log+0xe4 = 0x161
+// expect: word log+0xf0 = 0
+// expect: word log+0xf4 = branch+2
+// expect: x1 = 0
+// expect: x5 = 5
+// expect: word data = 0x01234567
+// expect: word data+12 = 0
+// expect: MScratchC = log+0x100 0x7e3e0000 1
+// expect: PCC = done 0x5e3e0000 1
