@@ -1,5 +1,5 @@
 #!/usr/bin/env bash
-# The Rust side: formatting, lints, and the unit tests of the second program.
+# The Rust side: formatting, lints, the unit tests of the second program, and that the speed programs run.
 set -u
 cd "$(dirname "$0")/../host" || exit 1
 bad=0
@@ -12,4 +12,13 @@ check() { # NAME COMMAND..
 check "cargo fmt" cargo fmt --check
 check "cargo clippy of the second program" cargo clippy --offline --release -p second --all-targets -- -D warnings
 check "unit tests of the second program" cargo test --offline --release -p second
+check "cargo clippy of the speed program" cargo clippy --offline --release -p proved -p speed --all-targets -- -D warnings
+library() { [ -n "${ODDERSNOW_STATICLIB:-}" ] || (cd .. && rt staticlib bench_api); }
+check "the proved machine's library" library
+check "the speed program builds" cargo build --offline --release -p speed
+for engine in proved second; do
+  for program in integer memory capability; do
+    check "every step of $program retires ($engine)" target/release/speed "$engine" "$program" 1
+  done
+done
 exit $bad

@@ -66,7 +66,18 @@
     cseal c13, c7, c14
     keep  c13
 
-    // Refused unseals: another type; an authority without US; one that is not sealed.
+    // Type 16, which is more than four bits; an authority that is sealed itself.
+    authority c14, 16
+    cseal c13, c7, c14
+    keep  c13
+    authority c14, 10
+    authority c13, 9
+    cseal c14, c13, c14
+    cseal c13, c7, c14
+    keep  c13
+
+    // Refused unseals: another type; an authority without US; one that is not sealed, by an
+    // authority for its type 0.
     authority c14, 10
     cunseal c13, c9, c14
     keep  c13
@@ -74,7 +85,7 @@
     candperm c14, c8, x5
     cunseal c13, c9, c14
     keep  c13
-    cunseal c13, c7, c8
+    cunseal c13, c7, c3
     keep  c13
     // An authority without GL unseals, and takes GL.
     li    x5, ~GL
@@ -123,13 +134,15 @@ data:
 // expect: cap results+72 = data 0x7e408000 0
 // expect: cap results+80 = data 0x7e808000 0
 // expect: cap results+88 = data 0x7e408000 0
-// Refused unseals.
 // expect: cap results+96 = data 0x7e008000 0
-// expect: cap results+104 = data 0x7e008000 0
+// expect: cap results+104 = data 0x7e408000 0
+// Refused unseals.
 // expect: cap results+112 = data 0x7e008000 0
+// expect: cap results+120 = data 0x7e008000 0
+// expect: cap results+128 = data 0x7e008000 0
 // Without GL: code 0x1F.
-// expect: cap results+120 = data 0x3e008000 1
-// expect: cap results+128 = 0x20000018 0x5fbe0000 1
+// expect: cap results+136 = data 0x3e008000 1
+// expect: cap results+144 = 0x20000018 0x5fbe0000 1
 // c13, cause 3.
 // expect: word log+64 = 28
 // expect: word log+68 = 0x1a3

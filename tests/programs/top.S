@@ -23,3 +23,10 @@
 // expect: mcause = 1
 // expect: mtval = 0
 // expect: MEPCC = 0 0x5e3e0000 1
+// The same place with jal c1, -4: the link at 0 has no tag, of type 2 (MIE is 0).
+// lend: word 0xfffffffc = 0xffdff0ef
+// lend: PCC = 0xfffffffc 0x5e100100 1
+// run: 1
+// expect: retired = 1
+// expect: c1 = 0 0x5e900100 0
+// expect: PCC = 0xfffffff8 0x5e100100 1

@@ -6,18 +6,6 @@ use crate::state::State;
 
 mod library {
     extern "C" {
-        pub fn oddersnow_run(
-            regs: *mut u32,
-            regs_len: usize,
-            start: u32,
-            mem: *mut u8,
-            mem_len: usize,
-            tags: *mut u8,
-            tags_len: usize,
-            revoked: *const u8,
-            revoked_len: usize,
-            steps: u32,
-        ) -> u64;
         pub fn oddersnow_cut_number(base: u32, length: u32) -> u32;
         pub fn oddersnow_cut_low(base: u32, length: u32) -> u32;
         pub fn oddersnow_cut_high(base: u32, length: u32) -> u64;
@@ -62,23 +50,14 @@ impl Refusal {
 /// Runs at most `MOST_STEPS` steps. A refused run changes nothing.
 pub fn run(state: &mut State, steps: u64) -> Result<Counts, Refusal> {
     let steps = u32::try_from(steps).unwrap_or(u32::MAX);
-    let (regs, memory) = (&mut state.regs, &mut state.memory);
-    let (tags, revoked) = (&mut state.tags, &state.revoked);
-    // SAFETY: each pointer is of a live buffer with as many elements as the count after it says.
-    let answer = unsafe {
-        library::oddersnow_run(
-            regs.as_mut_ptr(),
-            regs.len(),
-            state.start,
-            memory.as_mut_ptr(),
-            memory.len(),
-            tags.as_mut_ptr(),
-            tags.len(),
-            revoked.as_ptr(),
-            revoked.len(),
-            steps,
-        )
-    };
+    let answer = ::proved::run(
+        &mut state.regs,
+        state.start,
+        &mut state.memory,
+        &mut state.tags,
+        &state.revoked,
+        steps,
+    );
     counts(answer)
 }
 

@@ -9,21 +9,6 @@ mod programs;
 use programs::{lent, Lent, START};
 use std::time::Instant;
 
-extern "C" {
-    fn oddersnow_run(
-        regs: *mut u32,
-        regs_len: usize,
-        start: u32,
-        mem: *mut u8,
-        mem_len: usize,
-        tags: *mut u8,
-        tags_len: usize,
-        revoked: *const u8,
-        revoked_len: usize,
-        steps: u32,
-    ) -> u64;
-}
-
 /// The most steps of one run.
 const CHUNK: u32 = 1_000_000;
 /// Chunks of one timing, and how many timings of each are tried: the best counts.
@@ -31,21 +16,14 @@ const CHUNKS: u32 = 20;
 const TRIES: u32 = 5;
 
 fn run_proved(s: &mut Lent) -> u64 {
-    // SAFETY: each pointer comes with the length of the slice that it points into, and the slices are apart.
-    unsafe {
-        oddersnow_run(
-            s.regs.as_mut_ptr(),
-            s.regs.len(),
-            START,
-            s.mem.as_mut_ptr(),
-            s.mem.len(),
-            s.tags.as_mut_ptr(),
-            s.tags.len(),
-            s.revoked.as_ptr(),
-            s.revoked.len(),
-            CHUNK,
-        )
-    }
+    proved::run(
+        &mut s.regs,
+        START,
+        &mut s.mem,
+        &mut s.tags,
+        &s.revoked,
+        CHUNK,
+    )
 }
 
 fn run_second(s: &mut Lent) -> u64 {
