@@ -11,6 +11,7 @@ use compare::random::Random;
 use compare::state::{Call, State, MCAUSE, MTCC, MTVAL, PCC, WORDS};
 use second::Capability;
 use std::collections::BTreeMap;
+use std::fmt;
 
 /// A word of an instruction, by its fields.
 #[derive(Clone, Copy)]
@@ -143,11 +144,23 @@ fn legal(machine: Machine, word: u32) -> Result<bool, String> {
 }
 
 /// What was counted: words by what the disassembler and the bench say, and by difference.
-#[derive(Default, Debug)]
+#[derive(Default)]
 struct Totals {
     legal: usize,
     illegal: usize,
     differences: BTreeMap<Difference, usize>,
+}
+
+impl fmt::Display for Totals {
+    fn fmt(&self, out: &mut fmt::Formatter) -> fmt::Result {
+        let (legal, illegal) = (self.legal, self.illegal);
+        write!(
+            out,
+            "{} words, {legal} legal and {illegal} not; differences: {:?}",
+            legal + illegal,
+            self.differences
+        )
+    }
 }
 
 impl Totals {
@@ -239,9 +252,9 @@ pub fn run(machine: Machine) -> Result<String, String> {
         }
     }
     if totals.differences.len() != 5 || totals.legal < 100_000 || totals.illegal < 100_000 {
-        return Err(format!("a kind is missing: {totals:?}"));
+        return Err(format!("a kind is missing: {totals}"));
     }
-    Ok(format!("{totals:?}"))
+    Ok(totals.to_string())
 }
 
 #[cfg(test)]
