@@ -26,11 +26,7 @@ pub fn rights_of(c: Capability) -> u32
 pub fn has_right(c: Capability, k: u32) -> bool
     ensures { λ r. ⌜ r ≡ grants c k ⌝ }
 {
-    if k < 12 {
-        (rights_of(c) >> k) % 2 == 1
-    } else {
-        false
-    }
+    metadata::has_right(c.metadata, k)
 }
 
 // Whether its type is not 0.

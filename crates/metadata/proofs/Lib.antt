@@ -4,3 +4,4 @@ pub mod Words
 pub mod Joined
 pub mod Narrowing
 pub mod Narrowed
+pub mod Holders
