@@ -43,11 +43,13 @@ fetchedAt Misaligned regs m = Trap 0 (pcOf regs)
 fetchedAt Outside regs m = Trap 1 (pcOf regs)
 fetchedAt (At i) regs m = effectOf (decodeOf (leBytes 4 (m .mem) i)) (leBytes 4 (m .mem) i) regs m
 
+-- where the check of PCC gave that cause, or 0
+unfoldable pub fetched : (cause : ℕ) → (regs : List ℕ) → Lent → Effect
+fetched cause regs m = checked pccRegister cause (fetchedAt (placeOf (m .start) (length (m .mem)) (pcOf regs) instructionBytes) regs m)
+
 -- what the next step does
 unfoldable pub nextEffect : (regs : List ℕ) → Lent → Effect
-nextEffect regs m =
-    checked pccRegister (accessCause (pccOf regs) EX executeCause (pcOf regs) instructionBytes)
-    (fetchedAt (placeOf (m .start) (length (m .mem)) (pcOf regs) instructionBytes) regs m)
+nextEffect regs m = fetched (accessCause (pccOf regs) EX executeCause (pcOf regs) instructionBytes) regs m
 
 -- the memory, its tags and what is only read, as an effect sees them
 abbrev pub seen : (start : ℕ) → (revoked : List ℕ) → State → Lent

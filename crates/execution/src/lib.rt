@@ -5,7 +5,7 @@ ghost use lib.ListN.{length};
 ghost use Rattle.state.specs.Registers.{registerWords, pcOf};
 ghost use Rattle.state.specs.Memory.{lent, Within};
 ghost use Rattle.commit.specs.Commit.{State, state, retires};
-ghost use Rattle.execution.specs.Step.{Good, effectOf, fetchedAt, nextEffect, effectAt, stepOf};
+ghost use Rattle.execution.specs.Step.{Good, effectOf, fetchedAt, fetched, nextEffect, effectAt, stepOf};
 use instructions::Instruction;
 use state::Effect;
 use state::Place;
@@ -73,6 +73,20 @@ fn fetch_trap(cause: u32, regs: &[u32]) -> Effect
     }
 }
 
+// What the next step does where the check of PCC gave a cause, or 0.
+fn fetch(cause: u32, regs: &[u32], start: u32, mem: &[u8], tags: &[u8], revoked: &[u8]) -> Effect
+    requires { ⌜ Good (now regs) (now mem) (now tags) (now revoked) ⌝ }
+    ensures { λ r. ⌜ r ≡ fetched cause (now (regs .entry)) (lent start (now (mem .entry)) (now (tags .entry)) (now (revoked .entry))) ⌝ }
+{
+    if cause == 0 {
+        let pcc = state::pcc_of(regs);
+        let place = state::place_of(start, mem.len(), pcc.address, 4);
+        fetched_at(place, regs, start, mem, tags, revoked)
+    } else {
+        state::capability_trap(32, cause)
+    }
+}
+
 // What the next step does.
 fn next_effect(regs: &[u32], start: u32, mem: &[u8], tags: &[u8], revoked: &[u8]) -> Effect
     requires { ⌜ Good (now regs) (now mem) (now tags) (now revoked) ⌝ }
@@ -80,9 +94,7 @@ fn next_effect(regs: &[u32], start: u32, mem: &[u8], tags: &[u8], revoked: &[u8]
 {
     let pcc = state::pcc_of(regs);
     let cause = state::access_cause(pcc, 8, 17, pcc.address, 4);
-    let place = state::place_of(start, mem.len(), pcc.address, 4);
-    let e = fetched_at(place, regs, start, mem, tags, revoked);
-    state::checked_effect(32, cause, e)
+    fetch(cause, regs, start, mem, tags, revoked)
 }
 
 // One step of good buffers. Answers whether the instruction retires.
