@@ -1,4 +1,4 @@
-/* Oddersnow: the CHERIoT bench machine and its cutter, for C.
+/* Oddersnow: the CHERIoT bench machine, its cutter and lists of its calls, for C.
  *
  * Numbers and slices only. A slice is a pointer and a count of elements. Every function takes any
  * numbers and any slices, answers by a number, and keeps nothing between calls; a slice may be empty, and
@@ -6,7 +6,8 @@
  * 01's number of an answer, 0 where nothing is refused.
  *
  *   libraries: `rt staticlib label` has the first six functions (target/staticlib/liblabel.a),
- *   `rt staticlib bench_api` the last two (target/staticlib/libbench_api.a).
+ *   `rt staticlib call_lists` oddersnow_calls (target/staticlib/libcall_lists.a), `rt staticlib bench_api`
+ *   the last two (target/staticlib/libbench_api.a). A program may link all three.
  */
 #ifndef ODDERSNOW_H
 #define ODDERSNOW_H
@@ -32,6 +33,26 @@ uint32_t oddersnow_cut_exact(uint32_t base, uint32_t length);
 /* The bounds that a metadata word gives at an address; low is below 2^32 and high below 2^33. */
 uint32_t oddersnow_bounds_low(uint32_t address, uint32_t metadata);
 uint64_t oddersnow_bounds_high(uint32_t address, uint32_t metadata);
+
+/* A list of calls, all on one capability: the first call gets the address, metadata and tag given here, each
+ * later one what the call before it returned. Call i is kinds[i] with values[i]:
+ *
+ *   0  a cut to a length (CSetBounds)       2  a move to an address
+ *   1  an exact cut to a length             3  a narrowing of the rights by a mask
+ *
+ * out takes the address, metadata and tag that call i returned, from out[3 * i] on. A call that clears the tag is
+ * no refusal: the list goes on. From a tagged and unsealed capability with low <= high <= 2^32, the last tag is set
+ * exactly if every call kept it, and then the last capability lies inside the first and has no right that the
+ * first lacked.
+ *
+ * The answer is 0, or a number of this function's own with nothing changed; the lower wins:
+ *
+ *   11  values_len is not kinds_len, or out_len is not 3 * kinds_len
+ *   12  a kind is not 0 to 3
+ */
+uint32_t oddersnow_calls(uint32_t address, uint32_t metadata, uint32_t tag,
+                         const uint32_t *kinds, size_t kinds_len,
+                         const uint32_t *values, size_t values_len, uint32_t *out, size_t out_len);
 
 /* One step of the machine, and a run of `steps` steps. What is lent:
  *

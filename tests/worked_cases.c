@@ -5,10 +5,6 @@
 
 #include "oddersnow.h"
 
-/* The list runner of crate call_lists: kinds 0 cut, 1 exact cut, 2 move, 3 narrowing; three words out for each call. */
-uint32_t oddersnow_calls(uint32_t address, uint32_t metadata, uint32_t tag, const uint32_t *kinds, size_t kinds_len,
-                         const uint32_t *values, size_t values_len, uint32_t *out, size_t out_len);
-
 static int failed;
 
 static void check(const char *name, int good)

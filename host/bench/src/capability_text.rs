@@ -2,7 +2,7 @@
 
 use crate::probe;
 use crate::proved::Region;
-use crate::state::Capability;
+use lent::Capability;
 
 /// The rights from bit 0 (document 01, "Capability word").
 const RIGHTS: [&str; 12] = [

@@ -6,9 +6,9 @@ use crate::arguments::{Cap, Command, Cut, Explain};
 use crate::capability_text::{length, region, rights, type_words};
 use crate::names::Names;
 use crate::proved::{self, Refusal};
-use crate::state::{Capability, State};
 use crate::trap::Trap;
 use crate::{json, report, sheet, state_file, Status};
+use lent::{Capability, State};
 use serde_json::Value;
 use std::io::{ErrorKind, Write};
 use std::path::Path;
@@ -103,7 +103,7 @@ fn capability_shown(asked: &Cap) -> Result<Status, String> {
         say_json(&json::capability(value))?;
         return Ok(Status::Ran);
     }
-    let bounds = value.bounds();
+    let bounds = proved::bounds(value);
     let held = rights(value.metadata).join(" ");
     say(&format!(
         "address  {:08x}\nbounds   {}, {}\nrights   {}\ntype     {}\n",

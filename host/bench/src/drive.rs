@@ -5,7 +5,7 @@
 mod tests;
 
 use crate::proved::{self, Counts, Refusal, MOST_STEPS};
-use crate::state::State;
+use lent::State;
 
 /// Why a run ended.
 #[derive(Clone, PartialEq, Eq, Debug)]

@@ -4,7 +4,7 @@ mod elf;
 mod hex;
 
 use crate::names::Name;
-use crate::state::State;
+use lent::{State, GRANULE};
 use std::path::Path;
 
 /// The form of an image file.
@@ -86,7 +86,7 @@ fn raw(bytes: Vec<u8>, address: u32) -> Image {
 /// Puts segments into a state's memory and clears the tags of the granules they touch. Nothing is
 /// put there unless all of them fit and no two overlap.
 pub fn load(state: &mut State, segments: &[Segment]) -> Result<(), String> {
-    let memory_end = u64::from(state.start) + state.memory.len() as u64;
+    let memory_end = state.end();
     for segment in segments {
         if segment.address < state.start || segment.end() > memory_end {
             let (origin, place) = (&segment.origin, segment.shown());
@@ -122,12 +122,9 @@ fn no_overlap(segments: &[Segment]) -> Result<(), String> {
 }
 
 fn put(state: &mut State, segment: &Segment) {
-    let offset = (segment.address - state.start) as usize;
-    let end = offset + segment.bytes.len();
-    state.memory[offset..end].copy_from_slice(&segment.bytes);
-    for granule in offset / 8..end.div_ceil(8) {
-        if let Some(byte) = state.tags.get_mut(granule / 8) {
-            *byte &= !(1 << (granule % 8));
-        }
+    state.write(segment.address, &segment.bytes);
+    let first = u64::from(segment.address) & !(GRANULE as u64 - 1);
+    for granule in (first..segment.end()).step_by(GRANULE) {
+        state.set_tag(granule as u32, false);
     }
 }

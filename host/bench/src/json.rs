@@ -2,9 +2,9 @@
 
 use crate::capability_text::{rights, type_words};
 use crate::drive::{End, Outcome};
-use crate::proved::{Refusal, Region};
-use crate::state::{place_name, Capability, State, CAPABILITIES, MCAUSE, MSTATUS, MTVAL};
+use crate::proved::{bounds, Refusal, Region};
 use crate::trap::{Asked, Authority, Trap};
+use lent::{place_name, Capability, State, CAPABILITIES, MCAUSE, MSTATUS, MTVAL};
 use serde_json::{json, Value};
 
 /// A run that was made.
@@ -41,7 +41,7 @@ pub fn capability(value: Capability) -> Value {
         "address": value.address,
         "metadata": value.metadata,
         "tag": value.tag,
-        "bounds": region(value.bounds()),
+        "bounds": region(bounds(value)),
         "rights": rights(value.metadata),
         "type": type_words(value.metadata),
     })
@@ -59,11 +59,11 @@ fn state(state: &State) -> Value {
     });
     json!({
         "registers": registers.collect::<Vec<Value>>(),
-        "mstatus": state.word(MSTATUS),
-        "mcause": state.word(MCAUSE),
-        "mtval": state.word(MTVAL),
+        "mstatus": state.register(MSTATUS),
+        "mcause": state.register(MCAUSE),
+        "mtval": state.register(MTVAL),
         "start": state.start,
-        "size": state.memory.len(),
+        "size": state.mem.len(),
     })
 }
 

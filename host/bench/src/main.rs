@@ -10,8 +10,9 @@ mod names;
 mod probe;
 mod proved;
 mod report;
+#[cfg(test)]
+mod sequence;
 mod sheet;
-mod state;
 mod state_file;
 mod trace;
 mod trap;

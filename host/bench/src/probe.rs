@@ -5,7 +5,7 @@
 mod tests;
 
 use crate::proved;
-use crate::state::{Capability, State, EXECUTABLE_ROOT, MCAUSE, MEMORY_ROOT, MTVAL, PCC};
+use lent::{Capability, State, EXECUTABLE_ROOT, MCAUSE, MEMORY_ROOT, MTVAL, PCC};
 
 // The fields of an instruction word that a probe puts in place.
 const FUNCT3: u32 = 7 << 12;
@@ -23,7 +23,7 @@ fn scratch(start: u32, word: u32, first: Capability) -> State {
     let mut memory = vec![0; 64];
     memory[..4].copy_from_slice(&word.to_le_bytes());
     let mut state = State::reset(start, memory, start);
-    state.set_capability(1, first);
+    state.set(1, first);
     state
 }
 
@@ -59,7 +59,7 @@ pub fn access(word: u32, address: u32) -> Option<u32> {
     let word = word & !(FUNCT3 | RS1) | RS1_IS_C1;
     let mut state = scratch(start, word, Capability::tagged(address, MEMORY_ROOT));
     let counts = proved::run(&mut state, 1).ok()?;
-    (counts.trapped == 1).then(|| state.word(MTVAL))
+    (counts.trapped == 1).then(|| state.register(MTVAL))
 }
 
 /// The target of a CJALR whose authority is at `address`.
@@ -75,16 +75,16 @@ pub fn register_jump(word: u32, address: u32) -> Option<u32> {
 /// The target of the branch or CJAL that `state` is at, with PCC widened to the root.
 pub fn relative_jump(state: &State, pcc: Capability) -> Option<u32> {
     let mut state = state.clone();
-    state.set_capability(PCC, Capability::tagged(pcc.address, EXECUTABLE_ROOT));
+    state.set(PCC, Capability::tagged(pcc.address, EXECUTABLE_ROOT));
     target(state)
 }
 
 /// Where a jump by root authority goes, misaligned or not.
 fn target(mut state: State) -> Option<u32> {
     let counts = proved::run(&mut state, 1).ok()?;
-    match (counts.retired, state.word(MCAUSE)) {
+    match (counts.retired, state.register(MCAUSE)) {
         (1, _) => Some(state.capability(PCC).address),
-        (_, FETCH_MISALIGNED) => Some(state.word(MTVAL)),
+        (_, FETCH_MISALIGNED) => Some(state.register(MTVAL)),
         _ => None,
     }
 }

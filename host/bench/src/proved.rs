@@ -2,21 +2,11 @@
 //! (liblabel.a). Everything that the command says about the machine or about bounds comes through
 //! here.
 
-use crate::state::State;
-
-mod library {
-    extern "C" {
-        pub fn oddersnow_cut_number(base: u32, length: u32) -> u32;
-        pub fn oddersnow_cut_low(base: u32, length: u32) -> u32;
-        pub fn oddersnow_cut_high(base: u32, length: u32) -> u64;
-        pub fn oddersnow_cut_exact(base: u32, length: u32) -> u32;
-        pub fn oddersnow_bounds_low(address: u32, metadata: u32) -> u32;
-        pub fn oddersnow_bounds_high(address: u32, metadata: u32) -> u64;
-    }
-}
+use ::proved::{bounds_high, bounds_low, cut_exact, cut_high, cut_low, cut_number};
+use lent::{Answer, Capability, State};
 
 /// The most steps that one call runs (document 01, refusal 5).
-pub const MOST_STEPS: u64 = 1_000_000;
+pub const MOST_STEPS: u64 = lent::MOST_STEPS as u64;
 
 /// The steps of a run that retired and that trapped.
 #[derive(Clone, Copy, Default, PartialEq, Eq, Debug)]
@@ -50,23 +40,11 @@ impl Refusal {
 /// Runs at most `MOST_STEPS` steps. A refused run changes nothing.
 pub fn run(state: &mut State, steps: u64) -> Result<Counts, Refusal> {
     let steps = u32::try_from(steps).unwrap_or(u32::MAX);
-    let answer = ::proved::run(
-        &mut state.regs,
-        state.start,
-        &mut state.memory,
-        &mut state.tags,
-        &state.revoked,
-        steps,
-    );
-    counts(answer)
-}
-
-/// Takes an answer apart: number * 2^48 + trapped * 2^24 + retired.
-fn counts(answer: u64) -> Result<Counts, Refusal> {
-    match answer >> 48 {
+    let answer = Answer::of(state.run(::proved::run, steps));
+    match answer.number {
         0 => Ok(Counts {
-            retired: answer & 0xFF_FFFF,
-            trapped: answer >> 24 & 0xFF_FFFF,
+            retired: answer.retired,
+            trapped: answer.trapped,
         }),
         number => Err(Refusal(number)),
     }
@@ -79,30 +57,21 @@ pub struct Region {
     pub high: u64,
 }
 
-/// The bounds that a metadata word gives at an address.
-pub fn bounds(address: u32, metadata: u32) -> Region {
-    // SAFETY: both take and give plain numbers, and are total.
-    unsafe {
-        Region {
-            low: library::oddersnow_bounds_low(address, metadata),
-            high: library::oddersnow_bounds_high(address, metadata),
-        }
+/// The bounds of a capability.
+pub fn bounds(value: Capability) -> Region {
+    Region {
+        low: bounds_low(value.address, value.metadata),
+        high: bounds_high(value.address, value.metadata),
     }
 }
 
 /// The cut of [base, base + length), and whether it is exact.
 pub fn cut(base: u32, length: u32) -> Result<(Region, bool), Refusal> {
-    // SAFETY: all take and give plain numbers, and are total.
-    unsafe {
-        match library::oddersnow_cut_number(base, length) {
-            0 => Ok((
-                Region {
-                    low: library::oddersnow_cut_low(base, length),
-                    high: library::oddersnow_cut_high(base, length),
-                },
-                library::oddersnow_cut_exact(base, length) == 1,
-            )),
-            number => Err(Refusal(u64::from(number))),
+    match cut_number(base, length) {
+        0 => {
+            let (low, high) = (cut_low(base, length), cut_high(base, length));
+            Ok((Region { low, high }, cut_exact(base, length) == 1))
         }
+        number => Err(Refusal(number.into())),
     }
 }

@@ -3,10 +3,9 @@
 use crate::capability_text::{count, grouped, is_integer, length, region, rights, type_words};
 use crate::drive::{End, Outcome};
 use crate::names::Names;
-use crate::state::{
-    place_name, Capability, State, CAPABILITIES, MCAUSE, MSTATUS, MTCC, MTVAL, PCC,
-};
+use crate::proved::bounds;
 use crate::trap::{Action, Asked, Authority, Trap};
+use lent::{place_name, Capability, State, CAPABILITIES, MCAUSE, MSTATUS, MTCC, MTVAL, PCC};
 use std::fmt::Write;
 
 /// Bytes on a line of memory.
@@ -124,7 +123,7 @@ fn memory_there(asked: Asked, state: &State) -> String {
     let end = first + u64::from(asked.size);
     let mut text = String::from("\n  memory there\n");
     if !(first..end).any(|address| state.byte(address).is_some()) {
-        let memory_end = u64::from(state.start) + state.memory.len() as u64;
+        let memory_end = state.end();
         let _ = writeln!(
             text,
             "  none: memory is [{:08x}, {memory_end:08x})",
@@ -179,8 +178,8 @@ pub fn registers(state: &State) -> String {
     for place in 0..CAPABILITIES {
         text.push_str(&register_line(&place_name(place), state.capability(place)));
     }
-    let (status, cause) = (state.word(MSTATUS), state.word(MCAUSE));
-    let value = state.word(MTVAL);
+    let (status, cause) = (state.register(MSTATUS), state.register(MCAUSE));
+    let value = state.register(MTVAL);
     let _ = writeln!(
         text,
         "  mstatus {status:08x}, mcause {cause:08x}, mtval {value:08x}"
@@ -194,7 +193,7 @@ fn register_line(name: &str, value: Capability) -> String {
     if is_integer(value) {
         return format!("{start}integer {}\n", address as i32);
     }
-    let bounds = region(value.bounds());
+    let bounds = region(bounds(value));
     let kind = type_words(value.metadata);
     let held = rights(value.metadata).join(" ");
     format!("{start}{bounds:<22} {held:<21} {kind}\n")

@@ -5,7 +5,7 @@
 #[cfg(test)]
 mod tests;
 
-use crate::state::{place_name, State, CAPABILITIES};
+use lent::{place_name, State, CAPABILITIES, CONTROL, MSTATUS, WORDS};
 use std::fmt::Write;
 
 const HEADER: &str = "oddersnow state 1";
@@ -28,7 +28,7 @@ pub fn write(state: &State) -> String {
         text.push('\n');
         place = end;
     }
-    write_bytes(&mut text, "memory", &state.memory);
+    write_bytes(&mut text, "memory", &state.mem);
     write_bytes(&mut text, "tags", &state.tags);
     write_bytes(&mut text, "revoked", &state.revoked);
     let check = checksum(text.as_bytes());
@@ -47,11 +47,9 @@ fn row_words(place: usize) -> usize {
 
 fn row_name(place: usize) -> String {
     match place {
-        63 => "mstatus".into(),
-        64 => "mcause".into(),
-        65 => "mtval".into(),
-        66.. => format!("word{place}"),
-        _ => place_name(place / 3),
+        0..MSTATUS => place_name(place / 3),
+        MSTATUS..WORDS => CONTROL[place - MSTATUS].into(),
+        _ => format!("word{place}"),
     }
 }
 
@@ -134,14 +132,14 @@ impl<'a> Lines<'a> {
         self.next()?;
         let start = hex(self.after("start")?).ok_or(())?;
         let regs = self.registers()?;
-        let memory = self.bytes("memory")?;
+        let mem = self.bytes("memory")?;
         let tags = self.bytes("tags")?;
         let revoked = self.bytes("revoked")?;
         self.after("check")?;
         Ok(State {
             regs,
             start,
-            memory,
+            mem,
             tags,
             revoked,
         })

@@ -1,14 +1,14 @@
 //! A step on one line: where, the word, and what it changed.
 
 use crate::capability_text::{is_integer, region};
-use crate::proved::Counts;
-use crate::state::{place_name, Capability, State, MCAUSE, MSTATUS, MTVAL, PCC};
+use crate::proved::{bounds, Counts};
 use crate::trap::Trap;
+use lent::{place_name, Capability, State, CAPABILITIES, CONTROL, MSTATUS, PCC};
 
 /// The line of the step from `before` to `after`.
 pub fn line(number: u64, before: &State, after: &State, made: Counts) -> String {
     let pcc = before.capability(PCC);
-    let word = before.memory_word(pcc.address);
+    let word = before.word(pcc.address);
     let word = word.map_or("--------".into(), |word| format!("{word:08x}"));
     let changes = if made.trapped > 0 {
         vec![format!("trap: {}", Trap::of_step(before, after).cause)]
@@ -26,15 +26,15 @@ pub fn line(number: u64, before: &State, after: &State, made: Counts) -> String 
 /// What a step that retired changed: registers, memory, and PCC where it is not the next in order.
 fn changes(before: &State, after: &State) -> Vec<String> {
     let mut changes = Vec::new();
-    for place in (0..PCC).chain(PCC + 1..PCC + 5) {
+    for place in (0..PCC).chain(PCC + 1..CAPABILITIES) {
         let (old, new) = (before.capability(place), after.capability(place));
         if old != new {
             changes.push(format!("{} := {}", place_name(place), shown(new)));
         }
     }
-    for (name, place) in [("mstatus", MSTATUS), ("mcause", MCAUSE), ("mtval", MTVAL)] {
-        if before.word(place) != after.word(place) {
-            changes.push(format!("{name} := {:08x}", after.word(place)));
+    for (place, name) in (MSTATUS..).zip(CONTROL) {
+        if before.register(place) != after.register(place) {
+            changes.push(format!("{name} := {:08x}", after.register(place)));
         }
     }
     changes.extend(memory_change(before, after));
@@ -50,7 +50,7 @@ fn shown(value: Capability) -> String {
         return format!("{:08x}", value.address);
     }
     let tag = if value.tag == 1 { "" } else { " no tag" };
-    format!("{:08x}{tag} {}", value.address, region(value.bounds()))
+    format!("{:08x}{tag} {}", value.address, region(bounds(value)))
 }
 
 /// The granule that a store changed, with its address and its bytes.
@@ -58,11 +58,11 @@ fn memory_change(before: &State, after: &State) -> Option<String> {
     let changed = |place: &usize| {
         let granule = place * 8..place * 8 + 8;
         let address = u64::from(before.start) + granule.start as u64;
-        before.memory[granule.clone()] != after.memory[granule]
+        before.mem[granule.clone()] != after.mem[granule]
             || before.tagged(address) != after.tagged(address)
     };
-    let place = (0..before.memory.len() / 8).find(changed)?;
-    let bytes = &after.memory[place * 8..place * 8 + 8];
+    let place = (0..before.mem.len() / 8).find(changed)?;
+    let bytes = &after.mem[place * 8..place * 8 + 8];
     let digits: Vec<String> = bytes.iter().map(|byte| format!("{byte:02x}")).collect();
     let address = u64::from(after.start) + place as u64 * 8;
     let tag = if after.tagged(address) { " tagged" } else { "" };

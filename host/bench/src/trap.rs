@@ -5,8 +5,8 @@
 mod tests;
 
 use crate::probe;
-use crate::proved::Region;
-use crate::state::{place_name, Capability, State, MCAUSE, MEPCC, MTVAL, PCC};
+use crate::proved::{bounds, Region};
+use lent::{place_name, Capability, State, MCAUSE, MEPCC, MTVAL, PCC};
 
 /// The name of PCC in mtval; a special register n is named by this plus n (the CHERIoT report,
 /// 7.11).
@@ -87,14 +87,14 @@ impl Trap {
     /// The last trap that a state records, if it records one. MEPCC stands for the PCC of that
     /// time, and the registers for what they were, unless the program has written them since.
     pub fn recorded(state: &State) -> Option<Trap> {
-        let none = state.word(MCAUSE) == 0 && state.word(MTVAL) == 0;
+        let none = state.register(MCAUSE) == 0 && state.register(MTVAL) == 0;
         (!none).then(|| Trap::new(state, state.capability(MEPCC)))
     }
 
     fn new(after: &State, pcc: Capability) -> Trap {
-        let (mcause, mtval) = (after.word(MCAUSE), after.word(MTVAL));
+        let (mcause, mtval) = (after.register(MCAUSE), after.register(MTVAL));
         let action = action(after, pcc, mcause, mtval);
-        let word = after.memory_word(pcc.address);
+        let word = after.word(pcc.address);
         let word = word.filter(|_| action != Action::Fetch);
         let authority = authority(after, pcc, mcause, mtval, action, word);
         let mut trap = Trap {
@@ -138,7 +138,7 @@ impl Trap {
 
 /// What the step was doing.
 fn action(after: &State, pcc: Capability, mcause: u32, mtval: u32) -> Action {
-    let word = after.memory_word(pcc.address).unwrap_or(0);
+    let word = after.word(pcc.address).unwrap_or(0);
     match mcause {
         0 if target(after, pcc, word) == Some(mtval) => Action::Jump,
         0 | 1 => Action::Fetch,
@@ -168,7 +168,7 @@ fn checked_action(pcc: Capability, word: u32, mtval: u32) -> Action {
     let (name, cause) = (mtval / 32, mtval % 32);
     match (name, word & 0x7F) {
         _ if cause == SYSTEM_REGISTERS => Action::Other,
-        (PCC_NAME, _) if cause == BOUNDS && holds(pcc.bounds(), pcc.address, 4) => Action::Jump,
+        (PCC_NAME, _) if cause == BOUNDS && holds(bounds(pcc), pcc.address, 4) => Action::Jump,
         (PCC_NAME, _) => Action::Fetch,
         (_, LOAD) => Action::Load,
         (_, STORE) => Action::Store,
@@ -194,7 +194,7 @@ fn authority(
     let named = |name: String, value: Capability| Authority {
         name,
         value,
-        bounds: value.bounds(),
+        bounds: bounds(value),
     };
     let by_register = matches!(word, Some(word) if word & 0x7F == CJALR);
     let place = match (mcause, action) {

@@ -2,20 +2,21 @@
 
 mod common;
 
-use common::state::State;
+use common::state::{text, with_code};
 use common::{bench_in, directory, golden};
+use lent::State;
 
 /// A state that is refused, by name.
 fn states() -> Vec<(&'static str, State)> {
     let changed = |change: fn(&mut State)| {
-        let mut state = State::new(&[0x13]);
+        let mut state = with_code(&[0x13]);
         change(&mut state);
         state
     };
     vec![
         ("1, too few words", changed(|state| state.regs.truncate(65))),
         ("2, start", changed(|state| state.start = 4)),
-        ("2, size", changed(|state| state.memory.truncate(100))),
+        ("2, size", changed(|state| state.mem.truncate(100))),
         ("2, end", changed(|state| state.start = 0xFFFF_FFF8)),
         ("3, tags", changed(|state| state.tags.push(0))),
         ("3, revocation bits", changed(|state| state.revoked.clear())),
@@ -34,9 +35,9 @@ fn states() -> Vec<(&'static str, State)> {
 #[test]
 fn a_refused_state_is_neither_run_nor_saved() {
     let directory = directory("refused_states");
-    let mut text = String::new();
+    let mut said = String::new();
     for (name, state) in states() {
-        std::fs::write(directory.join("start"), state.text()).unwrap();
+        std::fs::write(directory.join("start"), text(&state)).unwrap();
         let answer = bench_in(&directory, &["run", "--state", "start", "--save", "end"]);
         assert_eq!((answer.status, answer.out.as_str()), (2, ""), "{name}");
         assert!(!directory.join("end").exists(), "{name}");
@@ -45,9 +46,9 @@ fn a_refused_state_is_neither_run_nor_saved() {
             2,
             "{name}"
         );
-        text.push_str(&format!("== {name}\n{}", answer.text()));
+        said.push_str(&format!("== {name}\n{}", answer.text()));
     }
-    golden("refusals", &text);
+    golden("refusals", &said);
 }
 
 #[test]

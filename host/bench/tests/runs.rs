@@ -2,9 +2,10 @@
 
 mod common;
 
-use common::state::{State, MEMORY, START};
+use common::state::{text, with_code, START};
 use common::words::{addi, cjal, store, EBREAK};
 use common::{bench_in, directory, examples, golden};
+use lent::{Capability, State, EXECUTABLE_ROOT, MEMORY_ROOT, MTCC};
 use serde_json::json;
 
 const SMALL: [&str; 5] = [
@@ -84,7 +85,7 @@ fn a_run_in_two_parts_leaves_the_state_of_one_run() {
 #[test]
 fn the_test_writer_of_states_is_the_commands() {
     let directory = directory("writers");
-    let text = State::new(&[addi(1, 0, 1)]).text();
+    let text = text(&with_code(&[addi(1, 0, 1)]));
     std::fs::write(directory.join("start"), &text).unwrap();
     let same = ["run", "--state", "start", "--steps", "0", "--save", "end"];
     assert_eq!(bench_in(&directory, &same).status, 0);
@@ -97,7 +98,7 @@ fn the_test_writer_of_states_is_the_commands() {
 #[test]
 fn damaged_states_are_refused() {
     let directory = directory("damaged");
-    let text = State::new(&[addi(1, 0, 1)]).text();
+    let text = text(&with_code(&[addi(1, 0, 1)]));
     let mut said = String::new();
     for (name, damaged) in [
         ("a digit", text.replacen("5e3e0000", "5e3e0001", 1)),
@@ -117,9 +118,9 @@ fn damaged_states_are_refused() {
 #[test]
 fn an_image_over_a_saved_state_clears_the_tags_it_covers() {
     let directory = directory("over");
-    let mut state = State::new(&[]);
+    let mut state = with_code(&[]);
     state.tags = vec![0xFF; 4];
-    std::fs::write(directory.join("start"), state.text()).unwrap();
+    std::fs::write(directory.join("start"), text(&state)).unwrap();
     std::fs::write(directory.join("image"), [0x13; 12]).unwrap();
     let over = [
         "run", "image", "--state", "start", "--steps", "0", "--save", "end",
@@ -131,7 +132,7 @@ fn an_image_over_a_saved_state_clears_the_tags_it_covers() {
 
 /// A state whose program counts, stores c3, jumps over a word and stops.
 fn traced() -> State {
-    let mut state = State::new(&[
+    let mut state = with_code(&[
         addi(10, 0, 7),
         store(3, 8),
         cjal(8),
@@ -139,15 +140,15 @@ fn traced() -> State {
         store(2, 12),
         EBREAK,
     ]);
-    state.set(2, START + 0x40, MEMORY, 1);
-    state.set(3, START + 0x80, MEMORY, 1);
+    state.set(2, Capability::tagged(START + 0x40, MEMORY_ROOT));
+    state.set(3, Capability::tagged(START + 0x80, MEMORY_ROOT));
     state
 }
 
 #[test]
 fn the_trace_has_a_line_a_step() {
     let directory = directory("trace");
-    std::fs::write(directory.join("start"), traced().text()).unwrap();
+    std::fs::write(directory.join("start"), text(&traced())).unwrap();
     let answer = bench_in(&directory, &["run", "--state", "start", "--trace"]);
     golden("trace", &answer.text());
     let json = bench_in(
@@ -163,8 +164,8 @@ fn the_trace_has_a_line_a_step() {
 fn through_traps_goes_on_at_mtcc() {
     let directory = directory("through");
     let mut state = traced();
-    state.set(17, START + 8, 0x5E3E_0000, 1);
-    std::fs::write(directory.join("start"), state.text()).unwrap();
+    state.set(MTCC, Capability::tagged(START + 8, EXECUTABLE_ROOT));
+    std::fs::write(directory.join("start"), text(&state)).unwrap();
     let through = [
         "run",
         "--state",

@@ -2,9 +2,11 @@
 
 mod common;
 
-use common::state::{State, EXECUTABLE, MEMORY, PCC, START};
+use common::state::{text, with_code, START};
 use common::words::*;
 use common::{bench_in, directory, golden};
+use lent::{Capability, State, EXECUTABLE_ROOT as EXECUTABLE, MEMORY_ROOT as MEMORY};
+use lent::{MCAUSE, MTVAL, PCC};
 use serde_json::Value;
 use std::path::Path;
 
@@ -88,9 +90,14 @@ fn jumps() -> Vec<Case> {
 /// The state that a case starts from; c3 is a tagged capability that is not global.
 fn start(case: &Case) -> State {
     let (_, place, (address, metadata, tag), word) = *case;
-    let mut state = State::new(&[word]);
-    state.set(3, MIDDLE, 0x3E3E_0000, 1);
-    state.set(place, address, metadata, tag);
+    let mut state = with_code(&[word]);
+    state.set(3, Capability::tagged(MIDDLE, 0x3E3E_0000));
+    let value = Capability {
+        address,
+        metadata,
+        tag,
+    };
+    state.set(place, value);
     state
 }
 
@@ -110,14 +117,7 @@ fn agrees(directory: &Path, case: &Case) {
         &["run", "--state", "start", "--steps", "1", "--json"],
     );
     let (mut state, value) = (start(case), answer.json());
-    let State {
-        regs,
-        start,
-        memory,
-        tags,
-        revoked,
-    } = &mut state;
-    assert_eq!(second::step(regs, *start, memory, tags, revoked), 1 << 24);
+    assert_eq!(state.step(second::step), 1 << 24);
     let number = |value: &Value| value.as_u64().expect("a number") as u32;
     for (place, register) in value["state"]["registers"]
         .as_array()
@@ -128,8 +128,8 @@ fn agrees(directory: &Path, case: &Case) {
         let found = ["address", "metadata", "tag"].map(|name| number(&register[name]));
         assert_eq!(found, state.regs[3 * place..3 * place + 3], "{}", case.0);
     }
-    assert_eq!(number(&value["trap"]["mcause"]), state.regs[64]);
-    assert_eq!(number(&value["trap"]["mtval"]), state.regs[65]);
+    assert_eq!(number(&value["trap"]["mcause"]), state.regs[MCAUSE]);
+    assert_eq!(number(&value["trap"]["mtval"]), state.regs[MTVAL]);
 }
 
 /// The saved state explains the same trap, but for what MEPCC does not keep.
@@ -144,15 +144,15 @@ fn explained(directory: &Path, case: &Case, said: &str) {
 
 fn all(name: &str, cases: Vec<Case>) {
     let directory = directory(&format!("traps_{name}"));
-    let mut text = String::new();
+    let mut shown = String::new();
     for case in &cases {
-        std::fs::write(directory.join("start"), start(case).text()).unwrap();
+        std::fs::write(directory.join("start"), text(&start(case))).unwrap();
         let said = said(&directory, case);
         agrees(&directory, case);
         explained(&directory, case, &said);
-        text.push_str(&said);
+        shown.push_str(&said);
     }
-    golden(name, &text);
+    golden(name, &shown);
 }
 
 #[test]

@@ -8,7 +8,8 @@ use crate::cuts::request;
 use crate::operands::{any, encode, Operands};
 use crate::random::Random;
 use crate::rows::{Aim, Form, Row};
-use crate::state::{State, PCC};
+use crate::state::{as_second, lend};
+use lent::{State, PCC};
 use second::capability::{bounds, has, narrow, set_bounds, EX};
 use second::Capability;
 
@@ -50,7 +51,7 @@ impl Scene<'_> {
     }
 
     fn first(&self) -> Capability {
-        self.state.capability(self.operands.rs1 as usize)
+        as_second(self.state.capability(self.operands.rs1 as usize))
     }
 
     /// Sets rs1; c0 cannot be set, so another register takes its place.
@@ -58,14 +59,14 @@ impl Scene<'_> {
         if self.operands.rs1 == 0 {
             self.operands.rs1 = 1 + self.random.below(15);
         }
-        self.state.set(self.operands.rs1 as usize, value);
+        self.state.set(self.operands.rs1 as usize, lend(value));
     }
 
     fn set_second(&mut self, value: Capability) {
         if self.operands.rs2 == 0 {
             self.operands.rs2 = 1 + self.random.below(15);
         }
-        self.state.set(self.operands.rs2 as usize, value);
+        self.state.set(self.operands.rs2 as usize, lend(value));
     }
 
     /// Makes the operands fit the row, or fail one of its checks.
@@ -152,7 +153,7 @@ impl Scene<'_> {
         self.authorise(rights, address, size);
         if size == 8 {
             let value = self.stored();
-            self.state.write_capability(address & !7, value);
+            self.state.write_capability(address & !7, lend(value));
         }
     }
 
@@ -372,7 +373,7 @@ impl Scene<'_> {
             self.set_first(value);
         }
         let near = self.random.near(self.first().address);
-        let other = self.state.capability(self.operands.rs2 as usize);
+        let other = as_second(self.state.capability(self.operands.rs2 as usize));
         self.set_second(Capability {
             address: near,
             ..other

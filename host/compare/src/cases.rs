@@ -9,10 +9,9 @@ use crate::programs;
 use crate::random::Random;
 use crate::refusals;
 use crate::rows::Table;
-use crate::state::{
-    Call, Case, State, CAPABILITIES, MCAUSE, MEPCC, MSCRATCHC, MSTATUS, MTCC, MTDC, MTVAL, PCC,
-    WORDS,
-};
+use crate::state::{lend, Call, Case};
+use lent::{State, CAPABILITIES, WORDS};
+use lent::{MCAUSE, MEPCC, MSCRATCHC, MSTATUS, MTCC, MTDC, MTVAL, PCC};
 use second::capability::{move_address, narrow, SR};
 use second::Capability;
 
@@ -142,14 +141,14 @@ pub fn fill_registers(random: &mut Random, layout: Layout, state: &mut State) {
     state.regs.clear();
     state.regs.resize(WORDS, 0);
     for place in 1..16 {
-        state.set(place, register(random, layout));
+        state.set(place, lend(register(random, layout)));
     }
-    state.set(PCC, program_counter(random, layout));
+    state.set(PCC, lend(program_counter(random, layout)));
     for place in [MTCC, MEPCC] {
-        state.set(place, special(random, layout));
+        state.set(place, lend(special(random, layout)));
     }
     for place in [MTDC, MSCRATCHC] {
-        state.set(place, register(random, layout));
+        state.set(place, lend(register(random, layout)));
     }
     state.regs[MSTATUS] = match random.below(4) {
         0 => random.word(),
@@ -194,7 +193,7 @@ fn wild(random: &mut Random, case: &mut Case) {
     state.regs[..3].fill(0);
     if random.one_in(2) {
         let address = layout.inside(random, 4);
-        state.set(PCC, root(0b101111, address));
+        state.set(PCC, lend(root(0b101111, address)));
     }
     case.call = match random.below(4) {
         0 => Call::Run(random.below(20)),

@@ -6,7 +6,8 @@ use crate::instructions::{BOUNDS, EXECUTE, FETCH_ACCESS, FETCH_MISALIGNED, ILLEG
 use crate::machines::second;
 use crate::refusals::reasons;
 use crate::rows::{Outcome, Row, Table, COLUMNS};
-use crate::state::{Call, Case, State, MCAUSE, MTVAL, PCC};
+use crate::state::{as_second, Call, Case};
+use lent::{Answer, State, MCAUSE, MTVAL, PCC};
 use second::capability::{has, in_bounds, is_sealed, EX};
 use std::fmt::Write;
 
@@ -42,7 +43,7 @@ pub struct Coverage {
 
 /// The word at PCC if the fetch passes its checks (document 01, "A fetch checks").
 fn fetched(state: &State) -> Option<u32> {
-    let pcc = state.capability(PCC);
+    let pcc = as_second(state.capability(PCC));
     let usable = pcc.tag == 1 && !is_sealed(pcc.metadata) && has(pcc.metadata, EX);
     let here = in_bounds(pcc, pcc.address, 4) && pcc.address.is_multiple_of(4);
     (usable && here).then(|| state.word(pcc.address))?
@@ -99,15 +100,15 @@ impl Coverage {
 
     /// Counts a case, what was left after it, and the answer.
     pub fn count(&mut self, table: &Table, case: &Case, after: &State, answer: u64) {
-        let number = (answer >> 48) as usize;
+        let answer = Answer::of(answer);
         let reasons = reasons(case);
         let lowest = reasons.iter().position(|&reason| reason).unwrap_or(0);
-        self.misrefused += u64::from(number != lowest);
+        self.misrefused += u64::from(answer.number != lowest as u64);
         if lowest != 0 {
             return self.count_refusal(lowest, reasons);
         }
-        let (trapped, retired) = (answer >> 24 & 0xFF_FFFF, answer & 0xFF_FFFF);
-        self.trapped += trapped;
+        let retired = answer.retired;
+        self.trapped += answer.trapped;
         self.retired += retired;
         match case.call {
             Call::Step | Call::Run(1) => self.count_step(table, &case.state, after, retired == 1),

@@ -4,7 +4,8 @@
 use crate::cases;
 use crate::coverage::Coverage;
 use crate::rows::Table;
-use crate::state::{word_name, Call, Case, State};
+use crate::state::{Call, Case};
+use lent::{word_name, Answer, State};
 use std::fmt::Write;
 
 /// A machine: a call on lent state.
@@ -12,17 +13,7 @@ pub type Machine = fn(&mut State, Call) -> u64;
 
 /// The second program.
 pub fn second(state: &mut State, call: Call) -> u64 {
-    let State {
-        regs,
-        start,
-        mem,
-        tags,
-        revoked,
-    } = state;
-    match call {
-        Call::Step => second::step(regs, *start, mem, tags, revoked),
-        Call::Run(steps) => second::run(regs, *start, mem, tags, revoked, steps),
-    }
+    call.on(state, second::step, second::run)
 }
 
 /// What each of two machines left and answered; the buffers are used again for every case.
@@ -75,11 +66,12 @@ impl Both {
 
 /// An answer in words.
 pub fn shown(answer: u64) -> String {
-    let (trapped, retired) = (answer >> 24 & 0xFF_FFFF, answer & 0xFF_FFFF);
-    format!(
-        "number {} trapped {trapped} retired {retired}",
-        answer >> 48
-    )
+    let Answer {
+        number,
+        trapped,
+        retired,
+    } = Answer::of(answer);
+    format!("number {number} trapped {trapped} retired {retired}")
 }
 
 /// A case on which two machines differ.

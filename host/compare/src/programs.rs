@@ -7,11 +7,11 @@ use crate::cases::{fill, fill_registers};
 use crate::operands::{any, encode, Operands};
 use crate::random::Random;
 use crate::rows::{Aim, Form, Outcome, Row, Table};
-use crate::state::{Call, Case, State, MEPCC, MTCC, MTDC, PCC};
+use crate::state::{lend, Call, Case};
+use lent::{State, MEPCC, MOST_STEPS, MTCC, MTDC, PCC};
 
-const MOST_STEPS: u32 = 20_000;
-/// The most steps that a run may ask for (document 01, "Answers").
-const STEP_LIMIT: u32 = 1_000_000;
+/// The most steps of most runs.
+const MANY_STEPS: u32 = 20_000;
 
 /// A handler that steps over the instruction that trapped: c15 := MEPCC; c15 := c15 + 4;
 /// MEPCC := c15; MRET.
@@ -91,7 +91,7 @@ pub fn make(table: &Table, random: &mut Random, case: &mut Case) {
         if !random.one_in(4) {
             let rights = rights(random);
             let address = layout.inside(random, 8);
-            state.set(place, wide(random, layout, rights, address));
+            state.set(place, lend(wide(random, layout, rights, address)));
         }
     }
     if !random.one_in(4) {
@@ -122,7 +122,7 @@ fn write_program(table: &Table, random: &mut Random, layout: Layout, state: &mut
     state.tags.fill(0);
     for _ in 0..layout.size / 64 {
         let address = layout.inside(random, 8);
-        state.write_capability(address, register(random, layout));
+        state.write_capability(address, lend(register(random, layout)));
     }
 }
 
@@ -139,19 +139,19 @@ fn write_handler(random: &mut Random, layout: Layout, state: &mut State) {
     for (place, address) in places {
         let mut value = wide(random, layout, Rights::Executable, address);
         value.metadata |= 1 << 27;
-        state.set(place, value);
+        state.set(place, lend(value));
     }
     let data = wide(random, layout, Rights::ReadWrite, layout.start);
-    state.set(MTDC, data);
+    state.set(MTDC, lend(data));
 }
 
 /// How many steps: mostly a few, sometimes thousands, and hardly ever as many as there may be.
 fn steps(random: &mut Random) -> u32 {
     if random.one_in(8000) {
-        return STEP_LIMIT;
+        return MOST_STEPS;
     }
     match random.below(32) {
-        0 | 1 => random.below(MOST_STEPS + 1),
+        0 | 1 => random.below(MANY_STEPS + 1),
         2..=5 => random.below(2000),
         6 => random.pick([0, 1, 2]),
         _ => random.below(200),

@@ -2,10 +2,8 @@
 //! several reasons at once.
 
 use crate::random::Random;
-use crate::state::{Call, Case, State, CAPABILITIES, WORDS};
-
-/// The most steps that a run may ask for.
-const STEP_LIMIT: u32 = 1_000_000;
+use crate::state::{Call, Case};
+use lent::{State, CAPABILITIES, MOST_STEPS, WORDS};
 
 /// Breaks a good case in one way, or in several at once.
 pub fn spoil(random: &mut Random, case: &mut Case) {
@@ -29,7 +27,7 @@ pub fn spoil(random: &mut Random, case: &mut Case) {
         spoil_bits(random, &mut case.state);
     }
     if wanted(5) {
-        let steps = random.pick([STEP_LIMIT + 1, STEP_LIMIT + 2, 1 << 24, 1 << 31, u32::MAX]);
+        let steps = random.pick([MOST_STEPS + 1, MOST_STEPS + 2, 1 << 24, 1 << 31, u32::MAX]);
         case.call = Call::Run(steps);
     }
 }
@@ -87,8 +85,7 @@ fn spoil_words(random: &mut Random, state: &mut State) {
 pub fn reasons(case: &Case) -> [bool; 6] {
     let state = &case.state;
     let size = state.mem.len();
-    let end = u64::from(state.start) + size as u64;
-    let memory_fits = (64..=65_536).contains(&size) && end <= 1 << 32;
+    let memory_fits = (64..=65_536).contains(&size) && state.end() <= 1 << 32;
     let memory_aligned = size.is_multiple_of(64) && state.start.is_multiple_of(8);
     let bits_fit = [state.tags.len(), state.revoked.len()] == [size / 64; 2];
     let tag_words = state.regs.chunks(3).take(CAPABILITIES);
@@ -102,6 +99,6 @@ pub fn reasons(case: &Case) -> [bool; 6] {
         !(memory_fits && memory_aligned),
         !bits_fit,
         !(tags_fit && zero),
-        matches!(case.call, Call::Run(steps) if steps > STEP_LIMIT),
+        matches!(case.call, Call::Run(steps) if steps > MOST_STEPS),
     ]
 }

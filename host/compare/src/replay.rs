@@ -1,7 +1,8 @@
 //! A case as text that anyone can rerun: the call, the start, and the size of each buffer with
 //! its words or bytes that are not zero.
 
-use crate::state::{word_name, Call, Case, State};
+use crate::state::{Call, Case};
+use lent::{word_name, State};
 use std::fmt::Write;
 
 /// Bytes on a line.

@@ -2,7 +2,8 @@
 //! words, bytes and bits set to zero.
 
 use crate::machines::second;
-use crate::state::{Call, Case, State, CAPABILITIES};
+use crate::state::{Call, Case};
+use lent::{State, CAPABILITIES, MOST_STEPS};
 
 /// The smaller case; `differs` says whether the machines differ on a case.
 pub fn shrink(case: Case, differs: &dyn Fn(&Case) -> bool) -> Case {
@@ -36,7 +37,7 @@ fn fewer_steps(case: Case, differs: &dyn Fn(&Case) -> bool) -> Case {
         call: Call::Step,
         ..case.clone()
     };
-    for _ in 0..steps.min(1_000_000) {
+    for _ in 0..steps.min(MOST_STEPS) {
         if differs(&now) {
             return now;
         }
@@ -81,12 +82,15 @@ mod tests {
     use super::*;
     use crate::instructions::table;
     use crate::machines::{compare, Both, Machine};
-    use crate::state::WORDS;
+    use lent::{Answer, WORDS};
 
     /// Leaves c5's address odd.
     const WRONG: Machine = |state, call| {
         let answer = second(state, call);
-        if answer >> 48 == 0 && answer & 0xFF_FFFF != 0 {
+        let Answer {
+            number, retired, ..
+        } = Answer::of(answer);
+        if number == 0 && retired != 0 {
             state.regs[15] |= 1;
         }
         answer

@@ -1,75 +1,113 @@
-//! The proved machine as safe functions on slices: what include/oddersnow.h declares. A program that
-//! calls one of these links libbench_api.a by a build script of its own.
+//! The proved libraries as safe functions on slices and numbers: what include/oddersnow.h declares, each
+//! under its name there without the prefix. build.rs links them.
+//!
+//! A function with a body is `#[inline]`: it is compiled where it is called, so that a program links
+//! only the libraries that it calls.
 
-mod library {
-    extern "C" {
-        pub fn oddersnow_step(
-            regs: *mut u32,
-            regs_len: usize,
-            start: u32,
-            mem: *mut u8,
-            mem_len: usize,
-            tags: *mut u8,
-            tags_len: usize,
-            revoked: *const u8,
-            revoked_len: usize,
-        ) -> u64;
-
-        pub fn oddersnow_run(
-            regs: *mut u32,
-            regs_len: usize,
-            start: u32,
-            mem: *mut u8,
-            mem_len: usize,
-            tags: *mut u8,
-            tags_len: usize,
-            revoked: *const u8,
-            revoked_len: usize,
-            steps: u32,
-        ) -> u64;
-    }
+// SAFETY: declared as in include/oddersnow.h; each takes and gives plain numbers, and is total.
+unsafe extern "C" {
+    #[link_name = "oddersnow_cut_number"]
+    pub safe fn cut_number(base: u32, length: u32) -> u32;
+    #[link_name = "oddersnow_cut_low"]
+    pub safe fn cut_low(base: u32, length: u32) -> u32;
+    #[link_name = "oddersnow_cut_high"]
+    pub safe fn cut_high(base: u32, length: u32) -> u64;
+    #[link_name = "oddersnow_cut_exact"]
+    pub safe fn cut_exact(base: u32, length: u32) -> u32;
+    #[link_name = "oddersnow_bounds_low"]
+    pub safe fn bounds_low(address: u32, metadata: u32) -> u32;
+    #[link_name = "oddersnow_bounds_high"]
+    pub safe fn bounds_high(address: u32, metadata: u32) -> u64;
 }
 
-/// One step. The answer is number * 2^48 + trapped * 2^24 + retired.
-pub fn step(regs: &mut [u32], start: u32, mem: &mut [u8], tags: &mut [u8], revoked: &[u8]) -> u64 {
-    // SAFETY: each pointer is of a live slice with as many elements as the count after it says, and no two overlap.
-    unsafe {
-        library::oddersnow_step(
-            regs.as_mut_ptr(),
-            regs.len(),
-            start,
-            mem.as_mut_ptr(),
-            mem.len(),
-            tags.as_mut_ptr(),
-            tags.len(),
-            revoked.as_ptr(),
-            revoked.len(),
-        )
-    }
+/// A function of the machine. The step and the run take the same lent buffers, so their arguments stand
+/// here once; the run has its number of steps after them.
+macro_rules! machine_function {
+    ($(#[$doc:meta])* $name:ident is $declared:ident $(, $steps:ident: $number:ty)?) => {
+        // SAFETY: declared as in include/oddersnow.h.
+        unsafe extern "C" {
+            fn $declared(
+                regs: *mut u32,
+                regs_len: usize,
+                start: u32,
+                mem: *mut u8,
+                mem_len: usize,
+                tags: *mut u8,
+                tags_len: usize,
+                revoked: *const u8,
+                revoked_len: usize,
+                $($steps: $number,)?
+            ) -> u64;
+        }
+
+        $(#[$doc])*
+        #[inline]
+        pub fn $name(
+            regs: &mut [u32], start: u32, mem: &mut [u8], tags: &mut [u8], revoked: &[u8],
+            $($steps: $number,)?
+        ) -> u64 {
+            // SAFETY: each pointer is of a live slice with as many elements as the count after it
+            // says, and no two overlap.
+            unsafe {
+                $declared(
+                    regs.as_mut_ptr(),
+                    regs.len(),
+                    start,
+                    mem.as_mut_ptr(),
+                    mem.len(),
+                    tags.as_mut_ptr(),
+                    tags.len(),
+                    revoked.as_ptr(),
+                    revoked.len(),
+                    $($steps,)?
+                )
+            }
+        }
+    };
 }
 
-/// A run of some steps, with the same answer.
-pub fn run(
-    regs: &mut [u32],
-    start: u32,
-    mem: &mut [u8],
-    tags: &mut [u8],
-    revoked: &[u8],
-    steps: u32,
-) -> u64 {
-    // SAFETY: as for `step`.
+machine_function! {
+    /// One step. The answer is number * 2^48 + trapped * 2^24 + retired.
+    step is oddersnow_step
+}
+
+machine_function! {
+    /// A run of some steps, with the same answer.
+    run is oddersnow_run, steps: u32
+}
+
+// SAFETY: declared as in include/oddersnow.h.
+unsafe extern "C" {
+    fn oddersnow_calls(
+        address: u32,
+        metadata: u32,
+        tag: u32,
+        kinds: *const u32,
+        kinds_len: usize,
+        values: *const u32,
+        values_len: usize,
+        out: *mut u32,
+        out_len: usize,
+    ) -> u32;
+}
+
+/// A list of calls on the capability of three words: address, metadata and tag. `out` takes those of
+/// each call. The answer is 0, or a refusal's number.
+#[inline]
+pub fn calls(start: [u32; 3], kinds: &[u32], values: &[u32], out: &mut [u32]) -> u32 {
+    let [address, metadata, tag] = start;
+    // SAFETY: as for the machine.
     unsafe {
-        library::oddersnow_run(
-            regs.as_mut_ptr(),
-            regs.len(),
-            start,
-            mem.as_mut_ptr(),
-            mem.len(),
-            tags.as_mut_ptr(),
-            tags.len(),
-            revoked.as_ptr(),
-            revoked.len(),
-            steps,
+        oddersnow_calls(
+            address,
+            metadata,
+            tag,
+            kinds.as_ptr(),
+            kinds.len(),
+            values.as_ptr(),
+            values.len(),
+            out.as_mut_ptr(),
+            out.len(),
         )
     }
 }

@@ -4,13 +4,10 @@
 use crate::image::{Image, START};
 use crate::qemu::Record;
 use compare::machines::{second, shown, Machine};
-use compare::state::{word_name, Call, State};
-use compare::state::{MCAUSE, MEPCC, MSCRATCHC, MSTATUS, MTCC, MTDC, MTVAL, PCC, WORDS};
-use second::Capability;
+use compare::state::Call;
+use lent::{word_name, Answer, Capability, State, EXECUTABLE_ROOT, MEMORY_ROOT};
+use lent::{MCAUSE, MEPCC, MSCRATCHC, MSTATUS, MTCC, MTDC, MTVAL, PCC};
 
-// The roots of document 01, "Cases": memory and execution.
-pub const MEMORY_ROOT: u32 = 0x7E3E_0000;
-pub const EXECUTABLE_ROOT: u32 = 0x5E3E_0000;
 /// The lowest bit of the type in a metadata word.
 const TYPE_AT: u32 = 22;
 
@@ -56,23 +53,6 @@ pub enum End {
     IntegerReturn,
 }
 
-/// A tagged capability.
-fn tagged(address: u32, metadata: u32) -> Capability {
-    Capability {
-        address,
-        metadata,
-        tag: 1,
-    }
-}
-
-/// An integer as a register holds it.
-fn integer(address: u32) -> Capability {
-    Capability {
-        address,
-        ..second::capability::NULL
-    }
-}
-
 /// One image on the bench; the buffers are used for every call.
 pub struct Bench<'a> {
     image: &'a Image,
@@ -92,14 +72,7 @@ pub struct Bench<'a> {
 
 impl<'a> Bench<'a> {
     pub fn new(image: &'a Image, machine: Machine) -> Result<Bench<'a>, String> {
-        let granules = image.memory.len() / 64;
-        let lent = State {
-            regs: vec![0; WORDS],
-            start: START,
-            mem: image.memory.clone(),
-            tags: vec![0; granules],
-            revoked: vec![0; granules],
-        };
+        let lent = State::new(START, image.memory.clone());
         Ok(Bench {
             image,
             machine,
@@ -134,23 +107,23 @@ impl<'a> Bench<'a> {
         for (place, &number) in record.registers.iter().enumerate().skip(2) {
             let number = if place == 2 { self.stack } else { number };
             let value = if manner.dressed {
-                tagged(number, MEMORY_ROOT)
+                Capability::tagged(number, MEMORY_ROOT)
             } else {
-                integer(number)
+                Capability::integer(number)
             };
             state.set(place, value);
         }
         let called = EXECUTABLE_ROOT | manner.sentry << TYPE_AT;
-        state.set(1, tagged(record.place, called));
-        state.set(PCC, tagged(self.call, EXECUTABLE_ROOT));
+        state.set(1, Capability::tagged(record.place, called));
+        state.set(PCC, Capability::tagged(self.call, EXECUTABLE_ROOT));
         let handler = if manner.repairing {
             self.repair
         } else {
             self.stop
         };
-        state.set(MTCC, tagged(handler, EXECUTABLE_ROOT));
-        state.set(MTDC, tagged(0, MEMORY_ROOT));
-        state.set(MSCRATCHC, tagged(self.saved, MEMORY_ROOT));
+        state.set(MTCC, Capability::tagged(handler, EXECUTABLE_ROOT));
+        state.set(MTDC, Capability::tagged(0, MEMORY_ROOT));
+        state.set(MSCRATCHC, Capability::tagged(self.saved, MEMORY_ROOT));
         state.regs[MSTATUS] = manner.mstatus;
         for (address, word) in (self.stack..).step_by(4).zip(record.window) {
             state.write(address, &word.to_le_bytes());
@@ -169,7 +142,7 @@ impl<'a> Bench<'a> {
                 let (ours, theirs) = (shown(ours), shown(theirs));
                 return Err(format!("answer: ours {ours}, second {theirs}"));
             }
-            self.traps += ours >> 24 & 0xFF_FFFF;
+            self.traps += Answer::of(ours).trapped;
             if self.ours.capability(PCC).address == self.stop {
                 return self.agree();
             }
@@ -253,7 +226,7 @@ impl<'a> Bench<'a> {
             let value = self.ours.capability(place);
             let lent = value == self.lent.capability(place);
             let code = value.tag == 1 && code.contains(&value.metadata);
-            if !lent && !code && value != integer(value.address) {
+            if !lent && !code && value != Capability::integer(value.address) {
                 return Err(format!("c{place} is no integer: {value:x?}"));
             }
         }

@@ -2,14 +2,13 @@
 //! them for RV32E with Zicsr. Where the papers make it differ, the difference is one of a list, and
 //! each kind in the list must come up.
 
-use crate::bench::EXECUTABLE_ROOT;
 use crate::disassembler::{known, of_rv32e, Listing, Reading};
 use crate::image::START;
 use crate::tools;
 use compare::machines::{second, Machine};
 use compare::random::Random;
-use compare::state::{Call, State, MCAUSE, MTCC, MTVAL, PCC, WORDS};
-use second::Capability;
+use compare::state::Call;
+use lent::{Capability, State, EXECUTABLE_ROOT, MCAUSE, MTCC, MTVAL, PCC};
 use std::collections::BTreeMap;
 use std::fmt;
 
@@ -115,18 +114,8 @@ fn other_mode(word: Word) -> Option<bool> {
 
 /// Whether a machine takes a word for an instruction: one step with the word at PCC.
 fn legal(machine: Machine, word: u32) -> Result<bool, String> {
-    let mut state = State {
-        regs: vec![0; WORDS],
-        start: START,
-        mem: vec![0; 64],
-        tags: vec![0],
-        revoked: vec![0],
-    };
-    let code = Capability {
-        address: START,
-        metadata: EXECUTABLE_ROOT,
-        tag: 1,
-    };
+    let mut state = State::new(START, vec![0; 64]);
+    let code = Capability::tagged(START, EXECUTABLE_ROOT);
     state.set(PCC, code);
     state.set(MTCC, code);
     state.write(START, &word.to_le_bytes());

@@ -2,17 +2,15 @@
 //! machines: in one run and step by step, with the state compared after every step, and the end
 //! compared with what the program's comments derive from the papers.
 
-use crate::bench::{EXECUTABLE_ROOT, MEMORY_ROOT};
 use crate::image::START;
 use crate::script::{lines, Line, Place};
 use crate::tools::{self, Symbols};
 use compare::machines::{second, shown, Machine};
-use compare::state::{Call, State, MEPCC, MSCRATCHC, MTCC, MTDC, PCC, WORDS};
-use second::Capability;
+use compare::state::Call;
+use lent::{Answer, Capability, State};
 use std::fs;
 use std::path::{Path, PathBuf};
 
-const SEALING_ROOT: u32 = 0x4E3E_0000;
 const SIZE: u32 = 4096;
 /// The fewest programs and expectations, so that none goes unnoticed.
 const FEWEST: (usize, usize) = (20, 480);
@@ -27,28 +25,10 @@ struct Running {
 }
 
 impl Running {
-    /// The state at reset (report, Table 7.2 and 7.13.1): the special registers and PCC hold the
-    /// roots, the general registers are NULL. PCC's address is the start of memory.
+    /// The state at reset, with PCC's address at the start of memory.
     fn new(machine: Machine, start: u32, mut memory: Vec<u8>, size: u32) -> Running {
         memory.resize(size as usize, 0);
-        let granules = memory.len() / 64;
-        let mut state = State {
-            regs: vec![0; WORDS],
-            start,
-            mem: memory,
-            tags: vec![0; granules],
-            revoked: vec![0; granules],
-        };
-        let roots = [
-            (PCC, start, EXECUTABLE_ROOT),
-            (MTCC, 0, EXECUTABLE_ROOT),
-            (MTDC, 0, MEMORY_ROOT),
-            (MSCRATCHC, 0, SEALING_ROOT),
-            (MEPCC, 0, EXECUTABLE_ROOT),
-        ];
-        for (place, address, metadata) in roots {
-            state.set(place, capability(&[address, metadata, 1]));
-        }
+        let state = State::reset(start, memory, start);
         Running {
             machine,
             theirs: state.clone(),
@@ -68,8 +48,8 @@ impl Running {
             }
             Line::Revoke(first, end) => {
                 for granule in (*first..*end).step_by(8) {
-                    revoke(&mut self.ours, granule);
-                    revoke(&mut self.theirs, granule);
+                    self.ours.revoke(granule);
+                    self.theirs.revoke(granule);
                 }
             }
             Line::Run(steps) => self.run(*steps)?,
@@ -108,8 +88,9 @@ impl Running {
         if self.ours != ours || self.theirs != ours {
             return Err(format!("{steps} steps and a run leave different states"));
         }
-        self.retired = answer as u32 & 0xFF_FFFF;
-        self.trapped = (answer >> 24) as u32 & 0xFF_FFFF;
+        let answer = Answer::of(answer);
+        self.retired = answer.retired as u32;
+        self.trapped = answer.trapped as u32;
         Ok(())
     }
 
@@ -117,7 +98,7 @@ impl Running {
     fn found(&self, place: &Place) -> Result<Vec<u32>, String> {
         let state = &self.ours;
         let three = |at| {
-            let found: Capability = state.capability(at);
+            let found = state.capability(at);
             vec![found.address, found.metadata, found.tag]
         };
         match *place {
@@ -129,9 +110,9 @@ impl Running {
             Place::Control(at) => Ok(vec![state.regs[at]]),
             Place::Word(at) => Ok(state.word(at).into_iter().collect()),
             Place::Stored(at) => {
-                let offset = state.offset(at, 8).ok_or(format!("{at:x}: no memory"))?;
-                let tag = state.tags[offset / 64] >> (offset / 8 % 8) & 1;
-                let words = [state.word(at), state.word(at + 4), Some(tag.into())];
+                state.offset(at, 8).ok_or(format!("{at:x}: no memory"))?;
+                let tag = state.tagged(at.into()).into();
+                let words = [state.word(at), state.word(at + 4), Some(tag)];
                 Ok(words.into_iter().flatten().collect())
             }
             Place::Retired => Ok(vec![self.retired]),
@@ -147,7 +128,7 @@ fn capability(words: &[u32]) -> Capability {
             metadata,
             tag,
         },
-        _ => second::capability::NULL,
+        _ => Capability::integer(0),
     }
 }
 
@@ -155,19 +136,12 @@ fn capability(words: &[u32]) -> Capability {
 fn lend(state: &mut State, place: &Place, values: &[u32]) -> Result<(), String> {
     match *place {
         Place::Capability(at) => state.set(at, capability(values)),
-        Place::Integer(at) => state.set(at, capability(&[values[0], 0, 0])),
+        Place::Integer(at) => state.set(at, Capability::integer(values[0])),
         Place::Control(at) => state.regs[at] = values[0],
         Place::Word(at) => state.write(at, &values[0].to_le_bytes()),
         _ => return Err(format!("{place:?} is not lent")),
     }
     Ok(())
-}
-
-/// Sets the revocation bit of a granule.
-fn revoke(state: &mut State, address: u32) {
-    if let Some(offset) = state.offset(address, 8) {
-        state.revoked[offset / 64] |= 1 << (offset / 8 % 8);
-    }
 }
 
 /// The memory that a source asks for, before there are labels.

@@ -15,6 +15,7 @@
 //! a sum of them.
 
 use crate::tools::Symbols;
+use lent::{CONTROL, MSTATUS, PCC, SPECIAL};
 
 /// A place of the state.
 #[derive(Clone, PartialEq, Eq, Debug)]
@@ -88,16 +89,13 @@ fn assigned(text: &str, symbols: &Symbols) -> Result<(Place, Vec<u32>), String> 
     }
 }
 
-const SPECIAL: [&str; 5] = ["PCC", "MTCC", "MTDC", "MScratchC", "MEPCC"];
-const CONTROL: [&str; 3] = ["mstatus", "mcause", "mtval"];
-
 fn place(name: &str, symbols: &Symbols) -> Result<Place, String> {
     let index = |names: &[&str]| names.iter().position(|other| *other == name);
     if let Some(index) = index(&SPECIAL) {
-        return Ok(Place::Capability(16 + index));
+        return Ok(Place::Capability(PCC + index));
     }
     if let Some(index) = index(&CONTROL) {
-        return Ok(Place::Control(63 + index));
+        return Ok(Place::Control(MSTATUS + index));
     }
     if let Some((kind, address)) = name.split_once(' ') {
         let address = value(address, symbols)?;

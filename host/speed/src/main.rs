@@ -6,57 +6,29 @@
 
 mod programs;
 
-use programs::{lent, Lent, START};
+use lent::{Run, MOST_STEPS};
+use programs::ready;
 use std::time::Instant;
 
-/// The most steps of one run.
-const CHUNK: u32 = 1_000_000;
-/// Chunks of one timing, and how many timings of each are tried: the best counts.
-const CHUNKS: u32 = 20;
+/// Runs of one timing, and how many timings of each are tried: the best counts.
+const RUNS: u32 = 20;
 const TRIES: u32 = 5;
 
-fn run_proved(s: &mut Lent) -> u64 {
-    proved::run(
-        &mut s.regs,
-        START,
-        &mut s.mem,
-        &mut s.tags,
-        &s.revoked,
-        CHUNK,
-    )
-}
-
-fn run_second(s: &mut Lent) -> u64 {
-    second::run(
-        &mut s.regs,
-        START,
-        &mut s.mem,
-        &mut s.tags,
-        &s.revoked,
-        CHUNK,
-    )
-}
-
-type Engine = fn(&mut Lent) -> u64;
-
-/// Runs some chunks; every step must retire.
-fn run(engine: Engine, program: &str, chunks: u32) {
-    let mut state = lent(program).unwrap_or_else(|| panic!("no program {program}"));
-    for _ in 0..chunks {
-        assert_eq!(
-            engine(&mut state),
-            u64::from(CHUNK),
-            "{program}: a step trapped"
-        );
+/// Makes some runs of a million steps; every step must retire.
+fn run(engine: Run, program: &str, runs: u32) {
+    let mut state = ready(program).unwrap_or_else(|| panic!("no program {program}"));
+    for _ in 0..runs {
+        let answer = state.run(engine, MOST_STEPS);
+        assert_eq!(answer, MOST_STEPS.into(), "{program}: a step trapped");
     }
 }
 
 /// Millions of steps a second, the best of some tries.
-fn measure(engine: Engine, program: &str) -> f64 {
+fn measure(engine: Run, program: &str) -> f64 {
     let time = |_| {
         let begin = Instant::now();
-        run(engine, program, CHUNKS);
-        f64::from(CHUNKS) / begin.elapsed().as_secs_f64()
+        run(engine, program, RUNS);
+        f64::from(RUNS) / begin.elapsed().as_secs_f64()
     };
     (0..TRIES).map(time).fold(0.0, f64::max)
 }
@@ -64,8 +36,8 @@ fn measure(engine: Engine, program: &str) -> f64 {
 fn compare_all() {
     println!("program     proved  second  ratio   (millions of steps a second)");
     for program in ["integer", "memory", "capability"] {
-        let proved = measure(run_proved, program);
-        let second = measure(run_second, program);
+        let proved = measure(proved::run, program);
+        let second = measure(second::run, program);
         println!(
             "{program:<10} {proved:>7.1} {second:>7.1} {:>6.2}",
             proved / second
@@ -78,10 +50,9 @@ fn main() {
     match arguments.as_slice() {
         [] => compare_all(),
         [engine, program, millions] => {
-            let engine: Engine = if engine == "proved" {
-                run_proved
-            } else {
-                run_second
+            let engine: Run = match engine.as_str() {
+                "proved" => proved::run,
+                _ => second::run,
             };
             run(
                 engine,

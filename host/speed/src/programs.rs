@@ -1,20 +1,10 @@
 //! Three endless programs, as instruction words: integer work, memory work, capability work.
 
+use lent::{Capability, State, EXECUTABLE_ROOT, MEMORY_ROOT, MTCC, PCC};
+
 /// Where memory starts, and its size.
-pub const START: u32 = 0x2000_0000;
-pub const SIZE: usize = 4096;
-
-/// The executable root and the memory root (document 01, "Cases"), which cover the whole address space.
-const EXECUTABLE: u32 = 0x5E3E_0000;
-const MEMORY: u32 = 0x7E3E_0000;
-
-/// What is lent to a run.
-pub struct Lent {
-    pub regs: [u32; 66],
-    pub mem: Vec<u8>,
-    pub tags: Vec<u8>,
-    pub revoked: Vec<u8>,
-}
+const START: u32 = 0x2000_0000;
+const SIZE: usize = 4096;
 
 fn i_type(imm: u32, rs1: u32, funct3: u32, rd: u32, opcode: u32) -> u32 {
     imm << 20 | rs1 << 15 | funct3 << 12 | rd << 7 | opcode
@@ -65,22 +55,17 @@ fn words(name: &str) -> Option<[u32; 5]> {
 }
 
 /// A program ready to run from its first word.
-pub fn lent(name: &str) -> Option<Lent> {
+pub fn ready(name: &str) -> Option<State> {
     let words = words(name)?;
-    let mut state = Lent {
-        regs: [0; 66],
-        mem: vec![0; SIZE],
-        tags: vec![0; SIZE / 64],
-        revoked: vec![0; SIZE / 64],
-    };
+    let mut state = State::new(START, vec![0; SIZE]);
     let roots = [
-        (5, START + 0x100, MEMORY),
-        (8, START + 0x200, MEMORY),
-        (16, START, EXECUTABLE),
-        (17, START, EXECUTABLE),
+        (5, START + 0x100, MEMORY_ROOT),
+        (8, START + 0x200, MEMORY_ROOT),
+        (PCC, START, EXECUTABLE_ROOT),
+        (MTCC, START, EXECUTABLE_ROOT),
     ];
-    for (register, address, metadata) in roots {
-        state.regs[3 * register..3 * register + 3].copy_from_slice(&[address, metadata, 1]);
+    for (place, address, metadata) in roots {
+        state.set(place, Capability::tagged(address, metadata));
     }
     for (bytes, word) in state.mem.chunks_exact_mut(4).zip(words) {
         bytes.copy_from_slice(&word.to_le_bytes());

@@ -6,10 +6,10 @@ use crate::drive::{self, End, Outcome, Plan};
 use crate::image::{self, Image};
 use crate::names::Names;
 use crate::proved::{self, Counts, Refusal, MOST_STEPS};
-use crate::state::State;
 use crate::trap::Trap;
 use crate::{json, report, sheet, state_file, trace, Status};
 use indicatif::{ProgressBar, ProgressStyle};
+use lent::State;
 use std::io::Write;
 use std::path::Path;
 

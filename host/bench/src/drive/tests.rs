@@ -1,7 +1,7 @@
 //! Runs in calls against runs step by step.
 
 use super::*;
-use crate::state::{MCAUSE, PCC};
+use lent::{MCAUSE, PCC};
 
 const EBREAK: u32 = 0x0010_0073;
 const JUMP_TO_ITSELF: u32 = 0x0000_006F;
@@ -38,24 +38,21 @@ fn driven(state: &mut State, steps: u64, through_traps: bool) -> Outcome {
     run(state, plan(steps, through_traps, &mut |_, _, _| {})).unwrap()
 }
 
+fn counts(retired: u64, trapped: u64) -> Counts {
+    Counts { retired, trapped }
+}
+
 #[test]
 fn a_run_stops_at_the_exact_step_that_traps() {
     for rounds in (1..70).chain([1_000, 499_999, 500_000, 700_001, 3_000_000]) {
         let mut state = counting(rounds, EBREAK);
         let outcome = driven(&mut state, u64::MAX, false);
-        let retired = 2 * u64::from(rounds);
-        assert_eq!(
-            outcome.counts,
-            Counts {
-                retired,
-                trapped: 1
-            }
-        );
+        assert_eq!(outcome.counts, counts(2 * u64::from(rounds), 1));
         let End::Trap(before) = outcome.end else {
             panic!("no trap");
         };
         assert_eq!(before.capability(PCC).address, 0x2000_0008);
-        assert_eq!((before.word(MCAUSE), state.word(MCAUSE)), (0, 3));
+        assert_eq!((before.register(MCAUSE), state.register(MCAUSE)), (0, 3));
     }
 }
 
@@ -64,14 +61,7 @@ fn a_run_ends_where_the_program_stands_still() {
     for rounds in (1..70).chain([1_000, 600_000]) {
         let mut state = counting(rounds, JUMP_TO_ITSELF);
         let outcome = driven(&mut state, u64::MAX, false);
-        let retired = 2 * u64::from(rounds);
-        assert_eq!(
-            outcome.counts,
-            Counts {
-                retired,
-                trapped: 0
-            }
-        );
+        assert_eq!(outcome.counts, counts(2 * u64::from(rounds), 0));
         assert_eq!(outcome.end, End::Still);
     }
 }
@@ -95,11 +85,7 @@ fn a_run_makes_the_steps_asked_for_and_leaves_what_single_steps_leave() {
 fn a_run_through_traps_counts_them_all() {
     let mut state = counting(10, EBREAK);
     let outcome = driven(&mut state, 5_000, true);
-    let counts = Counts {
-        retired: 20,
-        trapped: 4_980,
-    };
-    assert_eq!(outcome.counts, counts);
+    assert_eq!(outcome.counts, counts(20, 4_980));
     assert_eq!(outcome.end, End::Steps);
 }
 

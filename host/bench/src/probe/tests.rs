@@ -1,6 +1,7 @@
 //! The probes against the second program.
 
 use super::*;
+use crate::sequence::Sequence;
 use second::capability;
 use second::decode::{decode, Instruction};
 
@@ -18,19 +19,6 @@ fn rights_and_types_of_every_code_are_the_second_programs() {
             capability::seal_type(metadata),
             "{metadata:08x}"
         );
-    }
-}
-
-/// Words of a fixed sequence.
-struct Sequence(u64);
-
-impl Sequence {
-    fn word(&mut self) -> u32 {
-        self.0 = self
-            .0
-            .wrapping_mul(6_364_136_223_846_793_005)
-            .wrapping_add(1);
-        (self.0 >> 32) as u32
     }
 }
 

@@ -5,7 +5,7 @@ use super::*;
 fn sample() -> State {
     let memory: Vec<u8> = (0..256u32).map(|place| (place * 7 % 31) as u8).collect();
     let mut state = State::reset(0x2000_0000, memory, 0x2000_0040);
-    state.memory[64..128].fill(0);
+    state.mem[64..128].fill(0);
     state.tags[3] = 0x81;
     state.revoked[0] = 0x10;
     state.regs[65] = 0xFFFF_FFFF;
@@ -22,7 +22,7 @@ fn what_is_written_is_read_again() {
     let odd = |regs: usize, memory: usize, tags: usize| State {
         regs: vec![5; regs],
         start: 4,
-        memory: vec![9; memory],
+        mem: vec![9; memory],
         tags: vec![1; tags],
         revoked: Vec::new(),
     };

@@ -3,24 +3,14 @@
 use super::*;
 use crate::capability_text::rights;
 use crate::names::Names;
-use crate::state::{EXECUTABLE_ROOT, MTCC};
+use crate::sequence::Sequence;
 use crate::{json, proved, report};
+use lent::{EXECUTABLE_ROOT, MTCC};
 
 const START: u32 = 0x2000_0000;
 const SIZE: u32 = 256;
 
-/// Words of a fixed sequence.
-struct Sequence(u64);
-
 impl Sequence {
-    fn word(&mut self) -> u32 {
-        self.0 = self
-            .0
-            .wrapping_mul(6_364_136_223_846_793_005)
-            .wrapping_add(1);
-        (self.0 >> 32) as u32
-    }
-
     fn below(&mut self, limit: u32) -> u32 {
         self.word() % limit
     }
@@ -67,11 +57,11 @@ impl Sequence {
         memory[64..68].copy_from_slice(&word.to_le_bytes());
         let mut state = State::reset(START, memory, START + 64);
         for place in 1..16 {
-            state.set_capability(place, self.capability());
+            state.set(place, self.capability());
         }
         match self.below(4) {
-            0 => state.set_capability(PCC, self.capability()),
-            1 => state.set_capability(
+            0 => state.set(PCC, self.capability()),
+            1 => state.set(
                 PCC,
                 Capability::tagged(START + 64, 0x2B << 25 | 0x50 << 9 | 0x40),
             ),
@@ -156,8 +146,8 @@ fn any_words_left_in_a_state_are_explained() {
     for _ in 0..20_000 {
         let mut state = sequence.state();
         let pcc = sequence.capability();
-        state.set_capability(MEPCC, pcc);
-        state.set_capability(MTCC, Capability::tagged(0, EXECUTABLE_ROOT));
+        state.set(MEPCC, pcc);
+        state.set(MTCC, Capability::tagged(0, EXECUTABLE_ROOT));
         state.regs[MCAUSE] = [sequence.below(32), sequence.word()][sequence.below(2) as usize];
         state.regs[MTVAL] = [sequence.below(2_048), sequence.word()][sequence.below(2) as usize];
         if let Some(trap) = Trap::recorded(&state) {

@@ -1,71 +1,50 @@
 //! States for the tests, and the text of their files, written from docs/STATE.md.
 
+use lent::{Capability, State, EXECUTABLE_ROOT, PCC};
 use std::fmt::Write;
 
-pub const PCC: usize = 16;
 pub const START: u32 = 0x2000_0000;
-pub const EXECUTABLE: u32 = 0x5E3E_0000;
-pub const MEMORY: u32 = 0x7E3E_0000;
 
 const NAMES: [&str; 5] = ["PCC", "MTCC", "MTDC", "MScratchC", "MEPCC"];
 
-pub struct State {
-    pub regs: Vec<u32>,
-    pub start: u32,
-    pub memory: Vec<u8>,
-    pub tags: Vec<u8>,
-    pub revoked: Vec<u8>,
+/// A state with code at its start, PCC there and null registers otherwise.
+pub fn with_code(code: &[u32]) -> State {
+    let mut memory: Vec<u8> = code.iter().flat_map(|word| word.to_le_bytes()).collect();
+    memory.resize(256, 0);
+    let mut state = State::new(START, memory);
+    state.set(PCC, Capability::tagged(START, EXECUTABLE_ROOT));
+    state
 }
 
-impl State {
-    /// A state with code at its start, PCC there and null registers otherwise.
-    pub fn new(code: &[u32]) -> State {
-        let mut memory: Vec<u8> = code.iter().flat_map(|word| word.to_le_bytes()).collect();
-        memory.resize(256, 0);
-        let mut state = State {
-            regs: vec![0; 66],
-            start: START,
-            memory,
-            tags: vec![0; 4],
-            revoked: vec![0; 4],
-        };
-        state.set(PCC, START, EXECUTABLE, 1);
-        state
+/// The text of a state's file.
+pub fn text(state: &State) -> String {
+    let mut text = format!("oddersnow state 1\nstart {:08x}\n", state.start);
+    let _ = writeln!(text, "registers {}", state.regs.len());
+    for (place, words) in state.regs.chunks(3).enumerate().take(21) {
+        let special = place
+            .checked_sub(16)
+            .map(|special| NAMES[special].to_string());
+        text.push_str(&special.unwrap_or(format!("c{place}")));
+        words
+            .iter()
+            .for_each(|word| write!(text, " {word:08x}").unwrap());
+        text.push('\n');
     }
-
-    pub fn set(&mut self, place: usize, address: u32, metadata: u32, tag: u32) {
-        self.regs[3 * place..3 * place + 3].copy_from_slice(&[address, metadata, tag]);
+    let last = ["mstatus", "mcause", "mtval"].into_iter();
+    for (name, word) in last.zip(state.regs.iter().skip(63)) {
+        let _ = writeln!(text, "{name} {word:08x}");
     }
-
-    pub fn text(&self) -> String {
-        let mut text = format!("oddersnow state 1\nstart {:08x}\n", self.start);
-        let _ = writeln!(text, "registers {}", self.regs.len());
-        for (place, words) in self.regs.chunks(3).enumerate().take(21) {
-            let special = place
-                .checked_sub(16)
-                .map(|special| NAMES[special].to_string());
-            text.push_str(&special.unwrap_or(format!("c{place}")));
-            words
-                .iter()
-                .for_each(|word| write!(text, " {word:08x}").unwrap());
-            text.push('\n');
-        }
-        let last = ["mstatus", "mcause", "mtval"].into_iter();
-        for (name, word) in last.zip(self.regs.iter().skip(63)) {
-            let _ = writeln!(text, "{name} {word:08x}");
-        }
-        let buffers = [
-            ("memory", &self.memory),
-            ("tags", &self.tags),
-            ("revoked", &self.revoked),
-        ];
-        for (name, bytes) in buffers {
-            let _ = writeln!(text, "{name} {}", bytes.len());
-            text.push_str(&rows(bytes));
-        }
-        let check = crc(text.as_bytes());
-        text + &format!("check {check:08x}\n")
+    let buffers = [
+        ("memory", &state.mem),
+        ("tags", &state.tags),
+        ("revoked", &state.revoked),
+    ];
+    for (name, bytes) in buffers {
+        let _ = writeln!(text, "{name} {}", bytes.len());
+        text.push_str(&rows(bytes));
     }
+    let check = crc(text.as_bytes());
+    text + &format!("check {check:08x}\n")
 }
 
 fn rows(bytes: &[u8]) -> String {

@@ -10,7 +10,8 @@ use compare::lists::{self, List};
 use compare::machines;
 use compare::options::Options;
 use compare::rows::Table;
-use compare::state::{Call, State};
+use compare::state::Call;
+use lent::State;
 use mutants::capability::Cut;
 use mutants::{select, MUTANTS};
 use std::process::ExitCode;
@@ -56,17 +57,7 @@ fn calls(list: &mut List) -> u32 {
 }
 
 fn machine(state: &mut State, call: Call) -> u64 {
-    let State {
-        regs,
-        start,
-        mem,
-        tags,
-        revoked,
-    } = state;
-    match call {
-        Call::Step => mutants::machine::step(regs, *start, mem, tags, revoked),
-        Call::Run(steps) => mutants::machine::run(regs, *start, mem, tags, revoked, steps),
-    }
+    call.on(state, mutants::machine::step, mutants::machine::run)
 }
 
 /// The case at which a comparison tells the selected machine from the right one.

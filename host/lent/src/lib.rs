@@ -1,0 +1,207 @@
+//! What is lent to a machine (document 01, "What is lent"), good or bad, and the answer. It knows no
+//! machine: each is a function on slices.
+
+#![forbid(unsafe_code)]
+
+mod answer;
+mod registers;
+
+pub use answer::{Answer, MOST_STEPS};
+pub use registers::*;
+
+/// The bytes of a granule, which has one tag and one revocation bit.
+pub const GRANULE: usize = 8;
+
+/// A machine's step: registers, start, memory, tags, revocation bits; its answer.
+pub type Step = fn(&mut [u32], u32, &mut [u8], &mut [u8], &[u8]) -> u64;
+/// A machine's run, with its number of steps after the rest.
+pub type Run = fn(&mut [u32], u32, &mut [u8], &mut [u8], &[u8], u32) -> u64;
+
+/// Everything that is lent.
+#[derive(Clone, PartialEq, Eq, Debug, Default)]
+pub struct State {
+    pub regs: Vec<u32>,
+    pub start: u32,
+    pub mem: Vec<u8>,
+    pub tags: Vec<u8>,
+    pub revoked: Vec<u8>,
+}
+
+/// The byte among the tags, and the bit in it, of the granule that holds an offset into memory; the
+/// revocation bits have the same order.
+fn bit_of(offset: usize) -> (usize, u8) {
+    let granule = offset / GRANULE;
+    (granule / 8, 1 << (granule % 8))
+}
+
+impl State {
+    /// Memory with null registers, and without tags or revoked granules.
+    pub fn new(start: u32, mem: Vec<u8>) -> State {
+        let bytes = mem.len() / (8 * GRANULE);
+        State {
+            regs: vec![0; WORDS],
+            start,
+            mem,
+            tags: vec![0; bytes],
+            revoked: vec![0; bytes],
+        }
+    }
+
+    /// The state at reset (the CHERIoT report, 7.3, Table 7.2 and 7.13): the roots, and null
+    /// registers.
+    pub fn reset(start: u32, mem: Vec<u8>, entry: u32) -> State {
+        let mut state = State::new(start, mem);
+        state.set(PCC, Capability::tagged(entry, EXECUTABLE_ROOT));
+        state.set(MTCC, Capability::tagged(0, EXECUTABLE_ROOT));
+        state.set(MTDC, Capability::tagged(0, MEMORY_ROOT));
+        state.set(MSCRATCHC, Capability::tagged(0, SEALING_ROOT));
+        state.set(MEPCC, Capability::tagged(0, EXECUTABLE_ROOT));
+        state
+    }
+
+    /// Makes a machine's step.
+    pub fn step(&mut self, step: Step) -> u64 {
+        let (mem, tags) = (&mut self.mem, &mut self.tags);
+        step(&mut self.regs, self.start, mem, tags, &self.revoked)
+    }
+
+    /// Makes a machine's run.
+    pub fn run(&mut self, run: Run, steps: u32) -> u64 {
+        let (mem, tags) = (&mut self.mem, &mut self.tags);
+        run(&mut self.regs, self.start, mem, tags, &self.revoked, steps)
+    }
+
+    /// A word of the register file, 0 past its end.
+    pub fn register(&self, index: usize) -> u32 {
+        self.regs.get(index).copied().unwrap_or(0)
+    }
+
+    /// The capability at a place, null past the end of the register file.
+    pub fn capability(&self, place: usize) -> Capability {
+        Capability {
+            address: self.register(3 * place),
+            metadata: self.register(3 * place + 1),
+            tag: self.register(3 * place + 2),
+        }
+    }
+
+    /// Puts a capability at a place, if the register file has it.
+    pub fn set(&mut self, place: usize, value: Capability) {
+        if let Some(words) = self.regs.get_mut(3 * place..3 * place + 3) {
+            words.copy_from_slice(&[value.address, value.metadata, value.tag]);
+        }
+    }
+
+    /// The address after memory's last byte.
+    pub fn end(&self) -> u64 {
+        u64::from(self.start) + self.mem.len() as u64
+    }
+
+    /// The place of an address in memory, if so many bytes are there.
+    pub fn offset(&self, address: u32, size: usize) -> Option<usize> {
+        let offset = address.checked_sub(self.start)? as usize;
+        (offset + size <= self.mem.len()).then_some(offset)
+    }
+
+    /// The byte at an address, if it is in memory.
+    pub fn byte(&self, address: u64) -> Option<u8> {
+        let offset = self.offset(u32::try_from(address).ok()?, 1)?;
+        self.mem.get(offset).copied()
+    }
+
+    /// The word at an address, if it is in memory.
+    pub fn word(&self, address: u32) -> Option<u32> {
+        let offset = self.offset(address, 4)?;
+        let bytes = self.mem.get(offset..)?.first_chunk()?;
+        Some(u32::from_le_bytes(*bytes))
+    }
+
+    /// Writes bytes if they are all in memory.
+    pub fn write(&mut self, address: u32, bytes: &[u8]) {
+        if let Some(offset) = self.offset(address, bytes.len()) {
+            self.mem[offset..offset + bytes.len()].copy_from_slice(bytes);
+        }
+    }
+
+    /// Writes a capability and its tag at a granule in memory.
+    pub fn write_capability(&mut self, address: u32, value: Capability) {
+        self.write(address, &value.address.to_le_bytes());
+        self.write(address.wrapping_add(4), &value.metadata.to_le_bytes());
+        self.set_tag(address, value.tag == 1);
+    }
+
+    /// Whether the granule that holds an address is in memory and tagged.
+    pub fn tagged(&self, address: u64) -> bool {
+        let address = u32::try_from(address).ok();
+        let offset = address.and_then(|address| self.offset(address, 1));
+        offset.map(bit_of).is_some_and(|(byte, bit)| {
+            let tags = self.tags.get(byte);
+            tags.is_some_and(|tags| tags & bit != 0)
+        })
+    }
+
+    /// Sets or clears the tag of a granule in memory.
+    pub fn set_tag(&mut self, address: u32, tag: bool) {
+        if let Some((byte, bit)) = self.offset(address, GRANULE).map(bit_of) {
+            if let Some(tags) = self.tags.get_mut(byte) {
+                *tags = if tag { *tags | bit } else { *tags & !bit };
+            }
+        }
+    }
+
+    /// Sets the revocation bit of a granule in memory.
+    pub fn revoke(&mut self, address: u32) {
+        if let Some((byte, bit)) = self.offset(address, GRANULE).map(bit_of) {
+            if let Some(revoked) = self.revoked.get_mut(byte) {
+                *revoked |= bit;
+            }
+        }
+    }
+}
+
+#[cfg(test)]
+mod tests {
+    use super::*;
+
+    const START: u32 = 0x2000_0000;
+
+    #[test]
+    fn a_capability_in_memory_is_its_words_and_its_granules_tag() {
+        let mut state = State::new(START, vec![0; 128]);
+        state.tags[1] = 0xFF;
+        state.write_capability(START + 72, Capability::integer(0x0403_0201));
+        state.write_capability(START + 16, Capability::tagged(5, MEMORY_ROOT));
+        assert_eq!(state.tags, [0b100, 0b1111_1101]);
+        assert_eq!(state.mem[72..77], [1, 2, 3, 4, 0]);
+        assert_eq!(state.word(START + 20), Some(MEMORY_ROOT));
+        let tagged = |offset| state.tagged(u64::from(START + offset));
+        assert_eq!([15, 16, 23, 24].map(tagged), [false, true, true, false]);
+        state.revoke(START + 127);
+        state.revoke(START + 120);
+        assert_eq!(state.revoked, [0, 0x80]);
+    }
+
+    #[test]
+    fn nothing_is_outside_memory() {
+        let mut state = State::new(0xFFFF_FFC0, vec![7; 64]);
+        state.tags[0] = 0xFF;
+        assert_eq!(state.word(0xFFFF_FFFC), Some(0x0707_0707));
+        assert_eq!(state.word(0xFFFF_FFFD), None);
+        assert_eq!(state.byte(0xFFFF_FFFF), Some(7));
+        assert_eq!([0, 1 << 32].map(|address| state.byte(address)), [None; 2]);
+        assert!(!state.tagged(1 << 32) && !state.tagged(0xFFFF_FFB8));
+        let before = state.clone();
+        state.write(0xFFFF_FFFE, &[1; 4]);
+        state.set_tag(0, false);
+        assert_eq!(state, before);
+    }
+
+    #[test]
+    fn a_short_register_file_has_null_for_what_it_lacks() {
+        let mut state = State::new(START, Vec::new());
+        state.regs = vec![9; 4];
+        assert_eq!(state.capability(1), Capability::integer(9));
+        state.set(1, Capability::tagged(1, 1));
+        assert_eq!(state.regs, [9; 4]);
+    }
+}
