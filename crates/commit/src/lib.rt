@@ -167,12 +167,12 @@ pub fn commit_effect(regs: &mut [u32], mem: &mut [u8], tags: &mut [u8], e: Effec
             true
         }
         Effect::Store { kind, at, value } => {
-            store(mem, tags, kind, at, value);
+            store(mem, tags, kind, at as usize, value);
             advance(regs);
             true
         }
         Effect::StoreCapability { at, value } => {
-            store_capability(mem, tags, at, value);
+            store_capability(mem, tags, at as usize, value);
             advance(regs);
             true
         }

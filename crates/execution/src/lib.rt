@@ -47,7 +47,7 @@ fn fetched_at(p: Place, regs: &[u32], start: u32, mem: &[u8], tags: &[u8], revok
         Place::Misaligned => fetch_trap(0, regs),
         Place::Outside => fetch_trap(1, regs),
         Place::At(at) => {
-            let word = words::load32(mem, at);
+            let word = words::load32(mem, at as usize);
             execute(
                 instructions::decode(word),
                 word,

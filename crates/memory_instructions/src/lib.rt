@@ -54,7 +54,7 @@ fn load_at(p: Place, kind: LoadKind, rd: u32, address: u32, mem: &[u8]) -> Effec
         Place::At(at) => Effect::Write {
             rd,
             value: Capability {
-                address: loaded_value(kind, mem, at),
+                address: loaded_value(kind, mem, at as usize),
                 metadata: 0,
                 tag: 0,
             },
@@ -189,7 +189,7 @@ fn load_capability_at(
             rd,
             value: filter(
                 authority,
-                state::capability_in(mem, tags, at),
+                state::capability_in(mem, tags, at as usize),
                 start,
                 mem,
                 tags,

@@ -16,7 +16,7 @@ use instructions::StoreKind;
 
 // Where an access of some bytes lies in memory.
 pub enum Place {
-    At(usize),
+    At(u32),
     Misaligned,
     Outside,
 }
@@ -30,11 +30,11 @@ pub enum Effect {
     },
     Store {
         kind: StoreKind,
-        at: usize,
+        at: u32,
         value: u32,
     },
     StoreCapability {
-        at: usize,
+        at: u32,
         value: Capability,
     },
     Jump {
@@ -227,8 +227,8 @@ fn aligned_place(start: u32, size: usize, address: u32, width: u32) -> Place
     ensures { λ r. ⌜ (r ≡ cond (leb start address && leb (address + width) (start + size)) (Place.At (address - start)) Place.Outside) × Within r width size ⌝ }
 {
     if start <= address {
-        let at = (address - start) as usize;
-        if at + width as usize <= size {
+        let at = address - start;
+        if at as usize + width as usize <= size {
             Place::At(at)
         } else {
             Place::Outside

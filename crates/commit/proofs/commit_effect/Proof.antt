@@ -37,6 +37,9 @@ advance-requires-2 c κs = search needs
 enum-known-e-2 : tie.Need-enum-known-e-2
 enum-known-e-2 c = search needs
 
+cast-store : tie.Need-cast-store
+cast-store c = search needs
+
 -- src/lib.rt:157:13
 store-requires : tie.Need-store-requires
 store-requires c κs = search needs
@@ -48,6 +51,9 @@ advance-requires-3 c κs = search needs
 -- src/lib.rt:161:35
 enum-known-e-3 : tie.Need-enum-known-e-3
 enum-known-e-3 c = search needs
+
+cast-store-capability : tie.Need-cast-store-capability
+cast-store-capability c = search needs
 
 -- src/lib.rt:162:13
 store-capability-requires : tie.Need-store-capability-requires
@@ -187,9 +193,11 @@ commit-effect-spec =
     write-register-requires
     advance-requires-2
     enum-known-e-2
+    cast-store
     store-requires
     advance-requires-3
     enum-known-e-3
+    cast-store-capability
     store-capability-requires
     advance-requires-4
     enum-known-e-4

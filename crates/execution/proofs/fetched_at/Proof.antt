@@ -30,6 +30,9 @@ fetch-trap-requires-2 c κs = search needs
 enum-known-p : tie.Need-enum-known-p
 enum-known-p c = search needs
 
+cast-load32 : tie.Need-cast-load32
+cast-load32 c = search needs
+
 -- src/lib.rt:76:17
 load32-requires : tie.Need-load32-requires
 load32-requires c κs = omega (arith, rw (c .before .p .given .1) at (c .before .before .before .before .before .before .before .pre .0))
@@ -66,6 +69,7 @@ fetched-at-spec =
     enum-told-2
     fetch-trap-requires-2
     enum-known-p
+    cast-load32
     load32-requires
     decode-requires
     execute-requires

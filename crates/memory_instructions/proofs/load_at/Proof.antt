@@ -19,6 +19,9 @@ enum-told-2 c = search needs
 enum-known-p : tie.Need-enum-known-p
 enum-known-p c = search needs
 
+cast-loaded-value : tie.Need-cast-loaded-value
+cast-loaded-value c = search needs
+
 -- src/lib.rt:57:26
 loaded-value-requires : tie.Need-loaded-value-requires
 loaded-value-requires c κs = omega (arith, rw (c .before .p .given .1) at (c .before .before .before .before .pre))
@@ -41,4 +44,4 @@ returns-3 c = simp (c .loaded-value .ensures, c .before .before .p .given .1)
 pub load-at-spec : {M : Type 1} → statement M
 load-at-spec =
     tie.close
-    (tie.spec enum-told enum-told-2 enum-known-p loaded-value-requires returns returns-2 returns-3)
+    (tie.spec enum-told enum-told-2 enum-known-p cast-loaded-value loaded-value-requires returns returns-2 returns-3)

@@ -19,6 +19,9 @@ enum-told-2 c = search needs
 enum-known-p : tie.Need-enum-known-p
 enum-known-p c = search needs
 
+cast-capability-in : tie.Need-cast-capability-in
+cast-capability-in c = search needs
+
 -- src/lib.rt:184:17
 capability-in-requires : tie.Need-capability-in-requires
 capability-in-requires c κs = (rw (c .before .p .given .1) at (c .before .before .before .before .before .before .pre .0), c .before .before .before .before .before .before .pre .1)
@@ -49,6 +52,7 @@ load-capability-at-spec =
     enum-told
     enum-told-2
     enum-known-p
+    cast-capability-in
     capability-in-requires
     filter-requires
     returns

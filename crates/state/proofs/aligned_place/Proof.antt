@@ -9,8 +9,8 @@ use Rattle.state.proofs.aligned_place.Reads as reads
 use Rattle.state.proofs.aligned_place.Lts as lts
 
 -- src/lib.rt:202:18
-cast-at : tie.Need-cast-at
-cast-at c = search needs
+cast-if2 : tie.Need-cast-if2
+cast-if2 c = search needs
 
 -- src/lib.rt:203:12
 add-if2 : tie.Need-add-if2
@@ -29,4 +29,4 @@ returns-3 : tie.Need-returns-3
 returns-3 c = (simp (lt-leb _ _ (c .if1 .left)), search needs)
 
 pub aligned-place-spec : {M : Type 1} → statement M
-aligned-place-spec = tie.close (tie.spec cast-at add-if2 returns returns-2 returns-3)
+aligned-place-spec = tie.close (tie.spec cast-if2 add-if2 returns returns-2 returns-3)
