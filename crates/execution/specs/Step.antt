@@ -44,7 +44,7 @@ fetchedAt Outside regs m = Trap 1 (pcOf regs)
 fetchedAt (At i) regs m = effectOf (decodeOf (leBytes 4 (m .mem) i)) (leBytes 4 (m .mem) i) regs m
 
 -- where the check of PCC gave that cause, or 0
-unfoldable pub fetched : (cause : ℕ) → (regs : List ℕ) → Lent → Effect
+abbrev pub fetched : (cause : ℕ) → (regs : List ℕ) → Lent → Effect
 fetched cause regs m = checked pccRegister cause (fetchedAt (placeOf (m .start) (length (m .mem)) (pcOf regs) instructionBytes) regs m)
 
 -- what the next step does

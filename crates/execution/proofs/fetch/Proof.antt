@@ -1,4 +1,3 @@
-use Rattle.execution.specs.Step.{fetched}
 use Rattle.state.specs.Checks.{checked}
 use Rattle.words.proofs.Tests.{tests}
 use borrow.Author.Needs.{needs}
@@ -6,11 +5,11 @@ use Rattle.execution.proofs.fetch.Statement.{statement}
 use Rattle.execution.proofs.fetch.Tie as tie
 
 returns : tie.Need-returns
-unfolding fetched checked
+unfolding checked
 returns c = simp (c .fetched-at .ensures, c .before .place-of .ensures .0, c .before .before .pcc-of .ensures, c .before .before .before .if1 .taken)
 
 returns-2 : tie.Need-returns-2
-unfolding fetched checked
+unfolding checked
 returns-2 c = search tests
 
 pub fetch-spec : {M : Type 1} → statement M
