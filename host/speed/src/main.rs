@@ -1,18 +1,18 @@
-//! Steps a second of the proved machine and of the second program on three long programs, in one process.
+//! Steps a second of the proved machine and of the second program on long programs, in one process.
 //!
-//!   speed                      all three programs on both, with their ratio
+//!   speed                      all programs on both, with their ratio
 //!   speed ENGINE PROGRAM STEPS one run and no times, for an instruction count by callgrind;
 //!                              ENGINE is proved or second, STEPS a number of millions
 
 mod programs;
 
 use lent::{Run, MOST_STEPS};
-use programs::ready;
+use programs::{ready, NAMES};
 use std::time::Instant;
 
-/// Runs of one timing, and how many timings of each are tried: the best counts.
-const RUNS: u32 = 20;
-const TRIES: u32 = 5;
+/// Runs of one timing, and how many timings of each are tried, turn by turn: the best counts.
+const RUNS: u32 = 10;
+const TRIES: u32 = 10;
 
 /// Makes some runs of a million steps; every step must retire.
 fn run(engine: Run, program: &str, runs: u32) {
@@ -23,21 +23,25 @@ fn run(engine: Run, program: &str, runs: u32) {
     }
 }
 
-/// Millions of steps a second, the best of some tries.
+/// Millions of steps a second.
 fn measure(engine: Run, program: &str) -> f64 {
-    let time = |_| {
-        let begin = Instant::now();
-        run(engine, program, RUNS);
-        f64::from(RUNS) / begin.elapsed().as_secs_f64()
-    };
-    (0..TRIES).map(time).fold(0.0, f64::max)
+    let begin = Instant::now();
+    run(engine, program, RUNS);
+    f64::from(RUNS) / begin.elapsed().as_secs_f64()
+}
+
+/// The best of some tries of each machine, by turns, so that what else the computer does meets both.
+fn best(program: &str) -> (f64, f64) {
+    (0..TRIES).fold((0.0, 0.0), |(proved, second): (f64, f64), _| {
+        let now = measure(proved::run, program);
+        (proved.max(now), second.max(measure(second::run, program)))
+    })
 }
 
 fn compare_all() {
     println!("program     proved  second  ratio   (millions of steps a second)");
-    for program in ["integer", "memory", "capability"] {
-        let proved = measure(proved::run, program);
-        let second = measure(second::run, program);
+    for program in NAMES {
+        let (proved, second) = best(program);
         println!(
             "{program:<10} {proved:>7.1} {second:>7.1} {:>6.2}",
             proved / second

@@ -1,10 +1,19 @@
-//! Three endless programs, as instruction words: integer work, memory work, capability work.
+//! Endless programs, as instruction words: integer work, memory work, capability work, and memory work
+//! through capabilities cut to memory.
 
 use lent::{Capability, State, EXECUTABLE_ROOT, MEMORY_ROOT, MTCC, PCC};
+
+/// The programs by name.
+pub const NAMES: [&str; 4] = ["integer", "memory", "capability", "bounded"];
 
 /// Where memory starts, and its size.
 const START: u32 = 0x2000_0000;
 const SIZE: usize = 4096;
+
+/// A root's metadata with the bounds of memory, E 4, T 256 and B 0 (in a root E is 15).
+fn cut_to_memory(root: u32) -> u32 {
+    root & !(0xF << 18) | 4 << 18
+}
 
 fn i_type(imm: u32, rs1: u32, funct3: u32, rd: u32, opcode: u32) -> u32 {
     imm << 20 | rs1 << 15 | funct3 << 12 | rd << 7 | opcode
@@ -34,7 +43,7 @@ fn words(name: &str) -> Option<[u32; 5]> {
             BACK,
         ],
         // lw c1, 0(c5); addi c1, c1, 1; sw c1, 0(c5); lb c6, 4(c5)
-        "memory" => [
+        "memory" | "bounded" => [
             i_type(0, 5, 2, 1, 0x03),
             i_type(1, 1, 0, 1, 0x13),
             s_type(1, 5, 2),
@@ -64,7 +73,11 @@ pub fn ready(name: &str) -> Option<State> {
         (PCC, START, EXECUTABLE_ROOT),
         (MTCC, START, EXECUTABLE_ROOT),
     ];
-    for (place, address, metadata) in roots {
+    for (place, address, root) in roots {
+        let metadata = match name {
+            "bounded" => cut_to_memory(root),
+            _ => root,
+        };
         state.set(place, Capability::tagged(address, metadata));
     }
     for (bytes, word) in state.mem.chunks_exact_mut(4).zip(words) {
