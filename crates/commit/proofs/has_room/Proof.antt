@@ -5,18 +5,13 @@ use borrow.Author.Tests.{le-leb, lt-leb}
 use native.Mathlib.Omega.{arith}
 use Rattle.commit.proofs.has_room.Statement.{statement}
 use Rattle.commit.proofs.has_room.Tie as tie
-use Rattle.commit.proofs.has_room.Reads as reads
-use Rattle.commit.proofs.has_room.Lts as lts
 
--- src/lib.rt:113:1
 returns : tie.Need-returns
 returns c = (sym (le-leb (c .before .before .args .at + c .before .before .args .n) (c .before .before .args .size) (omega arith)), λ h. omega arith)
 
--- src/lib.rt:113:1
 returns-2 : tie.Need-returns-2
 returns-2 c = (sym (lt-leb (c .before .before .args .at + c .before .before .args .n) (c .before .before .args .size) (omega arith)), λ h. absurd (false≢true h))
 
--- src/lib.rt:113:1
 returns-3 : tie.Need-returns-3
 returns-3 c = (sym (lt-leb (c .before .args .at + c .before .args .n) (c .before .args .size) (omega arith)), λ h. absurd (false≢true h))
 

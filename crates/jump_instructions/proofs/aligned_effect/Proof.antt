@@ -2,15 +2,11 @@ use Rattle.words.proofs.Tests.{tests}
 use Rattle.jump_instructions.specs.Jumps.{aligned}
 use Rattle.jump_instructions.proofs.aligned_effect.Statement.{statement}
 use Rattle.jump_instructions.proofs.aligned_effect.Tie as tie
-use Rattle.jump_instructions.proofs.aligned_effect.Reads as reads
-use Rattle.jump_instructions.proofs.aligned_effect.Lts as lts
 
--- src/lib.rt:39:1
 returns : tie.Need-returns
 unfolding aligned
 returns c = search tests
 
--- src/lib.rt:39:1
 returns-2 : tie.Need-returns-2
 unfolding aligned
 returns-2 c = search tests

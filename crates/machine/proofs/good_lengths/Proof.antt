@@ -1,14 +1,10 @@
 use Rattle.words.proofs.Tests.{tests}
 use Rattle.machine.proofs.good_lengths.Statement.{statement}
 use Rattle.machine.proofs.good_lengths.Tie as tie
-use Rattle.machine.proofs.good_lengths.Reads as reads
-use Rattle.machine.proofs.good_lengths.Lts as lts
 
--- src/lib.rt:184:9
 returns : tie.Need-returns
 returns c = search tests
 
--- src/lib.rt:180:1
 returns-2 : tie.Need-returns-2
 returns-2 c = search tests
 

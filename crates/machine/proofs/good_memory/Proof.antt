@@ -3,37 +3,26 @@ use Rattle.words.proofs.Tests.{tests}
 use borrow.Author.Needs.{needs}
 use Rattle.machine.proofs.good_memory.Statement.{statement}
 use Rattle.machine.proofs.good_memory.Tie as tie
-use Rattle.machine.proofs.good_memory.Reads as reads
-use Rattle.machine.proofs.good_memory.Lts as lts
 
--- src/lib.rt:136:9
 returns : tie.Need-returns
 unfolding goodMemory
 returns c = search tests
 
--- src/lib.rt:139:9
 returns-2 : tie.Need-returns-2
 unfolding goodMemory
 returns-2 c = search tests
 
--- src/lib.rt:142:9
 returns-3 : tie.Need-returns-3
 unfolding goodMemory
 returns-3 c = search tests
 
--- src/lib.rt:145:9
 returns-4 : tie.Need-returns-4
 unfolding goodMemory
 returns-4 c = search tests
 
--- src/lib.rt:147:5
-add-result : tie.Need-add-result
-add-result c = search needs
-
--- src/lib.rt:132:1
 returns-5 : tie.Need-returns-5
 unfolding goodMemory
 returns-5 c = search tests
 
 pub good-memory-spec : {M : Type 1} → statement M
-good-memory-spec = tie.close (tie.spec returns returns-2 returns-3 returns-4 add-result returns-5)
+good-memory-spec = tie.close (tie.spec returns returns-2 returns-3 returns-4 (λ c. search needs) returns-5)

@@ -7,8 +7,6 @@ use Rattle.machine.specs.Refusals.{goodTags}
 use Rattle.machine.proofs.Laws as laws
 use Rattle.machine.proofs.good_tags.Statement.{statement}
 use Rattle.machine.proofs.good_tags.Tie as tie
-use Rattle.machine.proofs.good_tags.Reads as reads
-use Rattle.machine.proofs.good_tags.Lts as lts
 
 abbrev Inv-loop : tie.InvT-loop
 Inv-loop regs i₀ i = (i ≤ 21) × (goodTags (21 - i) regs i ≡ goodTags 21 regs 0)
@@ -16,43 +14,33 @@ Inv-loop regs i₀ i = (i ≤ 21) × (goodTags (21 - i) regs i ≡ goodTags 21 r
 abbrev μ-loop : tie.MeasureT-loop
 μ-loop regs i₀ i = 21 - i
 
--- src/lib.rt:53:5
 loop-holds : tie.Need-loop-holds Inv-loop μ-loop
 loop-holds c = search needs
 
--- src/lib.rt:54:21
 mul-if1 : tie.Need-mul-if1 Inv-loop μ-loop
 mul-if1 c = search needs
 
--- src/lib.rt:54:21
 add-if1 : tie.Need-add-if1 Inv-loop μ-loop
 add-if1 c = search needs
 
--- src/lib.rt:54:16
 mul-if1-2 : tie.Need-mul-if1-2 Inv-loop μ-loop
 mul-if1-2 c = search needs
 
--- src/lib.rt:54:16
 shared-slice-read-if1 : tie.Need-shared-slice-read-if1 Inv-loop μ-loop
 shared-slice-read-if1 c = search needs
 
--- src/lib.rt:55:13
 returns : tie.Need-returns Inv-loop μ-loop
 returns c = sym (rw (lt-leb _ _ (c .if1 .taken)) at (laws.tags-turn (c .before .before .before .before .args .regs .now) (c .before .before .before .loop .i) (c .before .before .loop-test .taken))) ∙ c .before .before .before .loop .inv .1
 
--- src/lib.rt:57:9
 add-i : tie.Need-add-i Inv-loop μ-loop
 add-i c = search needs
 
--- src/lib.rt:53:5
 loop-less : tie.Need-loop-less Inv-loop μ-loop
 loop-less c = search needs
 
--- src/lib.rt:53:5
 loop-again : tie.Need-loop-again Inv-loop μ-loop
 loop-again c = (search needs, sym (rw (le-leb _ _ (c .if1 .left)) at (laws.tags-turn (c .before .before .before .before .args .regs .now) (c .before .before .before .loop .i) (c .before .before .loop-test .taken))) ∙ c .before .before .before .loop .inv .1)
 
--- src/lib.rt:48:1
 returns-2 : tie.Need-returns-2 Inv-loop μ-loop
 unfolding goodTags
 returns-2 c = let e : 21 - c .before .loop .i ≡ 0 = omega arith in rw e at (c .before .loop .inv .1)

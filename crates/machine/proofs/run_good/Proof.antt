@@ -9,10 +9,6 @@ use Rattle.machine.specs.Run.{ran, iterate}
 use Rattle.machine.proofs.Laws as laws
 use Rattle.machine.proofs.run_good.Statement.{statement}
 use Rattle.machine.proofs.run_good.Tie as tie
-use Rattle.machine.proofs.run_good.Reads as reads
-use Rattle.machine.proofs.run_good.Lts as lts
-use Rattle.execution.proofs.step_good.Reads as step-good-reads
-use Rattle.machine.proofs.one_if.Reads as one-if-reads
 
 abbrev Inv-loop : tie.InvT-loop
 Inv-loop regs₀ start mem₀ tags₀ revoked n retired₀ trapped₀ k₀ regs mem tags retired trapped k =
@@ -22,56 +18,43 @@ Inv-loop regs₀ start mem₀ tags₀ revoked n retired₀ trapped₀ k₀ regs 
 abbrev μ-loop : tie.MeasureT-loop
 μ-loop regs₀ start mem₀ tags₀ revoked n retired₀ trapped₀ k₀ regs mem tags retired trapped k = n - k
 
--- src/lib.rt:168:5
 loop-holds : tie.Need-loop-holds Inv-loop μ-loop
 unfolding iterate
 loop-holds c = (omega arith, omega arith, omega arith, omega arith, omega arith, omega arith, let e : c .before .before .before .before .args .n - 0 ≡ c .before .before .before .before .args .n = omega arith in rw e)
 
--- src/lib.rt:169:26
 step-good-requires : tie.Need-step-good-requires Inv-loop μ-loop
 step-good-requires c κs = record { registers = omega arith; granules = omega arith; revocation = omega arith }
 
--- src/lib.rt:169:13
 one-if-requires : tie.Need-one-if-requires Inv-loop μ-loop
 one-if-requires c κs = search needs
 
--- src/lib.rt:170:9
 add-retired : tie.Need-add-retired Inv-loop μ-loop
 add-retired c = omega arith
 
--- src/lib.rt:171:20
 sub-trapped : tie.Need-sub-trapped Inv-loop μ-loop
 sub-trapped c = omega arith
 
--- src/lib.rt:171:9
 add-trapped : tie.Need-add-trapped Inv-loop μ-loop
 add-trapped c = omega arith
 
--- src/lib.rt:172:9
 add-k : tie.Need-add-k Inv-loop μ-loop
 add-k c = omega arith
 
--- src/lib.rt:168:5
 loop-less : tie.Need-loop-less Inv-loop μ-loop
 loop-less c = omega arith
 
--- src/lib.rt:168:5
 loop-again : tie.Need-loop-again Inv-loop μ-loop
 loop-again c = (omega arith, omega arith, omega arith, omega arith, omega arith, omega arith, laws.run-turn _ _ _ _ _ _ _ _ _ (c .before .before .before .before .before .before .before .before .before .before .before .loop-test .taken) (c .before .before .before .before .before .before .before .step-good .ensures .1) (c .one-if .ensures .0 ∙ ap (λ b. cond b 1 0) (c .before .before .before .before .before .before .before .step-good .ensures .0)) (c .one-if .ensures .1 ∙ ap (λ b. cond b 0 1) (c .before .before .before .before .before .before .before .step-good .ensures .0)) ∙ c .before .before .before .before .before .before .before .before .before .before .before .before .loop .inv .6)
 
--- src/lib.rt:154:1
 same-length : tie.Need-same-length Inv-loop μ-loop
 same-length c = search needs
 
--- src/lib.rt:154:1
 same-length-2 : tie.Need-same-length-2 Inv-loop μ-loop
 same-length-2 c = search needs
 
--- src/lib.rt:154:1
 same-length-3 : tie.Need-same-length-3 Inv-loop μ-loop
 same-length-3 c = search needs
 
--- src/lib.rt:154:1
 returns : tie.Need-returns Inv-loop μ-loop
 unfolding iterate
 returns c = let e : c .before .before .before .before .before .before .args .n - c .before .loop .k ≡ 0 = omega arith in rw e at (c .before .loop .inv .6)

@@ -5,28 +5,15 @@ use borrow.Author.Tests.{le-leb, lt-leb}
 use borrow.Author.Needs.{needs}
 use Rattle.state.proofs.aligned_place.Statement.{statement}
 use Rattle.state.proofs.aligned_place.Tie as tie
-use Rattle.state.proofs.aligned_place.Reads as reads
-use Rattle.state.proofs.aligned_place.Lts as lts
 
--- src/lib.rt:202:18
-cast-if2 : tie.Need-cast-if2
-cast-if2 c = search needs
-
--- src/lib.rt:203:12
-add-if2 : tie.Need-add-if2
-add-if2 c = search needs
-
--- src/lib.rt:198:1
 returns : tie.Need-returns
 returns c = (simp (le-leb _ _ (c .before .if1 .taken), le-leb (c .before .before .args .address + c .before .before .args .width) (c .before .before .args .start + c .before .before .args .size) (omega (arith, c .before .if1 .taken, c .if2 .taken))), search needs)
 
--- src/lib.rt:198:1
 returns-2 : tie.Need-returns-2
 returns-2 c = (simp (le-leb _ _ (c .before .if1 .taken), lt-leb (c .before .before .args .address + c .before .before .args .width) (c .before .before .args .start + c .before .before .args .size) (omega (arith, c .before .if1 .taken, c .if2 .left))), search needs)
 
--- src/lib.rt:198:1
 returns-3 : tie.Need-returns-3
 returns-3 c = (simp (lt-leb _ _ (c .if1 .left)), search needs)
 
 pub aligned-place-spec : {M : Type 1} → statement M
-aligned-place-spec = tie.close (tie.spec cast-if2 add-if2 returns returns-2 returns-3)
+aligned-place-spec = tie.close (tie.spec (λ c. search needs) (λ c. search needs) returns returns-2 returns-3)

@@ -4,28 +4,14 @@ use Rattle.state.specs.Memory.{placeOf}
 use borrow.Author.Needs.{needs}
 use Rattle.state.proofs.place_of.Statement.{statement}
 use Rattle.state.proofs.place_of.Tie as tie
-use Rattle.state.proofs.place_of.Reads as reads
-use Rattle.state.proofs.place_of.Lts as lts
-use Rattle.state.proofs.aligned_place.Reads as aligned-place-reads
-use Rattle.state.proofs.remainder.Reads as remainder-reads
 
--- src/lib.rt:218:8
-remainder-requires : tie.Need-remainder-requires
-remainder-requires c κs = search needs
-
--- src/lib.rt:219:9
-aligned-place-requires : tie.Need-aligned-place-requires
-aligned-place-requires c κs = search needs
-
--- src/lib.rt:214:1
 returns : tie.Need-returns
 unfolding placeOf
 returns c = (simp (← (c .before .before .remainder .ensures), eq-eqb _ _ (c .before .if1 .taken)) (c .aligned-place .ensures .0), c .aligned-place .ensures .1)
 
--- src/lib.rt:214:1
 returns-2 : tie.Need-returns-2
 unfolding placeOf
 returns-2 c = (simp (← (c .before .remainder .ensures), ne-eqb _ _ (c .if1 .left)), search needs)
 
 pub place-of-spec : {M : Type 1} → statement M
-place-of-spec = tie.close (tie.spec remainder-requires aligned-place-requires returns returns-2)
+place-of-spec = tie.close (tie.spec (λ c κs. search needs) (λ c κs. search needs) returns returns-2)

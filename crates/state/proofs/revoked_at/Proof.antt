@@ -6,32 +6,18 @@ use Rattle.state.specs.Memory.{revokedAt}
 use borrow.Author.Needs.{needs}
 use Rattle.state.proofs.revoked_at.Statement.{statement}
 use Rattle.state.proofs.revoked_at.Tie as tie
-use Rattle.state.proofs.revoked_at.Reads as reads
-use Rattle.state.proofs.revoked_at.Lts as lts
-use Rattle.words.proofs.get_bit.Reads as get-bit-reads
 
--- src/lib.rt:243:18
-cast-at : tie.Need-cast-at
-cast-at c = search needs
-
--- src/lib.rt:245:13
-get-bit-requires : tie.Need-get-bit-requires
-get-bit-requires c κs = search needs
-
--- src/lib.rt:238:1
 returns : tie.Need-returns
 unfolding revokedAt
 returns c = simp (le-leb _ _ (c .before .before .if1 .taken), lt-ltb (c .before .before .before .before .args .address) (c .before .before .before .before .args .start + c .before .before .before .before .args .size) (omega (arith, c .before .before .if1 .taken, c .before .if2 .taken)), c .get-bit .ensures)
 
--- src/lib.rt:238:1
 returns-2 : tie.Need-returns-2
 unfolding revokedAt
 returns-2 c = simp (le-leb _ _ (c .before .if1 .taken), le-ltb (c .before .before .before .args .address) (c .before .before .before .args .start + c .before .before .before .args .size) (omega (arith, c .before .if1 .taken, c .if2 .left)))
 
--- src/lib.rt:238:1
 returns-3 : tie.Need-returns-3
 unfolding revokedAt
 returns-3 c = simp (lt-leb _ _ (c .if1 .left))
 
 pub revoked-at-spec : {M : Type 1} → statement M
-revoked-at-spec = tie.close (tie.spec cast-at get-bit-requires returns returns-2 returns-3)
+revoked-at-spec = tie.close (tie.spec (λ c. search needs) (λ c κs. search needs) returns returns-2 returns-3)

@@ -2,15 +2,11 @@ use Rattle.words.proofs.Tests.{tests}
 use Rattle.system_instructions.specs.System.{specialWrite}
 use Rattle.system_instructions.proofs.special_write.Statement.{statement}
 use Rattle.system_instructions.proofs.special_write.Tie as tie
-use Rattle.system_instructions.proofs.special_write.Reads as reads
-use Rattle.system_instructions.proofs.special_write.Lts as lts
 
--- src/lib.rt:67:1
 returns : tie.Need-returns
 unfolding specialWrite
 returns c = search tests
 
--- src/lib.rt:67:1
 returns-2 : tie.Need-returns-2
 unfolding specialWrite
 returns-2 c = search tests
