@@ -1,4 +1,5 @@
--- The plain machine: the last tag of a list is set exactly where every call kept it, and then the last capability lies inside the first. Assumes nothing.
+-- The plain machine: the last tag of a list is set exactly where every call kept it, and then the last capability lies inside the first; no list changes the type
+-- or the reserved bit, or sets a cleared tag again. Assumes nothing.
 use mathlib.Core.Path.{_≡_, refl, sym, _∙_}
 use mathlib.Core.Logic.{inl, inr}
 use mathlib.Core.Bool.{Bool, true, cond, _&&_}
@@ -6,17 +7,18 @@ use mathlib.Core.List.{List, [], _∷_}
 use Prim.Native.Nat.{ℕ, _+_, _^_, _<_}
 use native.Mathlib.Omega.{arith}
 use borrow.Author.Tests.{eqb-true}
+use Rattle.metadata.specs.Word.{reservedOf, typeOf}
 use Rattle.bounds.specs.Cutting.{unrounded}
 use Rattle.capability.specs.Capability.{tagged, unsealed, covers, sameBounds}
 use Rattle.capability.specs.declared.Capability.{Capability}
 use Rattle.capability.proofs.Laws as laws
 use Rattle.capability_laws.specs.Authority.{Authority, Inside}
 use Rattle.capability_laws.proofs.Tests.{both-true, kept}
-use Rattle.capability_laws.proofs.Changes.{cut-tag, exact-tag, move-tag}
+use Rattle.capability_laws.proofs.Changes.{cut-tag, exact-tag, move-tag, cut-changes, exact-metadata, move-changes, narrow-changes}
 use Rattle.capability_laws.proofs.Derived.{inside-refl, inside-trans, covers-contains, same-stays, unrounded-bounds, covered-sane, derive-cut, derive-exact, derive-move, derive-narrow}
 use Rattle.call_lists.specs.declared.Call.{Call}
 use Rattle.call_lists.specs.declared.Call.the-variants.{Cut, ExactCut, Move, Narrow}
-use Rattle.call_lists.specs.Calls.{step, run, trace, lastOf, Kept, AllKept, ListClaim}
+use Rattle.call_lists.specs.Calls.{step, run, trace, lastOf, Kept, AllKept, AllCleared, StaysCleared, ListClaim}
 
 -- lengths, addresses and masks are words
 abbrev pub argument : Call → ℕ
@@ -38,6 +40,29 @@ step-tag (Cut n) s = laws.set-bounds-kept s n
 step-tag (ExactCut n) s = laws.set-bounds-exact-kept s n
 step-tag (Move a) s = laws.move-kept s a
 step-tag (Narrow m) s = laws.narrow-kept s m
+
+-- so a cleared one stays cleared
+step-cleared : (c : Call) (s : Capability) → s .tag ≡ 0 → step c s .tag ≡ 0
+step-cleared c s h = still (step-tag c s)
+  where
+    still : laws.Kept (s .tag) (step c s .tag) → step c s .tag ≡ 0
+    still (inl e) = e ∙ h
+    still (inr e) = e
+
+-- type and reserved bit stay
+step-type : (c : Call) (s : Capability) → typeOf (step c s .metadata) ≡ typeOf (s .metadata)
+unfolding step
+step-type (Cut n) s = cut-changes s n .same-type
+step-type (ExactCut n) s = rw (exact-metadata s n) (cut-changes s n .same-type)
+step-type (Move a) s = rw (move-changes s a .1)
+step-type (Narrow m) s = narrow-changes s m .same-type
+
+step-reserved : (c : Call) (s : Capability) → reservedOf (step c s .metadata) ≡ reservedOf (s .metadata)
+unfolding step
+step-reserved (Cut n) s = cut-changes s n .same-reserved
+step-reserved (ExactCut n) s = rw (exact-metadata s n) (cut-changes s n .same-reserved)
+step-reserved (Move a) s = rw (move-changes s a .1)
+step-reserved (Narrow m) s = narrow-changes s m .same-reserved
 
 -- a call that keeps the tag of an authority gives an authority inside it
 pub step-authority : (c : Call) (s : Capability) → argument c < 2 ^ 32 → Authority s → Kept c s → Authority (step c s) × Inside s (step c s)
@@ -68,11 +93,28 @@ step-kept (Narrow m) s h g = tt
 pub cleared-stays : (cs : List Call) (s : Capability) → s .tag ≡ 0 → run cs s .tag ≡ 0
 unfolding run
 cleared-stays [] s h = h
-cleared-stays (c ∷ cs) s h = cleared-stays cs (step c s) (still (step-tag c s))
-  where
-    still : laws.Kept (s .tag) (step c s .tag) → step c s .tag ≡ 0
-    still (inl e) = e ∙ h
-    still (inr e) = e
+cleared-stays (c ∷ cs) s h = cleared-stays cs (step c s) (step-cleared c s h)
+
+all-cleared : (cs : List Call) (s : Capability) → s .tag ≡ 0 → AllCleared (trace cs s)
+unfolding trace
+all-cleared [] s h = tt
+all-cleared (c ∷ cs) s h = let k = step-cleared c s h in (k, all-cleared cs (step c s) k)
+
+-- wherever in the list it was cleared
+pub trace-cleared : (cs : List Call) (s : Capability) → StaysCleared (trace cs s)
+unfolding trace
+trace-cleared [] s = tt
+trace-cleared (c ∷ cs) s = (all-cleared cs (step c s), trace-cleared cs (step c s))
+
+pub run-type : (cs : List Call) (s : Capability) → typeOf (run cs s .metadata) ≡ typeOf (s .metadata)
+unfolding run
+run-type [] s = refl
+run-type (c ∷ cs) s = run-type cs (step c s) ∙ step-type c s
+
+pub run-reserved : (cs : List Call) (s : Capability) → reservedOf (run cs s .metadata) ≡ reservedOf (s .metadata)
+unfolding run
+run-reserved [] s = refl
+run-reserved (c ∷ cs) s = run-reserved cs (step c s) ∙ step-reserved c s
 
 authority-tag : (s : Capability) → Authority s → s .tag ≡ 1
 unfolding tagged
@@ -103,6 +145,9 @@ list-claim cs s w h =
     record {
       tag-set = (set-kept cs s w h, λ k. kept-set cs s w h k .0);
       inside = λ g. kept-set cs s w h (set-kept cs s w h g) .1;
+      same-type = run-type cs s;
+      same-reserved = run-reserved cs s;
+      stays-cleared = trace-cleared cs s;
     }
 
 -- the machine after a list is the last of what its calls returned

@@ -4,6 +4,7 @@ use mathlib.Core.List.{List, [], _∷_}
 use mathlib.Core.Path.{_≡_}
 use mathlib.Core.Logic.{_↔_}
 use Prim.Native.Nat.{_+_}
+use Rattle.metadata.specs.Word.{reservedOf, typeOf}
 use Rattle.bounds.specs.Bounds.{Contains}
 use Rattle.capability.specs.Capability.{low, high, moveOf, setBoundsOf, setBoundsExactOf, narrowOf}
 use Rattle.capability.specs.declared.Capability.{Capability}
@@ -49,9 +50,24 @@ abbrev pub AllKept : List Call → Capability → Type 0
 AllKept [] s = Unit {0}
 AllKept (c ∷ cs) s = Kept c s × AllKept cs (step c s)
 
+-- every tag is cleared
+abbrev pub AllCleared : List Capability → Type 0
+AllCleared [] = Unit {0}
+AllCleared (c ∷ cs) = (c .tag ≡ 0) × AllCleared cs
+
+-- after a tag that is cleared every tag is
+abbrev pub StaysCleared : List Capability → Type 0
+StaysCleared [] = Unit {0}
+StaysCleared (c ∷ cs) = (c .tag ≡ 0 → AllCleared cs) × StaysCleared cs
+
 -- of a list from s, whose last returned capability is `last`
 pub record ListClaim (cs : List Call) (s last : Capability) : Type 0 where
   -- the last tag is set exactly when every call kept it
   pub tag-set : (last .tag ≡ 1) ↔ AllKept cs s
   -- if it is set, the last capability lies inside the first and holds no right that the first lacked
   pub inside : last .tag ≡ 1 → Inside s last
+  -- "A cut changes only E, T, B and the tag, a move only the address and the tag, a narrowing only the six stored permission bits": type and reserved bit stay
+  pub same-type : typeOf (last .metadata) ≡ typeOf (s .metadata)
+  pub same-reserved : reservedOf (last .metadata) ≡ reservedOf (s .metadata)
+  -- "No call sets a cleared tag again"
+  pub stays-cleared : StaysCleared (trace cs s)

@@ -65,7 +65,8 @@ pub record Listed (c : Capability) (kinds values before after : List ℕ) (answe
   pub written : after ≡ outOf c kinds values before
   pub claim : (last : Capability) → answer ≡ Ran last → Authority c → ListClaim (callsOf kinds values) c last
 
--- the same with the answer as a number: the last capability is the last of those whose words were written, or c where there was no call
+-- The same with the answer as a number. `claim` is about the definitions alone: the last capability is `lastOf` of `trace`, or c where there was no call.
+-- `written` ties it to the program: the words left are those of `trace`.
 pub record ListedNumber (c : Capability) (kinds values before after : List ℕ) (number : ℕ) : Type 0 where
   pub answered : number ≡ answerNumber (answerOf c kinds values before)
   pub written : after ≡ outOf c kinds values before

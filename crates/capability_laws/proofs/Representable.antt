@@ -83,7 +83,7 @@ prop-setbounds-monotonic c d n m cw cs dw ds k =
     (cut-least (d .address) (d .address + m) dw p ds (cutLow b (b + n)) (cutHigh b (b + n)) (cut-expressible b (b + n) cw o cs)
     (rw (set-low c n cw cs, set-high c n cw cs) at k))
 
--- ---- prop_setaddr: the flag returned by setCapAddr, here the tag, says exactly whether the bounds remain unchanged. Of every unsealed capability.
+-- ---- prop_setaddr: the flag returned by setCapAddr, here the tag, says exactly whether the bounds remain unchanged. Of every tagged, unsealed capability.
 
 pub prop-setaddr : (c : Capability) (a : ℕ) → unsealed c ≡ true → c .tag ≡ 1
     → (moveOf c a .tag ≡ 1) ↔ (boundsOf a (c .metadata) ≡ boundsOf (c .address) (c .metadata))
@@ -138,3 +138,8 @@ prop-crrl-cram base n word length sane h =
       aligned e x k (cut-exponent 0 n) (short n length) (omega (arith, div-mul-le-self base (2 ^ e))) (round-end n length base sane),
       ≤up 0 n (omega arith) (omega arith) (omega arith) e,
     )
+
+-- the case that it leaves out: "CRoundRepresentableLength gives 0 where the rounded length is 2^32" (document 01)
+pub crrl-zero : (n : ℕ) → roundUp (cutExponent 0 n) n ≡ 2 ^ 32 → representableLength n ≡ 0
+unfolding representableLength
+crrl-zero n h = rw h

@@ -19,18 +19,18 @@ pub data Case : Type 0 where
   -- a base and a length give [low, high), which is exact, 1, or not, 0
   cut : (base length low high exact : ℕ) → Case
 
-pub holds : Case → Bool
+unfoldable pub holds : Case → Bool
 holds (bounds w a l h) = eqb (lowAt a w) l && eqb (highAt a w) h
 holds (rights w r) = eqb (wordRights w) r
 holds (narrowed w r k l) = eqb (wordRights w) r && eqb (wordRights (narrowWord w (2 ^ 12 - 1 - 2 ^ k))) l
 holds (cut b n l h e) =
     eqb (answerNumber (cutOf b n)) 0 && (eqb (answerLow (cutOf b n)) l && (eqb (answerHigh (cutOf b n)) h && eqb (answerExact (cutOf b n)) e))
 
-pub all : List Case → Bool
+unfoldable pub all : List Case → Bool
 all [] = true
 all (c ∷ cs) = holds c && all cs
 
-pub cases : List Case
+unfoldable pub cases : List Case
 cases =
     bounds 0x7E3E0000 0 0 0x100000000
     ∷ rights 0x7E3E0000 0x07F

@@ -1,4 +1,4 @@
--- An instruction whose result is an integer leaves no metadata and no tag in its register. Document 01, "What is lent". Assumes nothing.
+-- An instruction whose result is an integer leaves no metadata and no tag in its register. Document 01, "Tempting mistakes"; CHERIoT report, 7.3. Assumes nothing.
 use mathlib.Core.Path.{_≡_, refl, sym, _∙_}
 use mathlib.Core.Bool.{Bool, true, false, cond, true≢false}
 use mathlib.Core.List.{List}

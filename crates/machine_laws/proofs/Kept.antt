@@ -74,7 +74,7 @@ null-kept (WriteScr rd old scr value) = (elsewhere (rd % 16) old, elsewhere (scr
 null-kept (WriteCsr rd old csr value) = (elsewhere (rd % 16) (integer old), λ b. absurd (omega (arith, csr-place csr)))
 null-kept (Trap cause value) = (λ b. absurd (omega arith), λ b. absurd (omega arith))
 
--- a step never changes c0
+-- a c0 that is NULL before a step is NULL after it
 pub c0-stays : (start : ℕ) (revoked : List ℕ) (s : State) → ZeroRegister (s .regs) → ZeroRegister (stepOf start revoked s .regs)
 unfolding stepOf
 c0-stays start revoked s h =

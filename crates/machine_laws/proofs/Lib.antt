@@ -1,5 +1,6 @@
 -- Which lent buffers are refused: Refusals. What a step keeps, and that a run is its single steps: Kept, Runs, Bytes. What a trap changes: Traps.
--- What a step changes in memory, and where a tag comes from: Stores. Integer results: Integers. The other two serve them; worked cases are in specs/Cases.
+-- What a step changes in memory, and where a tag comes from: Stores. Integer results: Integers. Which wrong programs
+-- the promises of a step and a run shut out: ShutOut. The others serve them; worked cases are in specs/Cases.
 pub mod Fetch
 pub mod Registers
 pub mod Refusals
@@ -9,3 +10,6 @@ pub mod Bytes
 pub mod Traps
 pub mod Stores
 pub mod Integers
+pub mod Worked
+pub mod Later
+pub mod ShutOut

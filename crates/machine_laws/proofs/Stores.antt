@@ -1,4 +1,4 @@
--- What a step changes in memory, and that a tag is set by CSC alone. Document 01, "What is lent"; CHERIoT report, 7.6. Assumes nothing.
+-- What a step changes in memory, and that a tag is set by CSC alone. Document 01, "What is lent"; CHERIoT report, 7.7. Assumes nothing.
 use mathlib.Core.Path.{_≡_, refl, sym, ap, _∙_}
 use mathlib.Core.List.{List}
 use Prim.Native.Nat.{ℕ, _+_, _*_, _/_, _%_, _^_, _≤_}

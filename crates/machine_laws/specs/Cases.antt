@@ -40,7 +40,7 @@ p is v = record { place = p; value = v }
 abbrev pub register : (i : ℕ) → Capability → List Word → List Word
 register i c ws = (i * 3 is c .address) ∷ (i * 3 + 1 is c .metadata) ∷ (i * 3 + 2 is c .tag) ∷ ws
 
--- a machine before a step, its other words and bytes 0, and what the step leaves
+-- a machine before a step, MTCC at the handler and its other words and bytes 0, and what the step leaves
 pub record Case : Type 0 where
   pub start : ℕ
   pub pcc : Capability
@@ -68,18 +68,18 @@ data-at a = capability a 0x7E3E0000 1
 abbrev pub handler : Capability
 handler = execute 0x20000020
 
-pub before : Case → State
+unfoldable pub before : Case → State
 before c =
     state
     (setCapability (setCapability (setCapability (set (replicate 66 0) 63 (c .mstatus)) 1 (c .c1)) pccIndex (c .pcc)) mtccIndex handler)
     (set32 (set32 (set32 (replicate 64 0) 8 (c .held .address)) 12 (c .held .metadata)) (c .pcc .address - c .start) (c .instruction))
     (c .tags ∷ [])
 
-pub found : List Word → (regs : List ℕ) → Bool
+unfoldable pub found : List Word → (regs : List ℕ) → Bool
 found [] regs = true
 found (w ∷ ws) regs = eqb (getD regs (w .place) 0) (w .value) && found ws regs
 
-pub holds : Case → Bool
+unfoldable pub holds : Case → Bool
 holds c =
     eqb (stepNumber (stepAnswer (c .start) (c .revoked ∷ []) (before c))) 0
     && (eqb (stepRetired (stepAnswer (c .start) (c .revoked ∷ []) (before c))) (c .retired)
@@ -87,7 +87,7 @@ holds c =
     && (found (c .after) (stepAfter (c .start) (c .revoked ∷ []) (before c) .regs)
     && eqb (getD (stepAfter (c .start) (c .revoked ∷ []) (before c) .tags) 0 0) (c .tagsAfter))))
 
-pub all : List Case → Bool
+unfoldable pub all : List Case → Bool
 all [] = true
 all (c ∷ cs) = holds c && all cs
 
@@ -113,7 +113,7 @@ abbrev trap : (mepcc : Capability) → (cause value : ℕ) → List Word
 trap mepcc cause value = register 20 mepcc (register 16 handler ((63 is 0x80) ∷ (64 is cause) ∷ (65 is value) ∷ []))
 
 -- "A PCC of [0xFFFFF000, 2^32) with its address at 0xFFFFFFFC retires a no-op; the next PCC is untagged at 0."
-pub top-of-memory : Case
+unfoldable pub top-of-memory : Case
 top-of-memory =
     record {
       start = 0xFFFFFFC0;
@@ -133,7 +133,15 @@ top-of-memory =
 abbrev small : (tag : ℕ) → Capability
 small t = capability 0x20000018 0x7E004010 t
 
-pub cases : List Case
+-- LW c2, 0(c1) through an untagged c1: cause 2 of register 1
+unfoldable pub untagged-load : Case
+untagged-load = plain (integer 0x20000000) (integer 0) 0 0 0x0000A103 0 (trap (execute 0x20000000) 28 (1 * 32 + 2)) 0
+
+-- ECALL
+unfoldable pub environment-call : Case
+environment-call = plain (integer 0) (integer 0) 0 0 0x00000073 0 (trap (execute 0x20000000) 11 0) 0
+
+unfoldable pub cases : List Case
 cases =
     top-of-memory
     -- ADDI c1, c1, 1 on a capability: "no metadata and no tag"
@@ -147,16 +155,15 @@ cases =
     -- CLC c2, 8(c1): the revocation bit of the low bound's granule clears the tag, that of the address's does not; memory keeps its own
     ∷ plain (data-at 0x20000000) (small 1) 2 4 0x0080B103 1 (register 2 (small 0) []) 2
     ∷ plain (data-at 0x20000000) (small 1) 2 8 0x0080B103 1 (register 2 (small 1) []) 2
-    -- LW c2, 0(c1) through an untagged c1: cause 2 of register 1
-    ∷ plain (integer 0x20000000) (integer 0) 0 0 0x0000A103 0 (trap (execute 0x20000000) 28 (1 * 32 + 2)) 0
+    ∷ untagged-load
     -- LW c2, 2(c1): misaligned; LW c2, 64(c1): outside memory
     ∷ plain (data-at 0x20000000) (integer 0) 0 0 0x0020A103 0 (trap (execute 0x20000000) 4 0x20000002) 0
     ∷ plain (data-at 0x20000000) (integer 0) 0 0 0x0400A103 0 (trap (execute 0x20000000) 5 0x20000040) 0
-    -- ECALL, and a word that is no instruction
-    ∷ plain (integer 0) (integer 0) 0 0 0x00000073 0 (trap (execute 0x20000000) 11 0) 0
+    ∷ environment-call
+    -- a word that is no instruction
     ∷ plain (integer 0) (integer 0) 0 0 0xFFFFFFFF 0 (trap (execute 0x20000000) 2 0xFFFFFFFF) 0
     ∷ []
 
 pub cases-hold : T (all cases)
-unfolding all holds found before cases top-of-memory stepAnswer stepAfter refusalOf goodMemory goodTags goodZero stepOf nextEffect fetchedAt effectOf applyEffect retires setCapability writeRegister advanced trapped jumped stored retagged storedCapability systemEffect linkOf aligned targetCause jalEffect jumpEffect loadAt loadEffect storeAt storeEffect revokedValue filtered loadCapabilityAt loadCapabilityEffect storeCapabilityCheck storeCapabilityAt storeCapabilityEffect memoryEffect Integers.aluOf Integers.integerEffect checked accessCause placeOf capabilityIn revokedAt capabilityAt integerAt trapStatus legalized loadOf storeOf aluOf opImmOf jalOf wholeOf systemOf decodeOf immediateI immediateS immediateJ loseGlobal loseMutable loseTag loadedOf revocable withObjectType low high rights sealed tagged covers sameBounds moveOf exponentOf lowOf highOf lowAt highAt rightsOf permissionsOf typeOf scaleOf topOf baseOf withType signExtend leBytes setBytes bitAt withBit putBit
+unfolding all holds found before cases top-of-memory untagged-load environment-call stepAnswer stepAfter refusalOf goodMemory goodTags goodZero stepOf nextEffect fetchedAt effectOf applyEffect retires setCapability writeRegister advanced trapped jumped stored retagged storedCapability systemEffect linkOf aligned targetCause jalEffect jumpEffect loadAt loadEffect storeAt storeEffect revokedValue filtered loadCapabilityAt loadCapabilityEffect storeCapabilityCheck storeCapabilityAt storeCapabilityEffect memoryEffect Integers.aluOf Integers.integerEffect checked accessCause placeOf capabilityIn revokedAt capabilityAt integerAt trapStatus legalized loadOf storeOf aluOf opImmOf jalOf wholeOf systemOf decodeOf immediateI immediateS immediateJ loseGlobal loseMutable loseTag loadedOf revocable withObjectType low high rights sealed tagged covers sameBounds moveOf exponentOf lowOf highOf lowAt highAt rightsOf permissionsOf typeOf scaleOf topOf baseOf withType signExtend leBytes setBytes bitAt withBit putBit
 cases-hold = tt

@@ -1,4 +1,4 @@
--- What each effect leaves in memory, and where a tag can come from. Document 01, "What is lent"; CHERIoT report, 7.6 and 9.4 (CSC). Assumes nothing.
+-- What each effect leaves in memory, and where a tag can come from. Document 01, "What is lent"; CHERIoT report, 7.7 and 9.4 (CSC). Assumes nothing.
 use mathlib.Core.List.{List}
 use mathlib.Core.Path.{_≡_}
 use Prim.Native.Nat.{ℕ, _+_, _*_, _/_, _%_, _^_, _≤_}
@@ -31,7 +31,7 @@ pub record OnlyAt (i width tag : ℕ) (before after : State) : Type 0 where
 abbrev pub Bytes : (n i value : ℕ) → State → Type 0
 Bytes n i value s = leBytes n (s .mem) i ≡ value % 2 ^ (8 * n)
 
--- "non-capability stores clear the tag"; a stored capability is its address, its metadata and its tag
+-- "non-capability stores (e.g. csw) clear the tag bits for the capability-aligned region(s) they touch"; a stored capability is its address, its metadata and its tag
 abbrev pub MemoryAfter : Effect → (before after : State) → Type 0
 MemoryAfter Advance b a = SameMemory b a
 MemoryAfter (Write rd value) b a = SameMemory b a

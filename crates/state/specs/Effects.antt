@@ -1,4 +1,4 @@
--- What an effect may write: stores that touch one granule of memory, and tags of 0 or 1. Document 01, "What is lent"; CHERIoT report, 7.6. Assumes nothing.
+-- What an effect may write: stores that touch one granule of memory, and tags of 0 or 1. Document 01, "What is lent"; CHERIoT report, 7.7. Assumes nothing.
 use mathlib.Core.List.{List}
 use Prim.Native.Nat.{ℕ, _+_, _*_, _%_, _≤_, _<_}
 use lib.ListN.{getD}

@@ -1,0 +1,114 @@
+-- What the promise of a cut shuts out: it says that the answer is `cutOf`. Document 01, "Promises that pin the answer": "Show that each promise shuts out: ..
+-- a cutter that always gives the whole space, or always an empty region". Assumes nothing.
+use mathlib.Core.Path.{_≡_, ap, _∙_}
+use mathlib.Core.List.{List, [], _∷_}
+use Prim.Native.Nat.{ℕ, zero, suc, _+_, _^_, _≤_, _<_}
+use native.Mathlib.Omega.{arith}
+use lib.Dec.{T, eqb→eq}
+use Rattle.metadata.proofs.Table.{and-left, and-right}
+use Rattle.bounds.specs.Bounds.{Expressible, Contains}
+use Rattle.bounds.specs.Cutting.{cutLow, cutHigh, cutOf, answerNumber, answerLow, answerHigh}
+use Rattle.bounds.specs.declared.CutAnswer.{CutAnswer}
+use Rattle.bounds.specs.declared.CutAnswer.the-variants.{PastEnd}
+use Rattle.capability_laws.specs.Cases.{Case, bounds, rights, narrowed, cut, holds, all, cases, cases-hold}
+use Rattle.capability_laws.proofs.Region.{cut-contains, cut-least}
+use Rattle.capability_laws.proofs.Answers.{answer-region}
+
+-- the answer is [0, 2^32)
+abbrev pub WholeSpace : CutAnswer → Type 0
+WholeSpace a = (answerLow a ≡ 0) × (answerHigh a ≡ 2 ^ 32)
+
+-- ---- of every request that ends by 2^32
+
+module _ (base n : ℕ) (word : base < 2 ^ 32) (sane : base + n ≤ 2 ^ 32) (a : CutAnswer) (promised : a ≡ cutOf base n) where
+  low-is : answerLow a ≡ cutLow base (base + n)
+  low-is = ap answerLow promised ∙ answer-region base n word sane .0
+
+  high-is : answerHigh a ≡ cutHigh base (base + n)
+  high-is = ap answerHigh promised ∙ answer-region base n word sane .1
+
+  -- an empty region is answered only to an empty request
+  pub empty-only : answerHigh a ≤ answerLow a → n ≡ 0
+  empty-only h = omega (arith, h, low-is, high-is, cut-contains base (base + n) word (omega arith) sane)
+
+  -- the whole space is answered only where no smaller region is around the request
+  pub whole-only : WholeSpace a → (low high : ℕ) → Expressible low high → Contains low high base (base + n) → (low ≡ 0) × (2 ^ 32 ≤ high)
+  whole-only w low high r k =
+      let c = cut-least base (base + n) word (omega arith) sane low high r k in
+      (omega (arith, w .0, low-is, c), omega (arith, w .1, high-is, c))
+
+-- ---- two worked cases
+
+-- what a row of the table says of a cut
+record Row (base n low high : ℕ) : Type 0 where
+  number-is : answerNumber (cutOf base n) ≡ 0
+  low-at : answerLow (cutOf base n) ≡ low
+  high-at : answerHigh (cutOf base n) ≡ high
+
+abbrev Says : Case → Type 0
+Says (bounds w a l h) = Unit {0}
+Says (rights w r) = Unit {0}
+Says (narrowed w r k l) = Unit {0}
+Says (cut b n l h e) = Row b n l h
+
+says : (c : Case) → T (holds c) → Says c
+unfolding holds
+says (bounds w a l h) t = tt
+says (rights w r) t = tt
+says (narrowed w r k l) t = tt
+says (cut b n l h e) t =
+    record {
+      number-is = eqb→eq (answerNumber (cutOf b n)) 0 (search and-left);
+      low-at = eqb→eq (answerLow (cutOf b n)) l (search (and-left, and-right));
+      high-at = eqb→eq (answerHigh (cutOf b n)) h (search (and-left, and-right));
+    }
+
+abbrev SaysAt : List Case → (i : ℕ) → Type 0
+SaysAt [] i = Unit {0}
+SaysAt (c ∷ cs) zero = Says c
+SaysAt (c ∷ cs) (suc i) = SaysAt cs i
+
+row-at : (cs : List Case) (i : ℕ) → T (all cs) → SaysAt cs i
+unfolding all
+row-at [] i h = tt
+row-at (c ∷ cs) zero h = says c (and-left (holds c) (all cs) h)
+row-at (c ∷ cs) (suc i) h = row-at cs i (and-right (holds c) (all cs) h)
+
+row-511 : Row 0x20000001 511 0x20000001 0x20000200
+unfolding cases
+row-511 = row-at cases 6 cases-hold
+
+row-512 : Row 0x20000001 512 0x20000000 0x20000202
+unfolding cases
+row-512 = row-at cases 7 cases-hold
+
+-- ---- what no cutter that keeps the promise does
+
+module _ (a b : CutAnswer) (asked-511 : a ≡ cutOf 0x20000001 511) (asked-512 : b ≡ cutOf 0x20000001 512) where
+  -- "a cutter that always gives the whole space": neither request gets it
+  pub whole-space-shut-out : (WholeSpace a → ⊥) × (WholeSpace b → ⊥)
+  whole-space-shut-out = (
+    λ h. omega (arith, h .1, ap answerHigh asked-511, row-511 .high-at),
+    λ h. omega (arith, h .1, ap answerHigh asked-512, row-512 .high-at),
+  )
+
+  -- "or always an empty region": neither does
+  pub empty-region-shut-out : (answerHigh a ≤ answerLow a → ⊥) × (answerHigh b ≤ answerLow b → ⊥)
+  empty-region-shut-out = (
+    λ h. omega (arith, h, ap answerLow asked-511, ap answerHigh asked-511, row-511 .low-at, row-511 .high-at),
+    λ h. omega (arith, h, ap answerLow asked-512, ap answerHigh asked-512, row-512 .low-at, row-512 .high-at),
+  )
+
+  -- nor is any one region, low or high, that of both
+  pub one-region-shut-out : (answerLow a ≡ answerLow b → ⊥) × (answerHigh a ≡ answerHigh b → ⊥)
+  one-region-shut-out = (
+    λ h. omega (arith, h, ap answerLow asked-511, ap answerLow asked-512, row-511 .low-at, row-512 .low-at),
+    λ h. omega (arith, h, ap answerHigh asked-511, ap answerHigh asked-512, row-511 .high-at, row-512 .high-at),
+  )
+
+  -- nor a refusal
+  pub refusing-cut-shut-out : (a ≡ PastEnd → ⊥) × (b ≡ PastEnd → ⊥)
+  refusing-cut-shut-out = (
+    λ h. omega (arith, ap answerNumber h, ap answerNumber asked-511, row-511 .number-is),
+    λ h. omega (arith, ap answerNumber h, ap answerNumber asked-512, row-512 .number-is),
+  )

@@ -1,0 +1,224 @@
+-- What the promises of a step and of a run shut out. Document 01, "Promises that pin the answer": "Show that each promise shuts out: a machine that refuses
+-- everything; .. a step that changes nothing, or always reports the same trap; a run that does all its steps when asked for one; counts not equal to the
+-- retired and trapped steps of the definition." Each law names an answer, or buffers, with which no program keeps the promise. Assumes nothing.
+use mathlib.Core.Path.{_≡_, refl, sym, ap, _∙_}
+use mathlib.Core.Bool.{Bool, true, false, cond, true≢false}
+use mathlib.Core.List.{List, [], _∷_}
+use Prim.Native.Nat.{ℕ, zero, suc, _+_, _*_, _≤_}
+use native.Mathlib.Omega.{arith}
+use lib.Dec.{eqb, leb}
+use lib.ListN.{getD}
+use borrow.Author.Tests.{eqb-true, eqb-false, leb-true, leb-false}
+use Rattle.words.proofs.Word.{by-test}
+use Rattle.instructions.specs.declared.Csr.the-variants.{Mcause, Mtval}
+use Rattle.state.specs.Registers.{pccIndex, csrAt}
+use Rattle.commit.specs.Commit.{State, setCapability, retires}
+use Rattle.execution.specs.Step.{effectAt}
+use Rattle.machine.specs.Refusals.{refusalOf, runRefusal, mostSteps}
+use Rattle.machine.specs.Run.{stepAnswer, stepAfter, StepPromise, runAnswer, runAfter, RunPromise, stepNumber, stepRetired, runNumber, runRetired, runTrapped}
+use Rattle.machine.specs.declared.StepAnswer.{StepAnswer}
+use Rattle.machine.specs.declared.StepAnswer.the-variants.{Retired, Trapped, Refused}
+use Rattle.machine.specs.declared.RunAnswer.{RunAnswer}
+use Rattle.machine.specs.declared.RunAnswer.the-variants as RunAnswer
+use Rattle.machine_laws.specs.Cases.{Case, before, top-of-memory, untagged-load, environment-call}
+use Rattle.machine_laws.specs.Steps.{stepsAfter, retiredIn, trappedIn}
+use Rattle.machine_laws.proofs.Refusals.{refused-step, refused-alike, refused-run, too-many}
+use Rattle.machine_laws.proofs.Runs.{answers-counted, run-after, run-answer, run-of-none}
+use Rattle.machine_laws.proofs.Worked.{Worked, word-at, top-worked, load-worked, call-worked}
+use Rattle.machine_laws.proofs.Later.{later-pcc}
+
+-- ---- "a machine that refuses everything"
+
+abbrev isRefused : StepAnswer → Bool
+isRefused Retired = false
+isRefused Trapped = false
+isRefused (Refused n) = true
+
+abbrev isRefusedRun : RunAnswer → Bool
+isRefusedRun (RunAnswer.Ran r t) = false
+isRefusedRun (RunAnswer.Refused n) = true
+
+module _ (start : ℕ) (revoked : List ℕ) (s : State) where
+  answer-number : stepNumber (stepAnswer start revoked s) ≡ refusalOf start revoked s
+  unfolding stepAnswer
+  answer-number = go (eqb (refusalOf start revoked s) 0) refl (retires (effectAt start revoked s))
+    where
+      go : (t : Bool) → eqb (refusalOf start revoked s) 0 ≡ t → (r : Bool)
+          → stepNumber (cond t (cond r Retired Trapped) (Refused (refusalOf start revoked s))) ≡ refusalOf start revoked s
+      go true q true = sym (eqb-true (refusalOf start revoked s) 0 q)
+      go true q false = sym (eqb-true (refusalOf start revoked s) 0 q)
+      go false q r = refl
+
+  answer-good : refusalOf start revoked s ≡ 0 → isRefused (stepAnswer start revoked s) ≡ false
+  unfolding stepAnswer
+  answer-good good = rw good (go (retires (effectAt start revoked s)))
+    where
+      go : (r : Bool) → isRefused (cond r Retired Trapped) ≡ false
+      go true = refl
+      go false = refl
+
+  run-number-is : (n : ℕ) → runNumber (runAnswer n start revoked s) ≡ runRefusal n start revoked s
+  unfolding runAnswer
+  run-number-is n = go (eqb (runRefusal n start revoked s) 0) refl _ _
+    where
+      go : (t : Bool) → eqb (runRefusal n start revoked s) 0 ≡ t → (r c : ℕ)
+          → runNumber (cond t (RunAnswer.Ran r c) (RunAnswer.Refused (runRefusal n start revoked s))) ≡ runRefusal n start revoked s
+      go true q r c = sym (eqb-true (runRefusal n start revoked s) 0 q)
+      go false q r c = refl
+
+module _ (start : ℕ) (revoked : List ℕ) (from after : State) where
+  -- of every start state: the number answered is that of the refusal that applies, and 0 where none does
+  pub step-number : (a : StepAnswer) → StepPromise start revoked from after a → stepNumber a ≡ refusalOf start revoked from
+  step-number a p = ap stepNumber (p .answer-is) ∙ answer-number start revoked from
+
+  pub run-number : (n : ℕ) (a : RunAnswer) → RunPromise n start revoked from after a → runNumber a ≡ runRefusal n start revoked from
+  run-number n a p = ap runNumber (p .answer-is) ∙ run-number-is start revoked from n
+
+  -- so no good start state is refused, by any number
+  module _ (good : refusalOf start revoked from ≡ 0) where
+    pub good-step-not-refused : (k : ℕ) → StepPromise start revoked from after (Refused k) → ⊥
+    good-step-not-refused k p = true≢false (ap isRefused (p .answer-is) ∙ answer-good start revoked from good)
+
+    pub good-run-not-refused : (n k : ℕ) → n ≤ mostSteps → RunPromise n start revoked from after (RunAnswer.Refused k) → ⊥
+    good-run-not-refused n k few p = true≢false (ap isRefusedRun (p .answer-is ∙ run-answer start revoked n from good few))
+
+-- the promises at the start state of a worked case
+abbrev pub StepFrom : Case → (after : State) → StepAnswer → Type 0
+StepFrom c after a = StepPromise (c .start) (c .revoked ∷ []) (before c) after a
+
+abbrev pub RunFrom : (n : ℕ) → Case → (after : State) → RunAnswer → Type 0
+RunFrom n c after a = RunPromise n (c .start) (c .revoked ∷ []) (before c) after a
+
+worked-good : (c : Case) → Worked c → refusalOf (c .start) (c .revoked ∷ []) (before c) ≡ 0
+worked-good c w = sym (answer-number (c .start) (c .revoked ∷ []) (before c)) ∙ w .number-is
+
+top-good : refusalOf (top-of-memory .start) (top-of-memory .revoked ∷ []) (before top-of-memory) ≡ 0
+top-good = worked-good top-of-memory top-worked
+
+-- there is a start state that no step and no run of one refuses
+pub refusing-step-shut-out : (after : State) (k : ℕ) → StepFrom top-of-memory after (Refused k) → ⊥
+refusing-step-shut-out after k p = good-step-not-refused _ _ (before top-of-memory) after top-good k p
+
+pub refusing-run-shut-out : (after : State) (k : ℕ) → RunFrom 1 top-of-memory after (RunAnswer.Refused k) → ⊥
+refusing-run-shut-out after k p = good-run-not-refused _ _ (before top-of-memory) after top-good 1 k (omega arith) p
+
+-- ---- "a step that changes nothing"
+
+-- PCC's address: after the first worked case's step, and before it
+abbrev pccIn : State → ℕ
+pccIn s = getD (s .regs) (pccIndex * 3) 0
+
+pcc-after : (after : State) (a : StepAnswer) → StepFrom top-of-memory after a → pccIn after ≡ 0
+unfolding top-of-memory
+pcc-after after a p = ap (λ (l : List ℕ). getD l (pccIndex * 3) 0) (p .registers-are) ∙ word-at (top-of-memory .after) 0 _ (top-worked .words-are)
+
+pcc-before : pccIn (before top-of-memory) ≡ 0xFFFFFFFC
+unfolding top-of-memory before setCapability
+pcc-before = refl
+
+pub unchanging-step-shut-out : (a : StepAnswer) → StepFrom top-of-memory (before top-of-memory) a → ⊥
+unchanging-step-shut-out a p = omega (arith, pcc-before, pcc-after (before top-of-memory) a p)
+
+-- ---- a step that "always reports the same trap"
+
+-- one step does not trap, and one does not retire
+pub trapping-step-shut-out : (after : State) → StepFrom top-of-memory after Trapped → ⊥
+unfolding top-of-memory
+trapping-step-shut-out after p = omega (arith, ap stepRetired (p .answer-is), top-worked .retired-is)
+
+pub retiring-step-shut-out : (after : State) → StepFrom environment-call after Retired → ⊥
+unfolding environment-call
+retiring-step-shut-out after p = omega (arith, ap stepRetired (p .answer-is), call-worked .retired-is)
+
+-- of two steps that trap, no one mcause is left by both, and no one mtval
+pub one-cause-shut-out : (x y : State) (a b : StepAnswer) → StepFrom untagged-load x a → StepFrom environment-call y b
+    → csrAt (x .regs) Mcause ≡ csrAt (y .regs) Mcause → ⊥
+unfolding untagged-load environment-call
+one-cause-shut-out x y a b p q e =
+    omega (
+      arith,
+      ap (λ (l : List ℕ). csrAt l Mcause) (p .registers-are),
+      ap (λ (l : List ℕ). csrAt l Mcause) (q .registers-are),
+      word-at (untagged-load .after) 7 _ (load-worked .words-are),
+      word-at (environment-call .after) 7 _ (call-worked .words-are),
+    )
+
+pub one-value-shut-out : (x y : State) (a b : StepAnswer) → StepFrom untagged-load x a → StepFrom environment-call y b
+    → csrAt (x .regs) Mtval ≡ csrAt (y .regs) Mtval → ⊥
+unfolding untagged-load environment-call
+one-value-shut-out x y a b p q e =
+    omega (
+      arith,
+      ap (λ (l : List ℕ). csrAt l Mtval) (p .registers-are),
+      ap (λ (l : List ℕ). csrAt l Mtval) (q .registers-are),
+      word-at (untagged-load .after) 8 _ (load-worked .words-are),
+      word-at (environment-call .after) 8 _ (call-worked .words-are),
+    )
+
+-- ---- "a run that does all its steps when asked for one"; "counts not equal to the retired and trapped steps of the definition"
+
+module _ (start : ℕ) (revoked : List ℕ) (from after : State) where
+  one-step : runAfter 1 start revoked from ≡ stepAfter start revoked from
+  unfolding stepsAfter
+  one-step =
+      by-test (eqb (refusalOf start revoked from) 0)
+      (λ t. run-after start revoked 1 from (eqb-true (refusalOf start revoked from) 0 t) (omega arith))
+      (λ t. let h = eqb-false (refusalOf start revoked from) 0 t in
+      refused-run start revoked from 1 (λ e. h (sym (refused-alike start revoked from h 1) ∙ e)) ∙ sym (refused-step start revoked from h))
+
+  -- of every start state: a run of one leaves what the promise of a step says
+  pub run-of-one : (a : RunAnswer) → RunPromise 1 start revoked from after a → StepPromise start revoked from after (stepAnswer start revoked from)
+  run-of-one a p =
+      record {
+        answer-is = refl;
+        registers-are = p .registers-are ∙ ap (λ (s : State). s .regs) one-step;
+        memory-is = p .memory-is ∙ ap (λ (s : State). s .mem) one-step;
+        tags-are = p .tags-are ∙ ap (λ (s : State). s .tags) one-step;
+      }
+
+  module _ (n retired trapped : ℕ) (p : RunPromise n start revoked from after (RunAnswer.Ran retired trapped)) where
+    not-refused : runRefusal n start revoked from ≡ 0
+    not-refused = sym (run-number start revoked from after n (RunAnswer.Ran retired trapped) p)
+
+    ran-good : refusalOf start revoked from ≡ 0
+    ran-good =
+        by-test (eqb (refusalOf start revoked from) 0) (eqb-true (refusalOf start revoked from) 0)
+        (λ t. let h = eqb-false (refusalOf start revoked from) 0 t in absurd (h (sym (refused-alike start revoked from h n) ∙ not-refused)))
+
+    ran-few : n ≤ mostSteps
+    ran-few =
+        by-test (leb n mostSteps) (leb-true n mostSteps)
+        (λ t. absurd (omega (arith, not-refused, too-many start revoked from ran-good n (leb-false n mostSteps t))))
+
+    -- of every start state: the counts are those of the single steps, each with its own answer
+    pub counts-are : (retired ≡ retiredIn n start revoked from) × (trapped ≡ trappedIn n start revoked from)
+    counts-are =
+        let e = p .answer-is ∙ run-answer start revoked n from ran-good ran-few in
+        (ap runRetired e, ap runTrapped e)
+
+    -- and they make up the steps that were asked for: 1 where one was
+    pub counts-sum : retired + trapped ≡ n
+    counts-sum = omega (arith, counts-are .0, counts-are .1, answers-counted start revoked n from ran-good)
+
+-- where a run of n steps from the first worked case's start leaves PCC: at 0 only after one step
+abbrev ranTo : (n : ℕ) → State
+ranTo n = runAfter n (top-of-memory .start) (top-of-memory .revoked ∷ []) (before top-of-memory)
+
+pcc-of-one : (n : ℕ) → pccIn (ranTo n) ≡ 0 → n ≡ 1
+pcc-of-one zero h = absurd (omega (arith, h, ap pccIn (run-of-none _ _ (before top-of-memory) top-good .0), pcc-before))
+pcc-of-one (suc zero) h = refl
+pcc-of-one (suc (suc m)) h =
+    by-test (leb (suc (suc m)) mostSteps)
+    (λ t. absurd (omega (arith, h, ap pccIn (run-after _ _ (suc (suc m)) (before top-of-memory) top-good (leb-true (suc (suc m)) mostSteps t)), later-pcc m)))
+    (λ t. absurd (omega (arith, h, ap pccIn (past t), pcc-before)))
+  where
+    past : leb (suc (suc m)) mostSteps ≡ false → ranTo (suc (suc m)) ≡ before top-of-memory
+    past t =
+        let r = too-many (top-of-memory .start) (top-of-memory .revoked ∷ []) (before top-of-memory) top-good (suc (suc m)) (leb-false (suc (suc m)) mostSteps t) in
+        refused-run (top-of-memory .start) (top-of-memory .revoked ∷ []) (before top-of-memory) (suc (suc m)) (λ z. omega (arith, r, z))
+
+-- there is a start state from which no other number of steps leaves what one step leaves
+pub more-steps-shut-out : (n : ℕ) (after : State) (a b : RunAnswer) → RunFrom 1 top-of-memory after a → RunFrom n top-of-memory after b → n ≡ 1
+more-steps-shut-out n after a b p q =
+    let one = pcc-after after _ (run-of-one _ _ (before top-of-memory) after a p) in
+    pcc-of-one n (sym (ap (λ (l : List ℕ). getD l (pccIndex * 3) 0) (q .registers-are)) ∙ one)
