@@ -154,46 +154,42 @@ fn combine(what: Combination, c: Capability, d: Capability) -> Capability
     }
 }
 
+// A register written.
+fn write(rd: u32, value: Capability) -> Effect
+    ensures { λ r. ⌜ r ≡ Effect.Write rd value ⌝ }
+{
+    Effect::Write { rd, value }
+}
+
 pub fn capability_effect(i: CapabilityInstruction, regs: &[u32]) -> Effect
     requires { ⌜ length (now regs) ≡ registerWords ⌝ }
     ensures { λ r. ⌜ r ≡ capabilityEffect i (now (regs .entry)) ⌝ }
 {
     match i {
-        CapabilityInstruction::AuiPcc { rd, offset } => Effect::Write {
-            rd,
-            value: moved_by(state::pcc_of(regs), offset),
-        },
-        CapabilityInstruction::AuiCgp { rd, offset } => Effect::Write {
-            rd,
-            value: moved_by(state::register_at(regs, 3), offset),
-        },
-        CapabilityInstruction::IncAddrImm { rd, rs1, offset } => Effect::Write {
-            rd,
-            value: moved_by(state::register_at(regs, rs1), offset),
-        },
-        CapabilityInstruction::SetBoundsImm { rd, rs1, length } => Effect::Write {
-            rd,
-            value: capability::set_bounds(state::register_at(regs, rs1), length),
-        },
-        CapabilityInstruction::Move { rd, rs1 } => Effect::Write {
-            rd,
-            value: state::register_at(regs, rs1),
-        },
-        CapabilityInstruction::ClearTag { rd, rs1 } => Effect::Write {
-            rd,
-            value: capability::clear_tag(state::register_at(regs, rs1)),
-        },
-        CapabilityInstruction::Inspect { what, rd, rs1 } => Effect::Write {
-            rd,
-            value: integer_of(inspect(what, state::register_at(regs, rs1))),
-        },
-        CapabilityInstruction::Combine { what, rd, rs1, rs2 } => Effect::Write {
-            rd,
-            value: combine(
-                what,
-                state::register_at(regs, rs1),
-                state::register_at(regs, rs2),
-            ),
-        },
+        CapabilityInstruction::AuiPcc { rd, offset } => {
+            write(rd, moved_by(state::pcc_of(regs), offset))
+        }
+        CapabilityInstruction::AuiCgp { rd, offset } => {
+            write(rd, moved_by(state::register_at(regs, 3), offset))
+        }
+        CapabilityInstruction::IncAddrImm { rd, rs1, offset } => {
+            write(rd, moved_by(state::register_at(regs, rs1), offset))
+        }
+        CapabilityInstruction::SetBoundsImm { rd, rs1, length } => {
+            let c = state::register_at(regs, rs1);
+            write(rd, capability::set_bounds(c, length))
+        }
+        CapabilityInstruction::Move { rd, rs1 } => write(rd, state::register_at(regs, rs1)),
+        CapabilityInstruction::ClearTag { rd, rs1 } => {
+            write(rd, capability::clear_tag(state::register_at(regs, rs1)))
+        }
+        CapabilityInstruction::Inspect { what, rd, rs1 } => {
+            write(rd, integer_of(inspect(what, state::register_at(regs, rs1))))
+        }
+        CapabilityInstruction::Combine { what, rd, rs1, rs2 } => {
+            let c = state::register_at(regs, rs1);
+            let d = state::register_at(regs, rs2);
+            write(rd, combine(what, c, d))
+        }
     }
 }
