@@ -40,11 +40,15 @@ hex_files() {
 
 # The ELF files run as the HEX files do, and name the function.
 elf_files() {
-  local bench=$PWD/host/bench/target/release/bench board
+  local bench=$PWD/host/bench/target/release/bench examples=$PWD/examples board kind from
   for board in small large; do
-    (cd examples && "$bench" run --json --map "interlock_$board.map" "interlock_$board.hex" interlock_image.hex) >"$work/hex.json"
-    (cd "$work" && "$bench" run --json --map "$OLDPWD/examples/interlock_$board.map" "interlock_$board.elf" interlock_image.elf) >"$work/elf.json"
-    cmp "$work/hex.json" "$work/elf.json" || return 1
+    for kind in hex elf; do
+      from=$examples
+      [ "$kind" = hex ] || from=$work
+      (cd "$from" && "$bench" run --map "$examples/interlock_$board.map" --save "$work/$kind.state" \
+        "interlock_$board.$kind" "interlock_image.$kind") | sed 's/, byte [0-9]* of [a-z]*//g' >"$work/$kind.txt"
+    done
+    cmp "$work/hex.state" "$work/elf.state" && cmp "$work/hex.txt" "$work/elf.txt" || return 1
   done
   (cd "$work" && "$bench" run interlock_small.elf interlock_image.elf) | grep -F '2000010c, word fe113c23, byte 0 of plan'
 }

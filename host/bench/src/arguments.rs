@@ -106,11 +106,14 @@ pub struct Cap {
 
 /// A number: decimal, or hexadecimal after 0x.
 fn number(text: &str) -> Result<u64, String> {
-    let parsed = match text.strip_prefix("0x") {
-        Some(digits) => u64::from_str_radix(digits, 16),
-        None => text.parse(),
+    let (digits, radix) = match text.strip_prefix("0x") {
+        Some(digits) => (digits, 16),
+        None => (text, 10),
     };
-    parsed.map_err(|_| "not a decimal number, nor a hexadecimal one after 0x".into())
+    if digits.is_empty() || !digits.chars().all(|digit| digit.is_digit(radix)) {
+        return Err("not a decimal number, nor a hexadecimal one after 0x".into());
+    }
+    u64::from_str_radix(digits, radix).map_err(|_| "not below 2^64".into())
 }
 
 fn word(text: &str) -> Result<u32, String> {
@@ -123,5 +126,37 @@ fn size(text: &str) -> Result<u64, String> {
         Ok(size)
     } else {
         Err("more than 2^32".into())
+    }
+}
+
+#[cfg(test)]
+mod tests {
+    use super::*;
+
+    #[test]
+    fn numbers_are_decimal_or_hexadecimal_after_0x() {
+        let good = [("0", 0), ("007", 7), ("0x1F", 31), ("0xff", 255)];
+        for (text, value) in good {
+            assert_eq!(number(text), Ok(value), "{text}");
+        }
+        assert_eq!(number("18446744073709551615"), Ok(u64::MAX));
+        for text in [
+            "", "0x", "+5", "-5", "0x+5", "1_000", "1f", "0X1", " 1", "0xg",
+        ] {
+            assert!(
+                number(text).unwrap_err().starts_with("not a decimal"),
+                "{text}"
+            );
+        }
+    }
+
+    #[test]
+    fn a_number_that_is_too_large_is_said_to_be() {
+        for text in ["18446744073709551616", "0x10000000000000000"] {
+            assert_eq!(number(text), Err("not below 2^64".into()));
+        }
+        assert_eq!(word("0x100000000"), Err("not below 2^32".into()));
+        assert_eq!(size("0x100000001"), Err("more than 2^32".into()));
+        assert_eq!(size("0x100000000"), Ok(1 << 32));
     }
 }

@@ -24,14 +24,19 @@ pub fn rights(metadata: u32) -> Vec<&'static str> {
 
 /// The type in words (the CHERIoT report, 7.13.2).
 pub fn type_words(metadata: u32) -> String {
-    let executable = probe::rights(metadata) & EX != 0;
-    match (probe::seal_type(metadata), executable) {
+    match (probe::seal_type(metadata), is_sentry(metadata)) {
         (0, _) => "unsealed".into(),
         (1, true) => "sentry".into(),
         (2, true) => "sentry, interrupts off".into(),
         (3, true) => "sentry, interrupts on".into(),
         (number, _) => format!("sealed {number}"),
     }
+}
+
+/// Whether a metadata word is a sentry's.
+pub fn is_sentry(metadata: u32) -> bool {
+    let executable = probe::rights(metadata) & EX != 0;
+    executable && (1..=3).contains(&probe::seal_type(metadata))
 }
 
 /// Bounds as text.

@@ -7,7 +7,7 @@ use crate::capability_text::{length, region, rights, type_words};
 use crate::names::Names;
 use crate::proved::{self, Refusal};
 use crate::trap::Trap;
-use crate::{json, report, sheet, state_file, Status};
+use crate::{complain, file, json, report, sheet, state_file, Status};
 use lent::{Capability, State};
 use serde_json::Value;
 use std::io::{ErrorKind, Write};
@@ -46,14 +46,14 @@ fn refused(refusal: Refusal, as_json: bool) -> Result<Status, String> {
     if as_json {
         say_json(&json::refused(refusal))?;
     }
-    eprintln!("bench: refused, number {}: {}", refusal.0, refusal.reason());
+    let (number, reason) = (refusal.0, refusal.reason());
+    complain(&format!("refused, number {number}: {reason}"));
     Ok(Status::Refused)
 }
 
 fn read_state(path: &Path) -> Result<State, String> {
     let named = |reason: String| format!("{}: {reason}", path.display());
-    let bytes = std::fs::read(path).map_err(|error| named(error.to_string()))?;
-    state_file::read(&bytes).map_err(named)
+    state_file::read(&file::read(path)?).map_err(named)
 }
 
 fn read_names(path: Option<&Path>) -> Result<Names, String> {
@@ -68,10 +68,10 @@ fn explained(asked: &Explain) -> Result<Status, String> {
     }
     let trap = Trap::recorded(&state);
     if asked.json {
-        say_json(&json::explained(&state, trap.as_ref()))?;
+        say_json(&json::explained(&state, trap.as_ref(), &names))?;
     } else {
         let last = trap.map_or("No trap is recorded.\n".into(), |trap| {
-            report::recorded(&trap, &state, &names)
+            report::trap(&trap, &state, &names)
         });
         say(&format!("{last}\n{}", report::registers(&state)))?;
     }

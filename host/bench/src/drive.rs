@@ -25,13 +25,13 @@ pub struct Outcome {
 }
 
 /// What is asked of a run, and who is shown each call's counts, with the states before and after
-/// it.
+/// it, and answers whether the run is still wanted.
 pub struct Plan<'a> {
     pub steps: u64,
     pub through_traps: bool,
     /// The most steps of one call.
     pub call: u64,
-    pub watch: &'a mut dyn FnMut(&State, &State, Counts),
+    pub watch: &'a mut dyn FnMut(&State, &State, Counts) -> bool,
 }
 
 /// Runs a plan. A refused run changes nothing.
@@ -44,13 +44,13 @@ pub fn run(state: &mut State, plan: Plan) -> Result<Outcome, Refusal> {
         let steps = left.min(call);
         let before = state.clone();
         let made = proved::run(state, steps)?;
-        (plan.watch)(&before, state, made);
+        let wanted = (plan.watch)(&before, state, made);
         if stops(state, made, plan.through_traps)? {
             *state = before;
             return first_stop(state, steps, plan.through_traps, counts);
         }
         counts = sum(counts, made);
-        left -= steps;
+        left = if wanted { left - steps } else { 0 };
         call = (2 * call).min(most);
     }
     Ok(Outcome {

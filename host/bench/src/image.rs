@@ -3,6 +3,7 @@
 mod elf;
 mod hex;
 
+use crate::file;
 use crate::names::Name;
 use lent::{State, GRANULE};
 use std::path::Path;
@@ -20,17 +21,18 @@ pub enum Format {
     Hex,
 }
 
-/// Bytes at an address, and where in which file they come from.
+/// Bytes at an address, zeros after them, and where in which file they come from.
 #[derive(Clone, PartialEq, Eq, Debug)]
 pub struct Segment {
     pub address: u32,
     pub bytes: Vec<u8>,
+    pub zeros: u64,
     pub origin: String,
 }
 
 impl Segment {
     fn end(&self) -> u64 {
-        u64::from(self.address) + self.bytes.len() as u64
+        u64::from(self.address) + self.bytes.len() as u64 + self.zeros
     }
 
     fn shown(&self) -> String {
@@ -47,7 +49,7 @@ pub struct Image {
 
 /// Reads an image; raw bytes go to `start`.
 pub fn read(path: &Path, format: Format, start: u32) -> Result<Image, String> {
-    let bytes = std::fs::read(path).map_err(|error| format!("{}: {error}", path.display()))?;
+    let bytes = file::read(path)?;
     if bytes.is_empty() {
         return Err(format!("{}: the file is empty", path.display()));
     }
@@ -75,6 +77,7 @@ fn raw(bytes: Vec<u8>, address: u32) -> Image {
     let segment = Segment {
         address,
         bytes,
+        zeros: 0,
         origin: "raw bytes".into(),
     };
     Image {
@@ -122,7 +125,8 @@ fn no_overlap(segments: &[Segment]) -> Result<(), String> {
 }
 
 fn put(state: &mut State, segment: &Segment) {
-    state.write(segment.address, &segment.bytes);
+    let zeros = vec![0; segment.zeros as usize];
+    state.write(segment.address, &[&segment.bytes[..], &zeros].concat());
     let first = u64::from(segment.address) & !(GRANULE as u64 - 1);
     for granule in (first..segment.end()).step_by(GRANULE) {
         state.set_tag(granule as u32, false);

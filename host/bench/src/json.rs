@@ -2,13 +2,15 @@
 
 use crate::capability_text::{rights, type_words};
 use crate::drive::{End, Outcome};
+use crate::memory_rows::rows;
+use crate::names::Names;
 use crate::proved::{bounds, Refusal, Region};
-use crate::trap::{Asked, Authority, Trap};
+use crate::trap::{Action, Asked, Authority, Trap};
 use lent::{place_name, Capability, State, CAPABILITIES, MCAUSE, MSTATUS, MTVAL};
 use serde_json::{json, Value};
 
 /// A run that was made.
-pub fn run(state: &State, outcome: &Outcome, trap: Option<&Trap>) -> Value {
+pub fn run(state: &State, outcome: &Outcome, trap: Option<&Trap>, names: &Names) -> Value {
     let end = match outcome.end {
         End::Steps => "steps",
         End::Still => "still",
@@ -18,14 +20,17 @@ pub fn run(state: &State, outcome: &Outcome, trap: Option<&Trap>) -> Value {
         "retired": outcome.counts.retired,
         "trapped": outcome.counts.trapped,
         "end": end,
-        "trap": trap.map(self::trap),
+        "trap": trap.map(|trap| self::trap(trap, state, names)),
         "state": self::state(state),
     })
 }
 
 /// A saved state.
-pub fn explained(state: &State, trap: Option<&Trap>) -> Value {
-    json!({ "trap": trap.map(self::trap), "state": self::state(state) })
+pub fn explained(state: &State, trap: Option<&Trap>, names: &Names) -> Value {
+    json!({
+        "trap": trap.map(|trap| self::trap(trap, state, names)),
+        "state": self::state(state),
+    })
 }
 
 pub fn refused(refusal: Refusal) -> Value {
@@ -67,21 +72,40 @@ fn state(state: &State) -> Value {
     })
 }
 
-fn trap(trap: &Trap) -> Value {
+fn trap(trap: &Trap, state: &State, names: &Names) -> Value {
     json!({
+        "gone_on": trap.gone_on,
         "at": trap.pcc.address,
+        "names": places(trap.pcc.address, names),
         "word": trap.word,
         "cause": trap.cause,
         "mcause": trap.mcause,
         "mtval": trap.mtval,
-        "action": trap.action.noun(),
-        "asked": trap.asked.map(asked),
+        "action": (trap.action != Action::Other).then(|| trap.action.noun()),
+        "asked": trap.asked.map(|bytes| asked(bytes, state, names)),
         "authority": trap.authority.as_ref().map(authority),
     })
 }
 
-fn asked(asked: Asked) -> Value {
-    json!({ "address": asked.address, "size": asked.size })
+fn asked(asked: Asked, state: &State, names: &Names) -> Value {
+    let rows = rows(asked, state);
+    let memory = rows
+        .iter()
+        .map(|row| json!({ "address": row.address, "bytes": row.bytes, "tags": row.tags }));
+    json!({
+        "address": asked.address,
+        "size": asked.size,
+        "names": places(asked.address, names),
+        "memory": memory.collect::<Vec<Value>>(),
+    })
+}
+
+/// The named stretches that hold an address, and how far into each that is.
+fn places(address: u32, names: &Names) -> Vec<Value> {
+    let places = names.at(address);
+    places
+        .map(|(name, offset)| json!({ "name": name, "offset": offset }))
+        .collect()
 }
 
 fn authority(authority: &Authority) -> Value {

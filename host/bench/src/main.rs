@@ -3,13 +3,17 @@
 mod arguments;
 mod capability_text;
 mod command;
+mod digits;
 mod drive;
+mod file;
 mod image;
 mod json;
+mod memory_rows;
 mod names;
 mod probe;
 mod proved;
 mod report;
+mod save;
 #[cfg(test)]
 mod sequence;
 mod sheet;
@@ -19,6 +23,7 @@ mod trap;
 
 use arguments::Arguments;
 use clap::Parser;
+use std::io::Write;
 use std::process::ExitCode;
 
 /// The exit status.
@@ -30,10 +35,15 @@ pub enum Status {
     Bad = 3,
 }
 
+/// A message on standard error; where that can not be written, the exit status says it alone.
+fn complain(reason: &str) {
+    let _ = writeln!(std::io::stderr(), "bench: {reason}");
+}
+
 fn main() -> ExitCode {
     let status = match Arguments::try_parse() {
         Ok(arguments) => command::obey(arguments.command).unwrap_or_else(|reason| {
-            eprintln!("bench: {reason}");
+            complain(&reason);
             Status::Bad
         }),
         Err(usage) => {

@@ -17,6 +17,10 @@ const CGETPERM: u32 = 0xFE00_80DB;
 const CGETTYPE: u32 = 0xFE10_80DB;
 
 const FETCH_MISALIGNED: u32 = 0;
+/// The mcause of a capability check.
+pub const CAPABILITY_CHECK: u32 = 28;
+/// The one even target whose four bytes a root does not hold.
+const LAST_TARGET: u32 = 0xFFFF_FFFE;
 
 /// A scratch state with one word of code at `start` and one capability in c1.
 fn scratch(start: u32, word: u32, first: Capability) -> State {
@@ -85,6 +89,7 @@ fn target(mut state: State) -> Option<u32> {
     match (counts.retired, state.register(MCAUSE)) {
         (1, _) => Some(state.capability(PCC).address),
         (_, FETCH_MISALIGNED) => Some(state.register(MTVAL)),
+        (_, CAPABILITY_CHECK) => Some(LAST_TARGET),
         _ => None,
     }
 }

@@ -2,14 +2,13 @@
 
 use crate::capability_text::{count, grouped, is_integer, length, region, rights, type_words};
 use crate::drive::{End, Outcome};
+use crate::memory_rows::{rows, Row, ROW};
 use crate::names::Names;
 use crate::proved::bounds;
 use crate::trap::{Action, Asked, Authority, Trap};
-use lent::{place_name, Capability, State, CAPABILITIES, MCAUSE, MSTATUS, MTCC, MTVAL, PCC};
+use lent::{place_name, Capability, State, CAPABILITIES, GRANULE};
+use lent::{MCAUSE, MSTATUS, MTVAL, PCC};
 use std::fmt::Write;
-
-/// Bytes on a line of memory.
-const LINE: u64 = 16;
 
 /// The counts of a run, and how it ended.
 pub fn counts(state: &State, outcome: &Outcome) -> String {
@@ -26,7 +25,13 @@ pub fn counts(state: &State, outcome: &Outcome) -> String {
 
 /// A trap: where, the word, the cause, what was asked beside its bounds, and what lies there.
 pub fn trap(trap: &Trap, state: &State, names: &Names) -> String {
-    let mut text = format!("Trap: {}.\n\n", trap.cause);
+    let mut text = String::new();
+    if trap.gone_on {
+        text.push_str(
+            "The program has gone on since its last trap, and may have written registers since.\n",
+        );
+    }
+    let _ = writeln!(text, "Trap: {}.\n", trap.cause);
     let place = names.place(trap.pcc.address);
     let word = trap
         .word
@@ -49,20 +54,8 @@ pub fn trap(trap: &Trap, state: &State, names: &Names) -> String {
     text
 }
 
-/// The last trap that a state records, which the program may have left behind it.
-pub fn recorded(trap: &Trap, state: &State, names: &Names) -> String {
-    let handler = state.capability(MTCC).address & !3;
-    let gone_on = state.capability(PCC).address != handler;
-    let note = if gone_on {
-        "The program has gone on since its last trap, and may have written registers since.\n"
-    } else {
-        ""
-    };
-    format!("{note}{}", self::trap(trap, state, names))
-}
-
 fn asked_line(asked: Asked, trap: &Trap, names: &Names) -> String {
-    let end = u64::from(asked.address) + u64::from(asked.size);
+    let end = asked.end();
     let size = count(asked.size.into(), "byte");
     let what = match trap.action {
         Action::Jump => "target of the jump".into(),
@@ -106,7 +99,7 @@ fn authority_lines(authority: &Authority, asked: Option<Asked>) -> String {
 /// On which side of the bounds the request lies.
 fn distance(authority: &Authority, asked: Asked) -> String {
     let (address, bounds) = (u64::from(asked.address), authority.bounds);
-    let (low, end) = (u64::from(bounds.low), address + u64::from(asked.size));
+    let (low, end) = (u64::from(bounds.low), asked.end());
     if address < low {
         format!("starts {} below them", count(low - address, "byte"))
     } else if end > bounds.high {
@@ -116,58 +109,52 @@ fn distance(authority: &Authority, asked: Asked) -> String {
     }
 }
 
-/// The memory around a request, a line before and a line after it, with a mark below each byte
-/// asked for.
+/// The memory around a request, with a mark below each byte asked for.
 fn memory_there(asked: Asked, state: &State) -> String {
-    let first = u64::from(asked.address);
-    let end = first + u64::from(asked.size);
+    let rows = rows(asked, state);
     let mut text = String::from("\n  memory there\n");
-    if !(first..end).any(|address| state.byte(address).is_some()) {
-        let memory_end = state.end();
-        let _ = writeln!(
-            text,
-            "  none: memory is [{:08x}, {memory_end:08x})",
-            state.start
-        );
-        return text;
+    if rows.is_empty() {
+        let (start, end) = (state.start, state.end());
+        let _ = writeln!(text, "  none: memory is [{start:08x}, {end:08x})");
     }
-    for row in (first / LINE).saturating_sub(1)..=(end - 1) / LINE + 1 {
-        let row = row * LINE;
-        if (row..row + LINE).any(|address| state.byte(address).is_some()) {
-            text.push_str(&memory_line(row, state));
-            text.push_str(&marks(row, first, end));
-        }
+    for row in &rows {
+        text.push_str(&memory_line(row));
+        text.push_str(&marks(row.address, asked));
     }
     text
 }
 
 /// One line of memory: bytes, then the letters they are; a star stands before a tagged granule.
-fn memory_line(row: u64, state: &State) -> String {
-    let mut text = format!("  {row:08x} ");
+fn memory_line(row: &Row) -> String {
+    let mut text = format!("  {:08x} ", row.address);
     let mut letters = String::new();
-    for address in row..row + LINE {
-        let tagged = address.is_multiple_of(8) && state.tagged(address);
+    for (place, byte) in row.bytes.iter().enumerate() {
+        let tagged = place.is_multiple_of(GRANULE) && row.tags[place / GRANULE];
         text.push(if tagged { '*' } else { ' ' });
-        match state.byte(address) {
+        match byte {
             Some(byte) => {
                 let _ = write!(text, "{byte:02x}");
-                let shown = byte.is_ascii_graphic() || byte == b' ';
-                letters.push(if shown { byte.into() } else { '.' });
+                let shown = byte.is_ascii_graphic() || *byte == b' ';
+                letters.push(if shown { char::from(*byte) } else { '.' });
             }
-            None => text.push_str("--"),
+            None => {
+                text.push_str("--");
+                letters.push(' ');
+            }
         }
     }
-    format!("{text}  {letters}\n")
+    format!("{}\n", format!("{text}  {letters}").trim_end())
 }
 
-fn marks(row: u64, first: u64, end: u64) -> String {
-    let marked = |address| address >= first && address < end;
-    if !(row..row + LINE).any(marked) {
-        return String::new();
-    }
-    let marks = (row..row + LINE).map(|address| if marked(address) { " ^^" } else { "   " });
+fn marks(row: u64, asked: Asked) -> String {
+    let marked = |address| address >= u64::from(asked.address) && address < asked.end();
+    let places = row..row + ROW as u64;
+    let marks = places.map(|address| if marked(address) { " ^^" } else { "   " });
     let line: String = marks.collect();
-    format!("           {}\n", line.trim_end())
+    match line.trim_end() {
+        "" => String::new(),
+        marks => format!("           {marks}\n"),
+    }
 }
 
 /// The registers as one table.
@@ -197,4 +184,32 @@ fn register_line(name: &str, value: Capability) -> String {
     let kind = type_words(value.metadata);
     let held = rights(value.metadata).join(" ");
     format!("{start}{bounds:<22} {held:<21} {kind}\n")
+}
+
+#[cfg(test)]
+mod tests {
+    use super::*;
+
+    #[test]
+    fn memory_is_shown_as_far_as_it_reaches() {
+        let mut state = State::new(0x2000_0008, vec![b'a'; 64]);
+        state.set_tag(0x2000_0008, true);
+        let asked = Asked {
+            address: 0x2000_000C,
+            size: 4,
+        };
+        let shown = "
+  memory there
+  20000000  -- -- -- -- -- -- -- --*61 61 61 61 61 61 61 61          aaaaaaaa
+                                                ^^ ^^ ^^ ^^
+  20000010  61 61 61 61 61 61 61 61 61 61 61 61 61 61 61 61  aaaaaaaaaaaaaaaa
+";
+        assert_eq!(memory_there(asked, &state), shown);
+        let outside = Asked {
+            address: 0x2000_0048,
+            ..asked
+        };
+        let none = "\n  memory there\n  none: memory is [20000008, 20000048)\n";
+        assert_eq!(memory_there(outside, &state), none);
+    }
 }

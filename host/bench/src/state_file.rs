@@ -5,14 +5,17 @@
 #[cfg(test)]
 mod tests;
 
+use crate::digits::{pairs, word};
+use crate::file;
 use lent::{place_name, State, CAPABILITIES, CONTROL, MSTATUS, WORDS};
 use std::fmt::Write;
 
 const HEADER: &str = "oddersnow state 1";
 /// Bytes on a line.
 const LINE: usize = 32;
-/// The most elements of a buffer; more can not be lent.
-const MOST: u64 = 1 << 32;
+/// The most elements of a buffer that is read. It is far more than the machine takes, and still
+/// little to hold.
+const MOST: usize = 1 << 24;
 
 /// The text of a state.
 pub fn write(state: &State) -> String {
@@ -76,7 +79,7 @@ fn checksum(bytes: &[u8]) -> u32 {
 
 /// The state of a file's bytes, or what is wrong with them.
 pub fn read(bytes: &[u8]) -> Result<State, String> {
-    let text = std::str::from_utf8(bytes).map_err(|_| "it is not text".to_string())?;
+    let text = file::text(bytes)?;
     if text.lines().next() != Some(HEADER) {
         return Err(format!("line 1 is not \"{HEADER}\""));
     }
@@ -104,7 +107,7 @@ fn check(text: &str) -> Result<(), String> {
         .ok_or_else(cut_short)?;
     let (body, last) = text.split_at(body_end + 1);
     let digits = last.trim_end().strip_prefix("check ");
-    let said = digits.and_then(hex).ok_or_else(cut_short)?;
+    let said = digits.and_then(word).ok_or_else(cut_short)?;
     let found = checksum(body.as_bytes());
     if said == found {
         Ok(())
@@ -113,12 +116,6 @@ fn check(text: &str) -> Result<(), String> {
             "it is damaged: its check word is {said:08x}, its contents give {found:08x}"
         ))
     }
-}
-
-/// Eight hexadecimal digits.
-fn hex(digits: &str) -> Option<u32> {
-    let well_formed = digits.len() == 8 && digits.bytes().all(|byte| byte.is_ascii_hexdigit());
-    well_formed.then(|| u32::from_str_radix(digits, 16).ok())?
 }
 
 /// The lines that are still to be read, and the number of the last one that was.
@@ -130,7 +127,7 @@ struct Lines<'a> {
 impl<'a> Lines<'a> {
     fn state(&mut self) -> Result<State, ()> {
         self.next()?;
-        let start = hex(self.after("start")?).ok_or(())?;
+        let start = word(self.after("start")?).ok_or(())?;
         let regs = self.registers()?;
         let mem = self.bytes("memory")?;
         let tags = self.bytes("tags")?;
@@ -153,15 +150,15 @@ impl<'a> Lines<'a> {
     }
 
     /// The rest of a line that starts with a word and a space.
-    fn after(&mut self, word: &str) -> Result<&'a str, ()> {
-        let rest = self.next()?.strip_prefix(word).ok_or(())?;
+    fn after(&mut self, name: &str) -> Result<&'a str, ()> {
+        let rest = self.next()?.strip_prefix(name).ok_or(())?;
         rest.strip_prefix(' ').ok_or(())
     }
 
     /// A count of elements after its name.
     fn count(&mut self, name: &str) -> Result<usize, ()> {
-        let count: u64 = self.after(name)?.parse().map_err(|_| ())?;
-        usize::try_from(count.min(MOST)).map_err(|_| ())
+        let count: Option<usize> = self.after(name)?.parse().ok();
+        count.filter(|count| *count <= MOST).ok_or(())
     }
 
     fn registers(&mut self) -> Result<Vec<u32>, ()> {
@@ -169,9 +166,9 @@ impl<'a> Lines<'a> {
         let mut words = Vec::new();
         while words.len() < count {
             let row = self.after(&row_name(words.len()))?;
-            for digits in row.split(' ') {
-                words.push(hex(digits).ok_or(())?);
-            }
+            let expected = row_words(words.len()).min(count - words.len());
+            let read: Option<Vec<u32>> = row.split(' ').map(word).collect();
+            words.extend(read.filter(|read| read.len() == expected).ok_or(())?);
         }
         Ok(words)
     }
@@ -186,22 +183,11 @@ impl<'a> Lines<'a> {
                 break;
             }
             let (offset, digits) = self.next()?.split_once(' ').ok_or(())?;
-            let offset = hex(offset).ok_or(())? as usize;
+            let offset = word(offset).ok_or(())? as usize;
             let line = pairs(digits)?;
             let end = offset.checked_add(line.len()).ok_or(())?;
             bytes.get_mut(offset..end).ok_or(())?.copy_from_slice(&line);
         }
         Ok(bytes)
     }
-}
-
-/// The bytes of pairs of hexadecimal digits.
-pub fn pairs(digits: &str) -> Result<Vec<u8>, ()> {
-    let bytes = digits.as_bytes();
-    let well_formed = bytes.len().is_multiple_of(2) && bytes.iter().all(u8::is_ascii_hexdigit);
-    if !well_formed {
-        return Err(());
-    }
-    let pair = |at: usize| u8::from_str_radix(&digits[at..at + 2], 16).map_err(|_| ());
-    (0..bytes.len()).step_by(2).map(pair).collect()
 }

@@ -8,13 +8,13 @@ use lent::{place_name, Capability, State, CAPABILITIES, CONTROL, MSTATUS, PCC};
 /// The line of the step from `before` to `after`.
 pub fn line(number: u64, before: &State, after: &State, made: Counts) -> String {
     let pcc = before.capability(PCC);
-    let word = before.word(pcc.address);
-    let word = word.map_or("--------".into(), |word| format!("{word:08x}"));
-    let changes = if made.trapped > 0 {
-        vec![format!("trap: {}", Trap::of_step(before, after).cause)]
+    let (word, changes) = if made.trapped > 0 {
+        let trap = Trap::of_step(before, after);
+        (trap.word, vec![format!("trap: {}", trap.cause)])
     } else {
-        changes(before, after)
+        (before.word(pcc.address), changes(before, after))
     };
+    let word = word.map_or("--------".into(), |word| format!("{word:08x}"));
     let text = format!(
         "{number:>8}  {:08x}  {word}  {}",
         pcc.address,
@@ -38,8 +38,9 @@ fn changes(before: &State, after: &State) -> Vec<String> {
         }
     }
     changes.extend(memory_change(before, after));
-    let (old, new) = (before.capability(PCC), after.capability(PCC));
-    if new.address != old.address.wrapping_add(4) || new.tag != old.tag {
+    let (mut next, new) = (before.capability(PCC), after.capability(PCC));
+    next.address = next.address.wrapping_add(4);
+    if new != next {
         changes.push(format!("PCC := {}", shown(new)));
     }
     changes
@@ -61,6 +62,10 @@ fn memory_change(before: &State, after: &State) -> Option<String> {
         before.mem[granule.clone()] != after.mem[granule]
             || before.tagged(address) != after.tagged(address)
     };
+    // Most steps change none, and whole buffers are compared faster.
+    if before.mem == after.mem && before.tags == after.tags {
+        return None;
+    }
     let place = (0..before.mem.len() / 8).find(changed)?;
     let bytes = &after.mem[place * 8..place * 8 + 8];
     let digits: Vec<String> = bytes.iter().map(|byte| format!("{byte:02x}")).collect();

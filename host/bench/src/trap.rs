@@ -4,20 +4,20 @@
 #[cfg(test)]
 mod tests;
 
-use crate::probe;
+use crate::capability_text::is_sentry;
+use crate::probe::{self, CAPABILITY_CHECK};
 use crate::proved::{bounds, Region};
-use lent::{place_name, Capability, State, MCAUSE, MEPCC, MTVAL, PCC};
+use lent::{place_name, Capability, State, MCAUSE, MEPCC, MTCC, MTVAL, PCC};
 
 /// The name of PCC in mtval; a special register n is named by this plus n (the CHERIoT report,
 /// 7.11).
 const PCC_NAME: u32 = 32;
 /// The special register with the lowest number, MTCC (the CHERIoT report, Table 7.2).
 const FIRST_SPECIAL: u32 = 28;
-/// The mcause of a capability check.
-const CAPABILITY_CHECK: u32 = 28;
 
 // Capability causes (the CHERIoT report, Table 7.3).
 const BOUNDS: u32 = 1;
+const SEAL: u32 = 3;
 const SYSTEM_REGISTERS: u32 = 24;
 
 // The opcodes of what asks for an address.
@@ -56,6 +56,13 @@ pub struct Asked {
     pub size: u32,
 }
 
+impl Asked {
+    /// The address after the last byte, up to 2^32 + 7.
+    pub fn end(self) -> u64 {
+        u64::from(self.address) + u64::from(self.size)
+    }
+}
+
 /// The capability that the access was made by.
 #[derive(Clone, PartialEq, Eq, Debug)]
 pub struct Authority {
@@ -76,6 +83,8 @@ pub struct Trap {
     pub cause: String,
     pub authority: Option<Authority>,
     pub asked: Option<Asked>,
+    /// Whether the program has gone on since, and may have written what the trap left.
+    pub gone_on: bool,
 }
 
 impl Trap {
@@ -88,7 +97,11 @@ impl Trap {
     /// time, and the registers for what they were, unless the program has written them since.
     pub fn recorded(state: &State) -> Option<Trap> {
         let none = state.register(MCAUSE) == 0 && state.register(MTVAL) == 0;
-        (!none).then(|| Trap::new(state, state.capability(MEPCC)))
+        let handler = state.capability(MTCC).address & !3;
+        (!none).then(|| Trap {
+            gone_on: state.capability(PCC).address != handler,
+            ..Trap::new(state, state.capability(MEPCC))
+        })
     }
 
     fn new(after: &State, pcc: Capability) -> Trap {
@@ -106,9 +119,22 @@ impl Trap {
             cause: cause(mcause, mtval, action),
             authority,
             asked: None,
+            gone_on: false,
         };
         trap.asked = trap.asked(after);
+        if let Some(sentry) = trap.sentry() {
+            trap.cause = format!("jump at an offset by {sentry}, which is a sentry");
+        }
         trap
+    }
+
+    /// The sentry that a jump was refused by. It is sealed, but so it would be without the offset,
+    /// where the jump is made.
+    fn sentry(&self) -> Option<&str> {
+        let Authority { name, value, .. } = self.authority.as_ref()?;
+        let sealed = self.mcause == CAPABILITY_CHECK && self.mtval % 32 == SEAL;
+        let refused = sealed && self.action == Action::Jump && value.tag == 1;
+        (refused && is_sentry(value.metadata)).then_some(name)
     }
 
     /// The bytes that were asked for, as far as the cause has any.
@@ -230,7 +256,7 @@ fn checked_cause(name: u32, cause: u32, noun: &str) -> String {
     match cause {
         BOUNDS => format!("{noun} outside the bounds of {register}"),
         2 => format!("{noun} by {register}, which has no tag"),
-        3 => format!("{noun} by {register}, which is sealed"),
+        SEAL => format!("{noun} by {register}, which is sealed"),
         17 => format!("{noun} by {register}, which lacks the right to execute (EX)"),
         18 => format!("load by {register}, which lacks the right to load (LD)"),
         19 => format!("store by {register}, which lacks the right to store (SD)"),

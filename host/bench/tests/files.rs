@@ -4,7 +4,8 @@
 mod common;
 
 use common::words::{addi, EBREAK};
-use common::{bench_in, directory, golden, Answer};
+use common::{bench_in, directory, golden, shell_in, Answer};
+use serde_json::Value;
 use std::path::Path;
 
 /// Two instructions: c10 is 42, then a breakpoint.
@@ -87,6 +88,7 @@ fn each_form_is_loaded_and_run() {
         assert_eq!(answer.status, 1);
         assert_eq!(value["state"]["registers"][10]["address"], 42);
         assert_eq!(value["trap"]["mcause"], 3);
+        assert_eq!(value["trap"]["action"], Value::Null);
         assert_eq!(value["trap"]["at"], at);
     }
 }
@@ -165,6 +167,7 @@ fn odd_files_are_refused_by_name_and_place() {
         ("empty", Vec::new()),
         ("larger than memory", vec![0; 65_537]),
         ("hex cut short", cut_hex),
+        ("hex without data", b":00000001FF\n".to_vec()),
         ("hex with a wrong sum", wrong_sum.into_bytes()),
         ("hex that is not text", b":\xFF\xFE".to_vec()),
     ]);
@@ -187,6 +190,64 @@ fn overlapping_images_are_refused() {
         "overlapping",
         &bench_in(&directory, &["run", "first", "second"]).text(),
     );
+}
+
+#[test]
+fn a_segment_without_bytes_in_the_file_may_be_anywhere_there() {
+    let directory = directory("elf_bss");
+    let code_at = |address| Header {
+        address,
+        offset: 116,
+        in_file: 8,
+        in_memory: 8,
+    };
+    let bss = Header {
+        address: 0x2000_0200,
+        offset: 0x7FFF_FFFF,
+        in_file: 0,
+        in_memory: 64,
+    };
+    let bytes = elf(1, EXEC, RISCV, &[code_at(0x2000_0100), bss], &code());
+    assert_eq!(with_file(&directory, &bytes, &[]).status, 1);
+}
+
+/// The place of a segment is looked at before its zeros are made.
+#[test]
+fn a_segment_of_4_gigabytes_needs_no_memory() {
+    let directory = directory("elf_huge");
+    let huge = Header {
+        address: 0,
+        offset: 84,
+        in_file: 8,
+        in_memory: 0xFFFF_FFFF,
+    };
+    let bytes = elf(1, EXEC, RISCV, &[huge], &code());
+    std::fs::write(directory.join("image"), bytes).unwrap();
+    let answer = shell_in(&directory, "ulimit -v 1000000; exec $BENCH run image");
+    assert_eq!(answer.status, 3, "{}", answer.err);
+    let reason = "bench: image: segment 0 at [00000000, ffffffff): not all inside memory, \
+                  [20000000, 20010000)\n";
+    assert_eq!(answer.err, reason);
+}
+
+#[test]
+fn a_file_without_an_end_is_refused() {
+    let directory = directory("endless");
+    let answer = shell_in(&directory, "ulimit -v 2000000; exec $BENCH run /dev/zero");
+    assert_eq!(answer.status, 3);
+    let reason = "bench: /dev/zero: the file has more than 268435456 bytes\n";
+    assert_eq!(answer.err, reason);
+}
+
+#[test]
+fn a_bad_map_sheet_is_named_with_its_line_and_what_is_wrong() {
+    let directory = directory("bad_map");
+    std::fs::write(directory.join("image"), code()).unwrap();
+    let sheet = "region\tcode\t20000000\t00000400\trx\nregion\tdata\t200003ff\t00000400\trw\n";
+    std::fs::write(directory.join("map"), sheet).unwrap();
+    let answer = bench_in(&directory, &["run", "image", "--map", "map"]);
+    assert_eq!(answer.status, 3);
+    assert_eq!(answer.err, "bench: map: line 2: the region overlaps code\n");
 }
 
 #[test]
@@ -221,6 +282,8 @@ fn bad_usage_has_status_3_and_help_has_0() {
         &[][..],
         &["run"],
         &["run", "image", "--steps", "many"],
+        &["run", "image", "--steps", "+5"],
+        &["run", "image", "--steps", "18446744073709551616"],
         &["run", "image", "--start", "0x100000000"],
         &["run", "image", "--until-trap", "--through-traps"],
         &["run", "--state", "start", "--size", "64"],

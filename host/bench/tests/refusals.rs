@@ -3,7 +3,7 @@
 mod common;
 
 use common::state::{text, with_code};
-use common::{bench_in, directory, golden};
+use common::{bench_in, directory, golden, shell_in};
 use lent::State;
 
 /// A state that is refused, by name.
@@ -68,6 +68,21 @@ fn a_refused_memory_is_said_before_the_image_is_placed() {
             "{}",
             answer.err
         );
+    }
+}
+
+/// A computer with little memory refuses a large size by the same number, from a map sheet too.
+#[test]
+fn a_size_of_4_gigabytes_needs_no_memory() {
+    let directory = directory("refused_huge");
+    std::fs::write(directory.join("image"), [0x13, 0, 0, 0]).unwrap();
+    let sheet = "region\ta\t00000000\t00000040\trx\nregion\tb\tffffffc0\t00000040\trw\n";
+    std::fs::write(directory.join("map"), sheet).unwrap();
+    for memory in ["--size 0x100000000", "--map map"] {
+        let line = format!("ulimit -v 1000000; exec $BENCH run image {memory}");
+        let answer = shell_in(&directory, &line);
+        assert_eq!(answer.status, 2, "{memory}: {}", answer.err);
+        assert!(answer.err.starts_with("bench: refused, number 2: "));
     }
 }
 

@@ -3,8 +3,8 @@
 mod common;
 
 use common::state::{text, with_code, START};
-use common::words::{addi, cjal, store, EBREAK};
-use common::{bench_in, directory, examples, golden};
+use common::words::{addi, cjal, cjalr, store, EBREAK};
+use common::{bench_in, directory, examples, golden, shell_in};
 use lent::{Capability, State, EXECUTABLE_ROOT, MEMORY_ROOT, MTCC};
 use serde_json::json;
 
@@ -47,10 +47,22 @@ fn the_demonstration_as_json() {
     assert_eq!(trap["cause"], "store outside the bounds of c2");
     assert_eq!(trap["at"], 0x2000_010Cu32);
     assert_eq!(trap["word"], 0xFE11_3C23u32);
+    assert_eq!(trap["gone_on"], false);
+    assert_eq!(trap["names"], json!([{ "name": "image", "offset": 12 }]));
+    let asked = &trap["asked"];
     assert_eq!(
-        trap["asked"],
-        json!({ "address": 0x2000_0478u32, "size": 8 })
+        (&asked["address"], &asked["size"]),
+        (&json!(0x2000_0478u32), &json!(8))
     );
+    assert_eq!(
+        asked["names"],
+        json!([{ "name": "interlock", "offset": 120 }])
+    );
+    let rows = ["D12:SHUTD13:SHUT", "D14:SHUTD15:SHUT", &"\0".repeat(16)];
+    let memory = (0x2000_0460u32..).step_by(16).zip(rows).map(|(address, row)| {
+        json!({ "address": address, "bytes": row.as_bytes(), "tags": [false, false] })
+    });
+    assert_eq!(asked["memory"], json!(memory.collect::<Vec<_>>()));
     let bounds = json!({ "low": 0x2000_0480u32, "high": 0x2000_0800u32 });
     assert_eq!(trap["authority"]["bounds"], bounds);
     assert_eq!(trap["authority"]["name"], "c2");
@@ -158,6 +170,87 @@ fn the_trace_has_a_line_a_step() {
     assert_eq!(json.json()["retired"], 4);
     assert_eq!(json.err.lines().count(), 5);
     assert!(answer.out.starts_with(&json.err));
+}
+
+/// A program that jumps to the next word, into narrower bounds, and then fetches past them.
+#[test]
+fn the_trace_shows_new_bounds_of_pcc_and_no_word_that_was_not_fetched() {
+    let directory = directory("trace_bounds");
+    let mut state = with_code(&[cjalr(0), addi(10, 0, 7), EBREAK]);
+    let narrow = EXECUTABLE_ROOT & !0x3F_FFFF | 8 << 9 | 4;
+    state.set(2, Capability::tagged(START + 4, narrow));
+    std::fs::write(directory.join("start"), text(&state)).unwrap();
+    let answer = bench_in(&directory, &["run", "--state", "start", "--trace"]);
+    let lines: Vec<&str> = answer.out.lines().take(3).collect();
+    let said = [
+        "       1  20000000  000100e7  c1 := 20000004 [00000000, 100000000), \
+         PCC := 20000004 [20000004, 20000008)",
+        "       2  20000004  00700513  c10 := 00000007",
+        "       3  20000008  --------  trap: fetch outside the bounds of PCC",
+    ];
+    assert_eq!(lines, said);
+}
+
+/// An endless loop: whoever has read enough is not kept waiting, but a state is saved all the same.
+#[test]
+fn a_trace_ends_with_its_reader() {
+    let directory = directory("trace_reader");
+    let state = with_code(&[addi(10, 10, 1), 0xFFDF_F06F]);
+    std::fs::write(directory.join("start"), text(&state)).unwrap();
+    let line = "$BENCH run --state start --trace --steps 18446744073709551615 | head -n 1";
+    let answer = shell_in(&directory, line);
+    assert_eq!(
+        (answer.status, answer.out.as_str(), answer.err.as_str()),
+        (0, "       1  20000000  00150513  c10 := 00000001\n", "")
+    );
+    let line = "$BENCH run --state start --trace --steps 20000 --save end | head -n 1";
+    assert_eq!(shell_in(&directory, line).status, 0);
+    let saved = std::fs::read_to_string(directory.join("end")).unwrap();
+    assert!(saved.contains("\nc10 00002710 "), "{saved}");
+}
+
+#[test]
+fn messages_that_cannot_be_written_do_not_change_the_status() {
+    let directory = directory("unwritten");
+    std::fs::write(directory.join("start"), text(&traced())).unwrap();
+    for (line, status) in [
+        ("$BENCH run nowhere 2>/dev/full", 3),
+        ("$BENCH sweep 2>/dev/full", 3),
+        ("$BENCH cut 0xffffffff 2 2>/dev/full", 2),
+        ("$BENCH run --state start --json --trace 2>/dev/full", 1),
+        ("$BENCH run --state start >/dev/full", 3),
+        ("$BENCH run --state start | true; exit ${PIPESTATUS[0]}", 1),
+    ] {
+        let answer = shell_in(&directory, line);
+        assert_eq!(answer.status, status, "{line}: {}", answer.err);
+    }
+}
+
+#[test]
+fn a_recorded_trap_says_whether_the_program_has_gone_on() {
+    let directory = directory("gone_on");
+    let mut state = traced();
+    state.set(MTCC, Capability::tagged(START, EXECUTABLE_ROOT));
+    std::fs::write(directory.join("start"), text(&state)).unwrap();
+    for (steps, gone_on) in [("5", false), ("6", true)] {
+        let through = [
+            "run",
+            "--state",
+            "start",
+            "--through-traps",
+            "--steps",
+            steps,
+        ];
+        let run = bench_in(
+            &directory,
+            &[&through[..], &["--json", "--save", "end"]].concat(),
+        );
+        assert_eq!(run.json()["trap"]["gone_on"], gone_on);
+        let explained = bench_in(&directory, &["explain", "end", "--json"]);
+        assert_eq!(explained.json()["trap"], run.json()["trap"]);
+        let text = bench_in(&directory, &["explain", "end"]).out;
+        assert_eq!(text.starts_with("The program has gone on"), gone_on);
+    }
 }
 
 #[test]

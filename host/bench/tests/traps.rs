@@ -77,9 +77,11 @@ fn stores() -> Vec<Case> {
 fn jumps() -> Vec<Case> {
     vec![
         ("jump, no tag", 2, (MIDDLE, EXECUTABLE, 0), cjalr(0)),
-        ("jump, sealed", 2, (MIDDLE, EXECUTABLE | SEALED, 1), cjalr(4)),
+        ("jump, sealed", 2, (MIDDLE, EXECUTABLE | (4 * SEALED), 1), cjalr(0)),
+        ("jump, sentry at an offset", 2, (MIDDLE, EXECUTABLE | SEALED, 1), cjalr(4)),
         ("jump, no right", 2, (MIDDLE, MEMORY, 1), cjalr(0)),
         ("jump, bounds", 2, (MIDDLE, small(EXECUTE_WITHOUT_SR), 1), cjalr(-8)),
+        ("jump, the end of the space", 2, (0xFFFF_FFFE, EXECUTABLE, 1), cjalr(0)),
         ("jump, misaligned", 2, (MIDDLE, EXECUTABLE, 1), cjalr(2)),
         ("relative jump, bounds", PCC, (START, SHORT, 1), cjal(0x40)),
         ("relative jump, misaligned", PCC, (START, SHORT, 1), cjal(6)),

@@ -6,6 +6,7 @@ use crate::drive::{self, End, Outcome, Plan};
 use crate::image::{self, Image};
 use crate::names::Names;
 use crate::proved::{self, Counts, Refusal, MOST_STEPS};
+use crate::save::Place;
 use crate::trap::Trap;
 use crate::{json, report, sheet, state_file, trace, Status};
 use indicatif::{ProgressBar, ProgressStyle};
@@ -15,6 +16,9 @@ use std::path::Path;
 
 const DEFAULT_START: u32 = 0x2000_0000;
 const DEFAULT_SIZE: u64 = 65_536;
+/// The most memory that is made. The machine refuses any above 65,536 bytes with one number, so for
+/// a larger one no more than this is lent.
+const MOST_SIZE: u64 = 1 << 24;
 
 pub fn run(asked: Run) -> Result<Status, String> {
     let mut names = read_names(asked.map.as_deref())?;
@@ -24,13 +28,15 @@ pub fn run(asked: Run) -> Result<Status, String> {
     }
     image::load(&mut state, &images.segments)?;
     names.0.extend(images.names);
+    let place = asked.save.as_deref().map(|path| place(path, &asked));
+    let place = place.transpose()?;
     match drive(&asked, &mut state) {
         Err(refusal) => refused(refusal, asked.json),
         Ok(outcome) => {
-            if let Some(path) = &asked.save {
-                save(path, &state)?;
-            }
-            conclude(&asked, &state, &outcome, &names)
+            // What cannot be said is saved nevertheless, and what cannot be saved is said.
+            let said = conclude(&asked, &state, &outcome, &names);
+            place.map_or(Ok(()), |place| place.write(&state_file::write(&state)))?;
+            said
         }
     }
 }
@@ -52,9 +58,21 @@ fn start(asked: &Run, names: &Names) -> Result<(State, Image), String> {
         return Ok((state, images));
     }
     let entry = asked.entry.or(images.entry).unwrap_or(start);
-    let size = usize::try_from(asked.size.unwrap_or(map_size));
-    let size = size.map_err(|_| "--size: too large for this computer")?;
-    Ok((State::reset(start, vec![0; size], entry), images))
+    let size = asked.size.unwrap_or(map_size).min(MOST_SIZE);
+    Ok((State::reset(start, vec![0; size as usize], entry), images))
+}
+
+/// The place to save to. A state may be written over, to go on from it, but no image or sheet.
+fn place(path: &Path, asked: &Run) -> Result<Place, String> {
+    let file = path.canonicalize().ok();
+    let mut read = asked.images.iter().chain(&asked.map);
+    if file.is_some() && read.any(|other| other.canonicalize().ok() == file) {
+        let name = path.display();
+        return Err(format!(
+            "{name}: this run reads it, and does not write over it"
+        ));
+    }
+    Place::new(path)
 }
 
 /// Runs, with a line a step or a bar of progress.
@@ -64,10 +82,11 @@ fn drive(asked: &Run, state: &mut State) -> Result<Outcome, Refusal> {
     let mut watch = |before: &State, after: &State, made: Counts| {
         number += made.retired + made.trapped;
         if asked.trace {
-            tell(asked.json, &trace::line(number, before, after, made));
-        } else {
-            bar.set_position(number);
+            let told = tell(asked.json, &trace::line(number, before, after, made));
+            return told || asked.save.is_some();
         }
+        bar.set_position(number);
+        true
     };
     let plan = Plan {
         steps: asked.steps,
@@ -91,25 +110,14 @@ fn progress(asked: &Run) -> ProgressBar {
     ProgressBar::new(asked.steps).with_style(style)
 }
 
-/// A line of the trace; whoever closes the output does not want the rest.
-fn tell(on_error: bool, line: &str) {
-    let _ = if on_error {
-        writeln!(std::io::stderr(), "{line}")
-    } else {
-        writeln!(std::io::stdout(), "{line}")
-    };
-}
-
-/// Writes a state beside its place and then moves it there, so that no half of a file is left.
-fn save(path: &Path, state: &State) -> Result<(), String> {
-    let named = |error: std::io::Error| format!("{}: {error}", path.display());
-    let mut beside = path.as_os_str().to_owned();
-    beside.push(".part");
-    std::fs::write(&beside, state_file::write(state)).map_err(named)?;
-    std::fs::rename(&beside, path).map_err(|error| {
-        let _ = std::fs::remove_file(&beside);
-        named(error)
-    })
+/// A line of the trace, and whether it was written: whoever closes the output does not want the
+/// rest.
+fn tell(on_error: bool, line: &str) -> bool {
+    if on_error {
+        let _ = writeln!(std::io::stderr(), "{line}");
+        return true;
+    }
+    writeln!(std::io::stdout(), "{line}").is_ok()
 }
 
 /// Says how the run went.
@@ -125,15 +133,12 @@ fn conclude(
         _ => None,
     };
     if asked.json {
-        say_json(&json::run(state, outcome, trap.as_ref()))?;
+        say_json(&json::run(state, outcome, trap.as_ref(), names))?;
     } else {
         let mut text = report::counts(state, outcome);
         if let Some(trap) = &trap {
             text.push('\n');
-            text.push_str(&match outcome.end {
-                End::Trap(_) => report::trap(trap, state, names),
-                _ => report::recorded(trap, state, names),
-            });
+            text.push_str(&report::trap(trap, state, names));
         }
         say(&format!("{text}\n{}", report::registers(state)))?;
     }

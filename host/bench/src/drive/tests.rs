@@ -24,7 +24,7 @@ fn counting(rounds: u32, last: u32) -> State {
 fn plan(
     steps: u64,
     through_traps: bool,
-    watch: &mut dyn FnMut(&State, &State, Counts),
+    watch: &mut dyn FnMut(&State, &State, Counts) -> bool,
 ) -> Plan<'_> {
     Plan {
         steps,
@@ -35,7 +35,7 @@ fn plan(
 }
 
 fn driven(state: &mut State, steps: u64, through_traps: bool) -> Outcome {
-    run(state, plan(steps, through_traps, &mut |_, _, _| {})).unwrap()
+    run(state, plan(steps, through_traps, &mut |_, _, _| true)).unwrap()
 }
 
 fn counts(retired: u64, trapped: u64) -> Counts {
@@ -93,7 +93,10 @@ fn a_run_through_traps_counts_them_all() {
 fn the_watcher_sees_every_step() {
     let mut state = counting(100, EBREAK);
     let mut seen = 0;
-    let mut watch = |_: &State, _: &State, made: Counts| seen += made.retired + made.trapped;
+    let mut watch = |_: &State, _: &State, made: Counts| {
+        seen += made.retired + made.trapped;
+        true
+    };
     let mut plan = plan(u64::MAX, false, &mut watch);
     plan.call = 1;
     run(&mut state, plan).unwrap();
@@ -101,11 +104,25 @@ fn the_watcher_sees_every_step() {
 }
 
 #[test]
+fn a_run_that_is_no_longer_wanted_ends() {
+    let mut state = counting(100, EBREAK);
+    let mut seen = 0;
+    let mut watch = |_: &State, _: &State, _: Counts| {
+        seen += 1;
+        seen < 5
+    };
+    let mut plan = plan(u64::MAX, false, &mut watch);
+    plan.call = 1;
+    let outcome = run(&mut state, plan).unwrap();
+    assert_eq!(outcome.counts, counts(5, 0));
+}
+
+#[test]
 fn a_refused_run_changes_nothing() {
     let mut state = counting(100, EBREAK);
     state.regs[2] = 1;
     let before = state.clone();
-    let refused = run(&mut state, plan(100, false, &mut |_, _, _| {}));
+    let refused = run(&mut state, plan(100, false, &mut |_, _, _| true));
     assert_eq!(refused, Err(Refusal(4)));
     assert_eq!(state, before);
 }

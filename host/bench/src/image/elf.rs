@@ -56,22 +56,26 @@ fn segment(
     let address = header.p_paddr(order);
     let size = header.p_memsz(order);
     let origin = format!("segment {index}");
-    let data = header
-        .data(order, bytes)
+    // A segment without bytes in the file may have any offset there.
+    let data = if header.p_filesz(order) > 0 {
+        header.data(order, bytes)
+    } else {
+        Ok(&[][..])
+    };
+    let data = data
         .map_err(|()| format!("{origin} at {address:08x} is cut short: the file ends inside it"))?;
-    if data.len() > size as usize {
+    let Some(zeros) = u64::from(size).checked_sub(data.len() as u64) else {
         return Err(format!(
             "{origin} at {address:08x} is larger in the file than in memory"
         ));
-    }
+    };
     if u64::from(address) + u64::from(size) > 1 << 32 {
         return Err(format!("{origin} at {address:08x} ends past 2^32"));
     }
-    let mut bytes = data.to_vec();
-    bytes.resize(size as usize, 0);
     Ok((size > 0).then_some(Segment {
         address,
-        bytes,
+        bytes: data.to_vec(),
+        zeros,
         origin,
     }))
 }
@@ -88,11 +92,8 @@ fn names(header: &FileHeader32<Order>, bytes: &[u8]) -> Option<Vec<Name>> {
         let named = matches!(symbol.st_type(), STT_FUNC | STT_OBJECT);
         if named && symbol.st_size(order) > 0 {
             let name = symbol.name(order, symbols.strings()).ok()?;
-            names.push(Name {
-                name: String::from_utf8_lossy(name).into_owned(),
-                start: symbol.st_value(order),
-                length: symbol.st_size(order).into(),
-            });
+            let (start, length) = (symbol.st_value(order), symbol.st_size(order));
+            names.push(Name::new(name, start, length.into()));
         }
     }
     Some(names)

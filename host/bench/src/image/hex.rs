@@ -4,7 +4,8 @@
 mod tests;
 
 use super::{Image, Segment};
-use crate::state_file::pairs;
+use crate::digits::pairs;
+use crate::file;
 
 // The kinds of records.
 const DATA: u8 = 0;
@@ -23,7 +24,7 @@ struct Record {
 
 /// The image of a HEX file, or what is wrong with it and at which line.
 pub fn read(bytes: &[u8]) -> Result<Image, String> {
-    let text = std::str::from_utf8(bytes).map_err(|_| "it is not text".to_string())?;
+    let text = file::text(bytes)?;
     let (mut image, mut base, mut ended) = (Image::default(), 0, false);
     for (index, line) in text.lines().enumerate() {
         let number = index + 1;
@@ -37,11 +38,13 @@ pub fn read(bytes: &[u8]) -> Result<Image, String> {
         let record = record(line.trim_end()).map_err(at)?;
         ended = take(&mut image, &mut base, record, number).map_err(at)?;
     }
-    if ended {
-        Ok(image)
-    } else {
-        Err("it is cut short: there is no end record".into())
+    if !ended {
+        return Err("it is cut short: there is no end record".into());
     }
+    if image.segments.is_empty() {
+        return Err("it has no data to load".into());
+    }
+    Ok(image)
 }
 
 /// The record of a line.
@@ -100,6 +103,7 @@ fn push(image: &mut Image, base: u32, record: Record, number: usize) -> Result<(
         _ => image.segments.push(Segment {
             address,
             bytes: record.data,
+            zeros: 0,
             origin: format!("the data from line {number} on"),
         }),
     }

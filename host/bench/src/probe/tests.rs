@@ -45,7 +45,7 @@ fn the_address_asked_for_is_the_authoritys_plus_the_offset() {
 fn a_register_jumps_target_is_the_authoritys_plus_the_offset() {
     let mut sequence = Sequence(2);
     for _ in 0..20_000 {
-        let address = sequence.word() >> 1;
+        let address = sequence.word();
         let word = sequence.word() & !0x707F | 0x67;
         if let Some(Instruction::Cjalr { offset, .. }) = decode(word) {
             let target = address.wrapping_add(offset) & !1;
@@ -67,4 +67,19 @@ fn a_relative_jumps_target_is_pccs_plus_the_offset() {
             assert_eq!(relative_jump(&state, pcc), Some(target), "{word:08x}");
         }
     }
+}
+
+#[test]
+fn a_target_that_no_capability_holds_is_told_too() {
+    // CJALR c0, 0(c1) and CJALR c0, -2(c1); CJAL c0, 126.
+    let (here, two_below, forward) = (0x0000_8067, 0xFFE0_8067, 0x07E0_006F);
+    assert_eq!(register_jump(here, 0xFFFF_FFFE), Some(0xFFFF_FFFE));
+    assert_eq!(register_jump(here, 0xFFFF_FFFF), Some(0xFFFF_FFFE));
+    assert_eq!(register_jump(two_below, 0), Some(0xFFFF_FFFE));
+    assert_eq!(register_jump(here, 0xFFFF_FFFC), Some(0xFFFF_FFFC));
+    let state = scratch(0xFFFF_FF80, forward, Capability::tagged(0, 0));
+    assert_eq!(
+        relative_jump(&state, state.capability(PCC)),
+        Some(0xFFFF_FFFE)
+    );
 }

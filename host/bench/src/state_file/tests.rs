@@ -70,6 +70,7 @@ fn a_right_check_word_does_not_make_another_form_good() {
         ("c1 ", "c2 "),
         ("memory 256", "memory 255"),
         ("memory 256", "memory 99999999999999999999"),
+        ("memory 256", "memory 16777217"),
         ("tags 4\n", "tags 4\n00000000 00\n"),
         ("000000e0 ", "00000100 "),
         ("ffffffff", "FFFFFFFF"),
@@ -81,4 +82,32 @@ fn a_right_check_word_does_not_make_another_form_good() {
         assert!(read(&checked(&changed)).is_err(), "{old} to {new}");
     }
     assert!(read(&checked(&format!("{body}more\n"))).is_err());
+}
+
+#[test]
+fn a_line_with_a_word_too_few_or_too_many_is_named() {
+    let text = write(&sample());
+    let body = &text[..text.rfind("check").unwrap()];
+    let line = "c7 00000000 00000000 00000000\n";
+    for (kept, more) in [(line.len() - 10, "\n"), (line.len() - 1, " 00000000\n")] {
+        let changed = body.replacen(line, &format!("{}{more}", &line[..kept]), 1);
+        assert_ne!(changed, body);
+        let reason = read(&checked(&changed)).unwrap_err();
+        assert!(reason.starts_with("line 11 "), "{reason}");
+    }
+}
+
+#[test]
+fn a_count_is_at_most_2_to_the_24() {
+    let mut state = sample();
+    state.revoked = vec![0; 1 << 24];
+    let text = write(&state);
+    assert_eq!(read(text.as_bytes()), Ok(state));
+    let body = text[..text.rfind("check").unwrap()].replace("revoked 16777216", "revoked 16777217");
+    let line = body.lines().count();
+    let reason = read(&checked(&body)).unwrap_err();
+    assert!(
+        reason.starts_with(&format!("line {line} is not the line")),
+        "{reason}"
+    );
 }

@@ -151,9 +151,10 @@ fn any_words_left_in_a_state_are_explained() {
         state.regs[MCAUSE] = [sequence.below(32), sequence.word()][sequence.below(2) as usize];
         state.regs[MTVAL] = [sequence.below(2_048), sequence.word()][sequence.below(2) as usize];
         if let Some(trap) = Trap::recorded(&state) {
-            let text = report::recorded(&trap, &state, &Names::default());
+            let text = report::trap(&trap, &state, &Names::default());
             assert!(text.contains("Trap: "));
-            assert!(json::explained(&state, Some(&trap))["trap"]["cause"].is_string());
+            let value = json::explained(&state, Some(&trap), &Names::default());
+            assert!(value["trap"]["cause"].is_string());
         }
     }
 }

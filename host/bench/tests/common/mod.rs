@@ -7,7 +7,7 @@ pub mod words;
 
 use serde_json::Value;
 use std::path::{Path, PathBuf};
-use std::process::Command;
+use std::process::{Command, Output};
 
 /// What the command wrote, and its exit status.
 pub struct Answer {
@@ -34,11 +34,26 @@ pub fn bench_in(directory: &Path, arguments: &[&str]) -> Answer {
         .current_dir(directory)
         .output()
         .expect("the command runs");
+    answer(output)
+}
+
+fn answer(output: Output) -> Answer {
     Answer {
         status: output.status.code().expect("the command ends by itself"),
         out: String::from_utf8(output.stdout).expect("text"),
         err: String::from_utf8(output.stderr).expect("text"),
     }
+}
+
+/// Runs a line of bash in a directory, where $BENCH is the command, within 20 seconds.
+pub fn shell_in(directory: &Path, line: &str) -> Answer {
+    let output = Command::new("timeout")
+        .args(["20", "bash", "-c", line])
+        .env("BENCH", env!("CARGO_BIN_EXE_bench"))
+        .current_dir(directory)
+        .output()
+        .expect("bash runs");
+    answer(output)
 }
 
 /// An empty directory for a test.

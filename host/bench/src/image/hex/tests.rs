@@ -30,6 +30,8 @@ fn a_segment_base_counts_sixteens() {
 fn bad_lines_are_named() {
     assert!(bad("").contains("no end record"));
     assert!(bad(":0401000001020304F1\n").contains("no end record"));
+    assert!(bad(END).contains("no data"));
+    assert!(bad(&format!(":020000042000DA\n:00010000FF\n{END}")).contains("no data"));
     assert!(bad(&format!("{END}{END}")).starts_with("line 2: a record after"));
     assert!(bad("0401000001020304F1\n").starts_with("line 1: a record starts"));
     assert!(bad(":0401000001020304F2\n").contains("sum is wrong"));

@@ -1,0 +1,41 @@
+//! Files as they are read: whole, and no larger than what a bench has a use for.
+
+use std::fs::File;
+use std::io::Read;
+use std::path::Path;
+
+/// The most bytes of a file. Memory has 65,536; the rest is room for an ELF file's other sections.
+const MOST: u64 = 1 << 28;
+
+/// The bytes of a file, or what is wrong with it, by its name.
+pub fn read(path: &Path) -> Result<Vec<u8>, String> {
+    let named = |reason: String| format!("{}: {reason}", path.display());
+    let (mut bytes, file) = (Vec::new(), File::open(path));
+    file.and_then(|file| file.take(MOST + 1).read_to_end(&mut bytes))
+        .map_err(|error| named(error.to_string()))?;
+    if bytes.len() as u64 > MOST {
+        return Err(named(format!("the file has more than {MOST} bytes")));
+    }
+    Ok(bytes)
+}
+
+/// The text of a file's bytes, or its first line that is none.
+pub fn text(bytes: &[u8]) -> Result<&str, String> {
+    std::str::from_utf8(bytes).map_err(|error| {
+        let before = &bytes[..error.valid_up_to()];
+        let line = 1 + before.iter().filter(|byte| **byte == b'\n').count();
+        format!("line {line} is not text")
+    })
+}
+
+#[cfg(test)]
+mod tests {
+    use super::*;
+
+    #[test]
+    fn the_line_that_is_not_text_is_named() {
+        assert_eq!(text(b"one\ntwo\n"), Ok("one\ntwo\n"));
+        assert_eq!(text(b"\xFF"), Err("line 1 is not text".into()));
+        assert_eq!(text(b"one\ntwo\nt\x80"), Err("line 3 is not text".into()));
+    }
+}

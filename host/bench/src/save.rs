@@ -1,0 +1,56 @@
+//! Saving a file whole or not at all: it is written beside its place and then moved there.
+
+use std::fs::{self, File};
+use std::io::{Error, Write};
+use std::path::{Path, PathBuf};
+
+/// A place that a file can be saved to.
+pub struct Place {
+    /// The name as it was given, for messages.
+    name: String,
+    path: PathBuf,
+    beside: PathBuf,
+}
+
+impl Place {
+    /// The place of a name, tried out: a file can be made beside it, and what it replaces is a file.
+    pub fn new(path: &Path) -> Result<Place, String> {
+        let name = path.display().to_string();
+        // A link stays: the file that it leads to is replaced.
+        let path = fs::canonicalize(path).unwrap_or_else(|_| path.into());
+        if fs::metadata(&path).is_ok_and(|there| !there.is_file()) {
+            return Err(format!("{name}: what is there is no regular file"));
+        }
+        let mut beside = path.as_os_str().to_owned();
+        beside.push(".part");
+        let place = Place {
+            name,
+            path,
+            beside: beside.into(),
+        };
+        File::create(&place.beside).map_err(|error| place.told(error))?;
+        place.clear();
+        Ok(place)
+    }
+
+    /// Puts a text there. If that fails, what was there stays, and nothing lies beside it.
+    pub fn write(&self, text: &str) -> Result<(), String> {
+        let mut file = File::create(&self.beside).map_err(|error| self.told(error))?;
+        let written = file
+            .write_all(text.as_bytes())
+            .and_then(|()| file.sync_all())
+            .and_then(|()| fs::rename(&self.beside, &self.path));
+        written.map_err(|error| {
+            self.clear();
+            self.told(error)
+        })
+    }
+
+    fn clear(&self) {
+        let _ = fs::remove_file(&self.beside);
+    }
+
+    fn told(&self, error: Error) -> String {
+        format!("{}: {error}", self.name)
+    }
+}
