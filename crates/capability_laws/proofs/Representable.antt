@@ -20,7 +20,7 @@ use Rattle.bounds.proofs.Exponent.{cut-exponent, exponent-le}
 use Rattle.capability.specs.Capability.{capability, low, high, grants, sealed, unsealed, sameBounds, moveOf, setBoundsOf}
 use Rattle.capability.specs.Sealing.{objectType}
 use Rattle.capability.specs.declared.Capability.{Capability}
-use Rattle.capability_laws.specs.Decoded.{decodeOf, encodeOf}
+use Rattle.capability_laws.specs.Decoded.{decompressOf, compressOf}
 use Rattle.capability_laws.proofs.Tests.{both-equal, kept}
 use Rattle.bounds.proofs.Limits.{top-of-cut, base-of-cut}
 use Rattle.capability_laws.proofs.Region.{of-fits, cut-exponent-again, cut-least-exponent, cut-low, cut-high, cut-contains, cut-expressible, cut-least, unrounded-exact, ≤up}
@@ -30,8 +30,8 @@ use Rattle.capability_laws.proofs.Aligned.{mask-down, aligned, short, r
 
 -- ---- prop_decEnc: "going from bits to Capability and back preserves bits. This is a vital property to ensure that memcpy works."
 
-pub prop-decEnc : (metadata : ℕ) → metadata < 2 ^ 32 → encodeOf (decodeOf metadata) ≡ metadata
-unfolding encodeOf decodeOf objectType fieldsOf
+pub prop-decEnc : (metadata : ℕ) → metadata < 2 ^ 32 → compressOf (decompressOf metadata) ≡ metadata
+unfolding compressOf decompressOf objectType fieldsOf
 prop-decEnc w h =
     rw (code-of-rights (permissionsOf w) (permissions-lt w), field-of-exponent (scaleOf w) (scale-lt w))
     (retype (fieldsOf w) _ (type-again (sealed (capability 0 w 0) && not (grants (capability 0 w 0) EX)) (typeOf w)) ∙ same-word w h)

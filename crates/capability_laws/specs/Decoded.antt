@@ -17,8 +17,8 @@ pub record Decoded : Type 0 where
   pub top : ℕ
   pub base : ℕ
 
-unfoldable pub decodeOf : (metadata : ℕ) → Decoded
-decodeOf w =
+unfoldable pub decompressOf : (metadata : ℕ) → Decoded
+decompressOf w =
     record {
       reserved = reservedOf w;
       rights = wordRights w;
@@ -29,8 +29,8 @@ decodeOf w =
     }
 
 -- "truncate otype when compressing": `wordOf` takes the three low bits
-unfoldable pub encodeOf : Decoded → ℕ
-encodeOf d =
+unfoldable pub compressOf : Decoded → ℕ
+compressOf d =
     wordOf (record {
       reserved = d .reserved;
       permissions = codeOf (d .rights);

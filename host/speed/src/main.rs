@@ -49,21 +49,28 @@ fn compare_all() {
     }
 }
 
+/// A machine by its name.
+fn engine(name: &str) -> Option<Run> {
+    match name {
+        "proved" => Some(proved::run),
+        "second" => Some(second::run),
+        _ => None,
+    }
+}
+
+/// What one run of the command line asks for: a machine, a program, and a number of millions of steps.
+fn asked(arguments: &[String]) -> Option<(Run, &str, u32)> {
+    match arguments {
+        [name, program, millions] => Some((engine(name)?, program, millions.parse().ok()?)),
+        _ => None,
+    }
+}
+
 fn main() {
     let arguments: Vec<String> = std::env::args().skip(1).collect();
-    match arguments.as_slice() {
-        [] => compare_all(),
-        [engine, program, millions] => {
-            let engine: Run = match engine.as_str() {
-                "proved" => proved::run,
-                _ => second::run,
-            };
-            run(
-                engine,
-                program,
-                millions.parse().expect("a number of millions"),
-            );
-        }
-        _ => panic!("speed, or speed proved|second PROGRAM MILLIONS"),
+    match asked(&arguments) {
+        Some((engine, program, millions)) => run(engine, program, millions),
+        None if arguments.is_empty() => compare_all(),
+        None => panic!("speed, or speed proved|second PROGRAM MILLIONS"),
     }
 }
