@@ -6,3 +6,4 @@ pub mod Program
 pub mod Limits
 pub mod Decode
 pub mod Blocks
+pub mod Fits

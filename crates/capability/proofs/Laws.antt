@@ -12,7 +12,7 @@ use Rattle.metadata.proofs.Narrowed.{word-rights-lt, narrow-word}
 use Rattle.bounds.specs.Cutting.{unrounded}
 use Rattle.bounds.proofs.Limits as limits
 use Rattle.capability.specs.declared.Capability.{Capability}
-use Rattle.capability.specs.Capability.{integer, low, high, rights, sealed, unsealed, grants, tagged, covers, sameBounds, clearTag, moveOf, setBoundsOf, setBoundsExactOf, narrowOf}
+use Rattle.capability.specs.Capability.{Good, integer, low, high, rights, sealed, unsealed, grants, tagged, covers, sameBounds, clearTag, moveOf, setBoundsOf, setBoundsExactOf, narrowOf}
 use Rattle.capability.specs.Sealing.{objectType, authorizes, permittedType, withObjectType, globalMask, sealOf, unsealOf}
 use Rattle.capability.specs.Loading.{loseGlobal, loseMutable, loseTag, loadedOf, without}
 
@@ -92,12 +92,6 @@ unfolding loadedOf loseTag loseMutable loseGlobal
 loaded-kept a v = kept (grants a MC) (v .tag)
 
 -- ---- words
-
--- address and metadata are words, and the tag is 0 or 1
-pub record Good (c : Capability) : Type 0 where
-  pub address-fits : c .address < 2 ^ 32
-  pub metadata-fits : c .metadata < 2 ^ 32
-  pub tag-fits : c .tag < 2
 
 -- a call whose address and metadata are words, with the tag kept or cleared, leaves a good capability
 good : (c d : Capability) → Good c → d .address < 2 ^ 32 → d .metadata < 2 ^ 32 → Kept (c .tag) (d .tag) → Good d

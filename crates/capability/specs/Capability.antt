@@ -1,7 +1,7 @@
 -- A capability as a register holds it, and the calls on it that change its address, bounds and rights.
 -- Document 01, "Capability word", "Cutting bounds", "Lists of cuts, moves and narrowings". Assumes nothing.
 use mathlib.Core.Bool.{Bool, true, false, cond, not, _&&_}
-use Prim.Native.Nat.{ℕ, _+_, _^_}
+use Prim.Native.Nat.{ℕ, _+_, _^_, _<_}
 use lib.Dec.{eqb, leb}
 use Rattle.metadata.specs.Word.{typeOf}
 use Rattle.metadata.specs.Rights.{has, wordRights, narrowWord}
@@ -12,6 +12,12 @@ use Rattle.capability.specs.declared.Capability.{Capability}
 -- the capability of three words
 abbrev pub capability : (address metadata tag : ℕ) → Capability
 capability a m t = record { address = a; metadata = m; tag = t }
+
+-- as a register of words holds it: address and metadata are words, and the tag is 0 or 1
+pub record Good (c : Capability) : Type 0 where
+  pub address-fits : c .address < 2 ^ 32
+  pub metadata-fits : c .metadata < 2 ^ 32
+  pub tag-fits : c .tag < 2
 
 -- an integer result: no metadata, no tag; of 0 it is the NULL capability
 abbrev pub integer : ℕ → Capability

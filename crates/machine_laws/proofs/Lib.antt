@@ -1,4 +1,4 @@
--- Which lent buffers are refused: Refusals. What a step keeps, and that a run is its single steps: Kept, Runs, Bytes. What a trap changes: Traps.
+-- Which lent buffers are refused: Refusals. What a step keeps, and that a run is its single steps: Kept, Runs, Bytes, Fits. What a trap changes: Traps.
 -- What a step changes in memory, and where a tag comes from: Stores. Integer results: Integers. Which wrong programs
 -- the promises of a step and a run shut out: ShutOut. The others serve them; worked cases are in specs/Cases.
 pub mod Fetch
@@ -13,3 +13,4 @@ pub mod Integers
 pub mod Worked
 pub mod Later
 pub mod ShutOut
+pub mod Fits

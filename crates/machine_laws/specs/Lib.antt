@@ -3,3 +3,4 @@ pub mod Steps
 pub mod Memory
 pub mod Integers
 pub mod Cases
+pub mod Fits

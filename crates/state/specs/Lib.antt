@@ -2,3 +2,4 @@ pub mod Registers
 pub mod Memory
 pub mod Checks
 pub mod Effects
+pub mod Fits

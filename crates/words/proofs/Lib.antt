@@ -2,3 +2,4 @@ pub mod Tests
 pub mod Word
 pub mod Bytes
 pub mod Bits
+pub mod Fits

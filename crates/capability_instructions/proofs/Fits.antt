@@ -1,0 +1,71 @@
+-- Every integer and capability that an instruction of this family writes fits. Assumes nothing.
+use mathlib.Core.Bool.{Bool, true, false}
+use mathlib.Core.List.{List}
+use Prim.Native.Nat.{ℕ}
+use native.Mathlib.Omega.{arith}
+use Rattle.bounds.proofs.Fits.{alignment-mask-word, representable-length-word}
+use Rattle.capability.specs.Capability.{Good, high}
+use Rattle.capability.specs.declared.Capability.{Capability}
+use Rattle.capability.proofs.Laws.{low-lt, rights-lt, object-type-lt, integer-good, clear-good, move-good, set-bounds-good, set-bounds-exact-good, narrow-good, seal-good, unseal-good}
+use Rattle.instructions.specs.Range.{Word}
+use Rattle.instructions.specs.declared.Inspection.{Inspection}
+use Rattle.instructions.specs.declared.Inspection.the-variants.{GetPerm, GetType, GetBase, GetLen, GetTag, RoundLength, AlignmentMask, GetAddr, GetHigh, GetTop}
+use Rattle.instructions.specs.declared.Combination.{Combination}
+use Rattle.instructions.specs.declared.Combination.the-variants.{SetBounds, SetBoundsExact, Seal, Unseal, AndPerm, SetAddr, IncAddr, SubAddr, SetHigh, TestSubset, SetEqualExact}
+use Rattle.instructions.specs.declared.CapabilityInstruction.{CapabilityInstruction}
+use Rattle.instructions.specs.declared.CapabilityInstruction.the-variants.{AuiPcc, AuiCgp, IncAddrImm, SetBoundsImm, Move, ClearTag, Inspect, Combine}
+use Rattle.state.specs.Registers.{registerAt, pccOf}
+use Rattle.state.specs.Fits.{FitsRegisters, FitsEffect}
+use Rattle.state.proofs.Fits.{register-fits, pcc-fits}
+use Rattle.capability_instructions.specs.Derivation.{movedBy, atMostWord, lengthOf, inspected, subset, equalExact, truth, combined, globalPointer, capabilityEffect}
+
+at-most-word : (x : ℕ) → Word (atMostWord x)
+at-most-word x = omega arith
+
+pub inspected-word : (what : Inspection) (c : Capability) → Good c → Word (inspected what c)
+unfolding inspected
+inspected-word GetPerm c g = omega (arith, rights-lt c)
+inspected-word GetType c g = omega (arith, object-type-lt c)
+inspected-word GetBase c g = low-lt c
+inspected-word GetLen c g = at-most-word (lengthOf c)
+inspected-word GetTag c g = omega (arith, g .tag-fits)
+inspected-word RoundLength c g = representable-length-word (c .address)
+inspected-word AlignmentMask c g = alignment-mask-word (c .address)
+inspected-word GetAddr c g = g .address-fits
+inspected-word GetHigh c g = g .metadata-fits
+inspected-word GetTop c g = at-most-word (high c)
+
+moved-fits : (c : Capability) (offset : ℕ) → Good c → Good (movedBy c offset)
+moved-fits c offset g = move-good c _ g (omega arith)
+
+truth-fits : (b : Bool) → Good (truth b)
+truth-fits true = integer-good 1 (omega arith)
+truth-fits false = integer-good 0 (omega arith)
+
+-- what two good capabilities combine to is good
+pub combined-fits : (what : Combination) (c d : Capability) → Good c → Good d → Good (combined what c d)
+unfolding combined
+combined-fits SetBounds c d g h = set-bounds-good c (d .address) g
+combined-fits SetBoundsExact c d g h = set-bounds-exact-good c (d .address) g
+combined-fits Seal c d g h = seal-good c d g
+combined-fits Unseal c d g h = unseal-good c d g
+combined-fits AndPerm c d g h = narrow-good c (d .address) g
+combined-fits SetAddr c d g h = move-good c (d .address) g (h .address-fits)
+combined-fits IncAddr c d g h = moved-fits c (d .address) g
+combined-fits SubAddr c d g h = integer-good _ (omega arith)
+combined-fits SetHigh c d g h = record { address-fits = g .address-fits; metadata-fits = h .address-fits; tag-fits = omega arith }
+combined-fits TestSubset c d g h = truth-fits (subset c d)
+combined-fits SetEqualExact c d g h = truth-fits (equalExact c d)
+
+-- whatever the immediate: a moved address wraps, and the request of a cut may be any number
+pub capability-fits : (i : CapabilityInstruction) (regs : List ℕ) → FitsRegisters regs → FitsEffect (capabilityEffect i regs)
+unfolding capabilityEffect
+capability-fits (AuiPcc rd offset) regs h = moved-fits (pccOf regs) offset (pcc-fits regs h)
+capability-fits (AuiCgp rd offset) regs h = moved-fits (registerAt regs globalPointer) offset (register-fits regs h globalPointer)
+capability-fits (IncAddrImm rd rs1 offset) regs h = moved-fits (registerAt regs rs1) offset (register-fits regs h rs1)
+capability-fits (SetBoundsImm rd rs1 n) regs h = set-bounds-good (registerAt regs rs1) n (register-fits regs h rs1)
+capability-fits (Move rd rs1) regs h = register-fits regs h rs1
+capability-fits (ClearTag rd rs1) regs h = clear-good (registerAt regs rs1) (register-fits regs h rs1)
+capability-fits (Inspect what rd rs1) regs h = integer-good _ (inspected-word what (registerAt regs rs1) (register-fits regs h rs1))
+capability-fits (Combine what rd rs1 rs2) regs h =
+    combined-fits what (registerAt regs rs1) (registerAt regs rs2) (register-fits regs h rs1) (register-fits regs h rs2)

@@ -1,0 +1,160 @@
+-- Register words stay words. So no step and no run leaves the types of what is lent. Assumes nothing.
+use mathlib.Core.Path.{_≡_, refl}
+use mathlib.Core.Bool.{Bool, true, false, cond}
+use mathlib.Core.List.{List}
+use Prim.Native.Nat.{ℕ, zero, suc, _+_, _*_, _%_, _≤_, _<_}
+use native.Mathlib.Omega.{arith}
+use lib.Dec.{eqb}
+use borrow.Author.Tests.{eqb-true, eqb-false}
+use Rattle.words.specs.Words.{Bytes, leBytes}
+use Rattle.words.proofs.Word.{by-test}
+use Rattle.words.proofs.Bytes.{leBytes-lt}
+use Rattle.capability.specs.Capability.{Good, integer, moveOf}
+use Rattle.capability.specs.declared.Capability.{Capability}
+use Rattle.capability.proofs.Laws.{integer-good, move-good}
+use Rattle.instructions.specs.Range.{Word, InRange}
+use Rattle.instructions.specs.Decode.{decodeOf}
+use Rattle.instructions.specs.declared.Instruction.{Instruction}
+use Rattle.instructions.specs.declared.Instruction.the-variants as Instruction
+use Rattle.instructions.proofs.Range.{decoded-in-range}
+use Rattle.state.specs.Registers.{capabilityCount, scrIndex, legalized}
+use Rattle.state.specs.Memory.{Lent}
+use Rattle.state.specs.Effects.{GoodTags}
+use Rattle.state.specs.Fits.{FitsRegisters, FitsEffect}
+use Rattle.state.specs.declared.Place.{Place}
+use Rattle.state.specs.declared.Place.the-variants.{At, Misaligned, Outside}
+use Rattle.state.specs.declared.Effect.{Effect}
+use Rattle.state.specs.declared.Effect.the-variants.{Advance, Write, Store, StoreCapability, Jump, WriteScr, WriteCsr, Trap}
+use Rattle.state.proofs.Laws.{cond-holds}
+use Rattle.state.proofs.Fits.{checked-fits, pcc-fits, legalized-fits, trap-status-fits}
+use Rattle.integer_instructions.proofs.Fits.{integer-fits}
+use Rattle.memory_instructions.proofs.Fits.{memory-fits}
+use Rattle.jump_instructions.proofs.Fits.{jump-fits}
+use Rattle.capability_instructions.proofs.Fits.{capability-fits}
+use Rattle.system_instructions.proofs.Fits.{system-fits}
+use Rattle.commit.specs.Commit.{State}
+use Rattle.execution.specs.Step.{effectOf, fetchedAt, nextEffect, seen, effectAt, stepOf}
+use Rattle.machine.specs.Refusals.{refusalOf, runRefusal}
+use Rattle.machine.specs.Run.{stepAfter, Ran, ran, oneMore, iterate, ranFrom, runAfter}
+use Rattle.machine_laws.specs.Fits.{InType}
+use Rattle.machine_laws.proofs.Registers.{Holds, Rule, Keeps, each-applied}
+use Rattle.machine_laws.proofs.Refusals.{good-of, refused-alike, refused-run}
+use Rattle.machine_laws.proofs.Kept.{csr-place, tags-stay}
+use Rattle.machine_laws.proofs.Bytes.{bytes-stay}
+
+-- ---- the next effect
+
+module _ (regs : List ℕ) (m : Lent) (h : FitsRegisters regs) (b : Bytes (m .mem)) where
+  effect-fits : (i : Instruction) (word : ℕ) → InRange i → Word word → FitsEffect (effectOf i word regs m)
+  unfolding effectOf
+  effect-fits (Instruction.Integer i) word r w = integer-fits i regs r h
+  effect-fits (Instruction.Jump i) word r w = jump-fits regs h i
+  effect-fits (Instruction.Memory i) word r w = memory-fits i regs m h b
+  effect-fits (Instruction.Capability i) word r w = capability-fits i regs h
+  effect-fits (Instruction.System i) word r w = system-fits regs h i r
+  effect-fits Instruction.Illegal word r w = (omega arith, w)
+
+  fetched-fits : (p : Place) → FitsEffect (fetchedAt p regs m)
+  unfolding fetchedAt
+  fetched-fits Misaligned = (omega arith, pcc-fits regs h .address-fits)
+  fetched-fits Outside = (omega arith, pcc-fits regs h .address-fits)
+  fetched-fits (At i) =
+      let w = leBytes 4 (m .mem) i in
+      effect-fits (decodeOf w) w (decoded-in-range w) (leBytes-lt 4 (m .mem) i b)
+
+-- every capability that a step writes is good, and every word is a word
+pub next-fits : (start : ℕ) (revoked : List ℕ) (s : State) → FitsRegisters (s .regs) → Bytes (s .mem) → FitsEffect (effectAt start revoked s)
+unfolding nextEffect
+next-fits start revoked s h b = checked-fits _ _ _ (fetched-fits (s .regs) (seen start revoked s) h b _)
+
+-- ---- the register file
+
+-- a word, and at a tag's place 0 or 1
+abbrev Fit : ℕ → ℕ → Type 0
+Fit i v = Word v × ((k : ℕ) → k < capabilityCount → i ≡ k * 3 + 2 → v ≤ 1)
+
+fit : (i : ℕ) (c : Capability) → Good c → Holds Fit i c
+fit i c g =
+    record {
+      address-holds = (g .address-fits, λ k b e. absurd (omega arith));
+      metadata-holds = (g .metadata-fits, λ k b e. absurd (omega arith));
+      tag-holds = (omega (arith, g .tag-fits), λ k b e. omega (arith, g .tag-fits));
+    }
+
+good-at : (i : ℕ) (c : Capability) → i < capabilityCount → Holds Fit i c → Good c
+good-at i c b h =
+    record { address-fits = h .address-holds .0; metadata-fits = h .metadata-holds .0; tag-fits = omega (arith, h .tag-holds .1 i b refl) }
+
+-- a word above the capabilities
+fit-above : (i v : ℕ) → capabilityCount * 3 ≤ i → Word v → Fit i v
+fit-above i v l w = (w, λ k b e. absurd (omega arith))
+
+fit-rule : Rule Fit
+fit-rule =
+    record {
+      moved = λ c a b h. fit 16 (moveOf c a) (move-good c a (good-at 16 c (omega arith) h) b);
+      saved = λ c h. fit 20 (legalized c) (legalized-fits c (good-at 16 c (omega arith) h));
+      entered = λ c h. fit 16 (legalized c) (legalized-fits c (good-at 17 c (omega arith) h));
+      status = λ m h. fit-above 63 _ (omega arith) (trap-status-fits m (h .0));
+    }
+
+fit-kept : (e : Effect) → FitsEffect e → Keeps Fit e
+fit-kept Advance h = tt
+fit-kept (Write rd value) h = λ b. fit (rd % 16) value h
+fit-kept (Store kind i value) h = tt
+fit-kept (StoreCapability i value) h = tt
+fit-kept (Jump rd link target mstatus) h = (λ b. fit (rd % 16) link (h .0), fit 16 target (h .1), fit-above 63 mstatus (omega arith) (h .2))
+fit-kept (WriteScr rd old scr value) h = (λ b. fit (rd % 16) old (h .0), fit (scrIndex scr) value (h .1))
+fit-kept (WriteCsr rd old csr value) h =
+    (λ b. fit (rd % 16) (integer old) (integer-good old (h .0)), fit-above _ value (omega (arith, csr-place csr)) (h .1))
+fit-kept (Trap cause value) h = (fit-above 64 cause (omega arith) (h .0), fit-above 65 value (omega arith) (h .1))
+
+-- a register file of words and good tags is one after a step
+pub words-stay : (start : ℕ) (revoked : List ℕ) (s : State) → FitsRegisters (s .regs) → Bytes (s .mem) → FitsRegisters (stepOf start revoked s .regs)
+unfolding stepOf
+words-stay start revoked s h b =
+    let e = each-applied Fit fit-rule (effectAt start revoked s) s (fit-kept (effectAt start revoked s) (next-fits start revoked s h b))
+    (record { word = λ i. (h .words i, λ k l q. rw q (h .tags k l)) }) in
+    record { words = λ i. e .word i .0; tags = λ k l. e .word (k * 3 + 2) .1 k l refl }
+
+-- ---- all that is lent
+
+module _ (start : ℕ) (revoked : List ℕ) where
+  pub in-type-stays : (s : State) → GoodTags (s .regs) → InType s → InType (stepOf start revoked s)
+  in-type-stays s g t =
+      let b = bytes-stay start revoked s (t .memory-in) (t .tags-in) in
+      record {
+        registers-in = words-stay start revoked s (record { words = t .registers-in; tags = g }) (t .memory-in) .words;
+        memory-in = b .0;
+        tags-in = b .1;
+      }
+
+  -- after any number of steps
+  pub iterate-in-type : (n : ℕ) (r : Ran) → GoodTags (r .at .regs) → InType (r .at) → InType (iterate n start revoked r .at)
+  unfolding iterate oneMore
+  iterate-in-type zero r g t = t
+  iterate-in-type (suc n) r g t =
+      iterate-in-type n (oneMore start revoked r) (tags-stay start revoked (r .at) g) (in-type-stays (r .at) g t)
+
+  module _ (s : State) (t : InType s) where
+    good-tags : eqb (refusalOf start revoked s) 0 ≡ true → GoodTags (s .regs)
+    good-tags e = good-of start revoked s (eqb-true (refusalOf start revoked s) 0 e) .words .tag-words
+
+    -- the public step and run ask nothing more: a tag that is not 0 or 1 is refused, and a refused call changes nothing
+    pub step-in-type : InType (stepAfter start revoked s)
+    unfolding stepAfter
+    step-in-type = go (eqb (refusalOf start revoked s) 0) refl
+      where
+        go : (b : Bool) → eqb (refusalOf start revoked s) 0 ≡ b → InType (cond b (stepOf start revoked s) s)
+        go true e = in-type-stays s (good-tags e) t
+        go false e = t
+
+    run-good : (n : ℕ) → GoodTags (s .regs) → InType (runAfter n start revoked s)
+    unfolding runAfter
+    run-good n g = cond-holds InType (eqb (runRefusal n start revoked s) 0) (ranFrom n start revoked s .at) s (iterate-in-type n (ran s 0 0) g t) t
+
+    pub run-in-type : (n : ℕ) → InType (runAfter n start revoked s)
+    run-in-type n =
+        by-test (eqb (refusalOf start revoked s) 0) (λ e. run-good n (good-tags e))
+        (λ e. let r = eqb-false (refusalOf start revoked s) 0 e in
+        rw (refused-run start revoked s n (rw (refused-alike start revoked s r n) r)) t)

@@ -1,0 +1,77 @@
+-- What is read from good registers and bytes is good, a check's trap writes words, and mstatus stays a word. Assumes nothing.
+use mathlib.Core.List.{List}
+use Prim.Native.Nat.{ℕ, _*_, _/_, _%_, _+_, _<_}
+use native.Mathlib.Omega.{arith}
+use lib.Dec.{eqb}
+use Rattle.words.specs.Words.{Bytes, withBit}
+use Rattle.words.proofs.Bytes.{leBytes-lt}
+use Rattle.words.proofs.Fits.{withBit-lt}
+use Rattle.capability.specs.declared.Capability.{Capability}
+use Rattle.capability.proofs.Laws.{move-good}
+use Rattle.capability.specs.Capability.{Good}
+use Rattle.instructions.specs.Range.{Word}
+use Rattle.instructions.specs.declared.Csr.{Csr}
+use Rattle.state.specs.Registers.{capabilityAt, capabilityCount, registerAt, integerAt, pccOf, csrAt, csrIndex, MIE, MPIE, trapStatus, returnStatus, writtenStatus, legalized}
+use Rattle.state.specs.Memory.{capabilityIn}
+use Rattle.state.specs.Checks.{checked, capabilityTrap}
+use Rattle.state.specs.Fits.{FitsRegisters, FitsEffect}
+use Rattle.state.specs.declared.Effect.{Effect}
+use Rattle.state.proofs.Laws.{cond-holds, capability-in-tag}
+
+-- ---- effects
+
+pub checked-fits : (r cause : ℕ) (e : Effect) → FitsEffect e → FitsEffect (checked r cause e)
+unfolding checked
+checked-fits r cause e h = cond-holds FitsEffect (eqb cause 0) e (capabilityTrap r cause) h (omega arith, omega arith)
+
+-- ---- what is read
+
+module _ (regs : List ℕ) (h : FitsRegisters regs) where
+  pub capability-fits : (i : ℕ) → i < capabilityCount → Good (capabilityAt regs i)
+  unfolding capabilityAt
+  capability-fits i l =
+      record { address-fits = h .words (i * 3); metadata-fits = h .words (i * 3 + 1); tag-fits = omega (arith, h .tags i l) }
+
+  pub register-fits : (r : ℕ) → Good (registerAt regs r)
+  register-fits r = capability-fits (r % 16) (omega arith)
+
+  pub pcc-fits : Good (pccOf regs)
+  pcc-fits = capability-fits 16 (omega arith)
+
+  pub integer-fits : (r : ℕ) → Word (integerAt regs r)
+  unfolding integerAt
+  integer-fits r = h .words (r % 16 * 3)
+
+  pub csr-fits : (csr : Csr) → Word (csrAt regs csr)
+  csr-fits csr = h .words (csrIndex csr)
+
+pub capability-in-fits : (mem tags : List ℕ) (i : ℕ) → Bytes mem → Good (capabilityIn mem tags i)
+unfolding capabilityIn
+capability-in-fits mem tags i b =
+    record { address-fits = leBytes-lt 4 mem i b; metadata-fits = leBytes-lt 4 mem (i + 4) b; tag-fits = omega (arith, capability-in-tag mem tags i) }
+
+-- ---- what is written
+
+pub legalized-fits : (c : Capability) → Good c → Good (legalized c)
+unfolding legalized
+legalized-fits c g = move-good c (c .address / 4 * 4) g (omega (arith, g .address-fits))
+
+-- mstatus with another MIE, MPIE or both
+pub mie-fits : (m v : ℕ) → Word m → Word (withBit m MIE v)
+mie-fits m v h = withBit-lt 32 m MIE v h (omega arith)
+
+mpie-fits : (m v : ℕ) → Word m → Word (withBit m MPIE v)
+mpie-fits m v h = withBit-lt 32 m MPIE v h (omega arith)
+
+module _ (m : ℕ) (h : Word m) where
+  pub trap-status-fits : Word (trapStatus m)
+  unfolding trapStatus
+  trap-status-fits = mie-fits _ _ (mpie-fits m _ h)
+
+  pub return-status-fits : Word (returnStatus m)
+  unfolding returnStatus
+  return-status-fits = mpie-fits _ _ (mie-fits m _ h)
+
+  pub written-status-fits : (w : ℕ) → Word (writtenStatus m w)
+  unfolding writtenStatus
+  written-status-fits w = mpie-fits _ _ (mie-fits m _ h)
