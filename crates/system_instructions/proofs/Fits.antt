@@ -5,6 +5,7 @@ use native.Mathlib.Omega.{arith}
 use lib.Bits.{or-lt, and-lt}
 use lib.Dec.{eqb}
 use Rattle.capability.specs.declared.Capability.{Capability}
+use Rattle.system_instructions.proofs.Laws.{scr-in-file}
 use Rattle.capability.specs.Capability.{Good}
 use Rattle.instructions.specs.Range.{Word, SystemInRange}
 use Rattle.instructions.specs.declared.CsrKind.{CsrKind}
@@ -47,10 +48,7 @@ write-fits scr rd rs1 old value g h = cond-holds FitsEffect (eqb (rs1 % 16) 0) (
 
 module _ (regs : List ℕ) (h : FitsRegisters regs) where
   special-fits : (scr : Scr) → Good (capabilityAt regs (scrIndex scr))
-  special-fits Mtcc = capability-fits regs h (scrIndex Mtcc) (omega arith)
-  special-fits Mtdc = capability-fits regs h (scrIndex Mtdc) (omega arith)
-  special-fits Mscratchc = capability-fits regs h (scrIndex Mscratchc) (omega arith)
-  special-fits Mepcc = capability-fits regs h (scrIndex Mepcc) (omega arith)
+  special-fits scr = capability-fits regs h (scrIndex scr) (scr-in-file scr)
 
   effect-fits : (kind : CsrKind) (csr : Csr) (rd operand : ℕ) → Word operand → FitsEffect (csrEffect kind csr rd operand regs)
   unfolding csrEffect

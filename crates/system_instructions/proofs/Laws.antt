@@ -29,7 +29,7 @@ system-storeless (CsrRegister kind csr rd rs1) regs = checked-holds Storeless _ 
 system-storeless (CsrImmediate kind csr rd value) regs = checked-holds Storeless _ _ _ (λ n v. tt) tt
 system-storeless (SpecialRw scr rd rs1) regs = checked-holds Storeless _ _ _ (λ n v. tt) (write-storeless scr rd rs1 _ _)
 
-scr-in-file : (scr : Scr) → scrIndex scr < capabilityCount
+pub scr-in-file : (scr : Scr) → scrIndex scr < capabilityCount
 scr-in-file Mtcc = omega arith
 scr-in-file Mtdc = omega arith
 scr-in-file Mscratchc = omega arith
