@@ -1,6 +1,6 @@
 -- What holds of each effect that the checks leave, where a place lies, and the tags of what is read. Assumes nothing.
-use mathlib.Core.Path.{_≡_, refl}
-use mathlib.Core.Bool.{Bool, true, false, cond, _&&_}
+use mathlib.Core.Path.{_≡_, refl, sym}
+use mathlib.Core.Bool.{Bool, true, false, cond, not, _&&_, true≢false}
 use mathlib.Core.Logic.{_⊎_, inl, inr}
 use mathlib.Core.List.{List}
 use Prim.Native.Nat.{ℕ, _+_, _-_, _*_, _/_, _%_, _≤_, _<_}
@@ -14,12 +14,27 @@ use Rattle.instructions.specs.declared.StoreKind.{StoreKind}
 use Rattle.instructions.specs.declared.StoreKind.the-variants.{Sb, Sh, Sw}
 use Rattle.state.specs.Registers.{capabilityAt, capabilityCount, registerAt, pccOf, legalized}
 use Rattle.state.specs.Memory.{placeOf, capabilityIn, storeWidth, granuleBytes}
-use Rattle.state.specs.Checks.{checked, capabilityTrap}
+use Rattle.state.specs.Checks.{checked, capabilityTrap, boundsCause, tagCause, sealCause}
 use Rattle.state.specs.Effects.{OneGranule, StoresWithin, Storeless, GoodTag, GoodTags}
 use Rattle.state.specs.declared.Place.{Place}
 use Rattle.state.specs.declared.Place.the-variants.{At, Misaligned, Outside}
 use Rattle.state.specs.declared.Effect.{Effect}
 use Rattle.state.specs.declared.Effect.the-variants.{Advance, Write, Store, StoreCapability, Jump, WriteScr, WriteCsr, Trap}
+
+-- ---- the checks of an access
+
+pub all-passed : (tagged sealed granted inside : Bool) (right : ℕ) → (tagged && (not sealed && (granted && inside))) ≡ true
+    → cond tagged (cond sealed sealCause (cond granted (cond inside 0 boundsCause) right)) tagCause ≡ 0
+all-passed true false true true right h = refl
+all-passed true false true false right h = absurd (true≢false (sym h))
+all-passed true false false inside right h = absurd (true≢false (sym h))
+all-passed true true granted inside right h = absurd (true≢false (sym h))
+all-passed false sealed granted inside right h = absurd (true≢false (sym h))
+
+-- where the other checks passed and not all did, the bounds failed
+pub bounds-failed : (inside : Bool) → (true && (not false && (true && inside))) ≡ false → boundsCause ≡ cond inside 0 boundsCause
+bounds-failed true h = absurd (true≢false h)
+bounds-failed false h = refl
 
 -- ---- effects
 
