@@ -1,6 +1,6 @@
 use borrow.Author.Needs.{needs}
 use Prim.Native.Nat.{_-_, _≤_}
-use mathlib.Core.Path.{_≡_, refl, sym, ap, _∙_}
+use mathlib.Core.Path.{_≡_, ap, _∙_}
 use mathlib.Core.Bool.{cond}
 use native.Mathlib.Omega.{arith}
 use lib.ListN.{length}
@@ -23,7 +23,7 @@ unfolding iterate
 loop-holds c = (omega arith, omega arith, omega arith, omega arith, omega arith, omega arith, let e : c .before .before .before .before .args .n - 0 ≡ c .before .before .before .before .args .n = omega arith in rw e)
 
 step-good-requires : tie.Need-step-good-requires Inv-loop μ-loop
-step-good-requires c κs = record { registers = omega arith; granules = omega arith; revocation = omega arith }
+step-good-requires c κs = search needs
 
 one-if-requires : tie.Need-one-if-requires Inv-loop μ-loop
 one-if-requires c κs = search needs
