@@ -1,9 +1,6 @@
 // What the instructions that inspect, derive and compare capabilities do. None of them traps.
 ghost use mathlib.Core.Path.{_≡_};
-ghost use mathlib.Core.Bool.{cond, _&&_};
-ghost use Prim.Native.Nat.{_≤_, min, _-_, _^_};
-ghost use lib.ListN.{length};
-ghost use Rattle.state.specs.Registers.{registerWords};
+ghost use mathlib.Core.Bool.{_&&_};
 ghost use Rattle.capability.specs.Capability.{integer, low, high};
 ghost use Rattle.capability_instructions.specs.Derivation.{movedBy, atMostWord, lengthOf, inspected, subset, equalExact, truth, combined, capabilityEffect};
 use capability::Capability;
@@ -162,7 +159,6 @@ fn write(rd: u32, value: Capability) -> Effect
 }
 
 pub fn capability_effect(i: CapabilityInstruction, regs: &[u32]) -> Effect
-    requires { ⌜ length (now regs) ≡ registerWords ⌝ }
     ensures { λ r. ⌜ r ≡ capabilityEffect i (now (regs .entry)) ⌝ }
 {
     match i {

@@ -1,7 +1,6 @@
 -- What an effect leaves in the lent buffers. Document 01, "What is lent" and "Traps"; CHERIoT report, 7.7 and 7.11. Assumes nothing.
 use mathlib.Core.Bool.{Bool, true, false, cond}
 use mathlib.Core.List.{List}
-use mathlib.Core.Path.{_≡_}
 use Prim.Native.Nat.{ℕ, _+_, _*_, _/_, _%_}
 use lib.Dec.{eqb, leb}
 use lib.ListN.{set, length}
@@ -11,7 +10,7 @@ use Rattle.capability.specs.declared.Capability.{Capability}
 use Rattle.instructions.specs.declared.Csr.{Csr}
 use Rattle.instructions.specs.declared.Scr.{Scr}
 use Rattle.instructions.specs.declared.Csr.the-variants.{Mstatus, Mcause, Mtval}
-use Rattle.state.specs.Registers.{capabilityAt, pccOf, pccIndex, mtccIndex, mepccIndex, nextAddress, mstatusOf, csrIndex, scrIndex, trapStatus, legalized, registerWords}
+use Rattle.state.specs.Registers.{capabilityAt, pccOf, pccIndex, mtccIndex, mepccIndex, nextAddress, mstatusOf, csrIndex, scrIndex, trapStatus, legalized}
 use Rattle.state.specs.Memory.{granuleBytes, storeWidth}
 use Rattle.state.specs.declared.Effect.{Effect}
 use Rattle.state.specs.declared.Effect.the-variants.{Advance, Write, Store, StoreCapability, Jump, WriteScr, WriteCsr, Trap}
@@ -24,11 +23,6 @@ pub record State : Type 0 where
 
 abbrev pub state : (regs mem tags : List ℕ) → State
 state r m t = record { regs = r; mem = m; tags = t }
-
--- the sizes that the refusals leave: 66 words, and one tag bit for each granule of memory
-pub record Sized (regs mem tags : List ℕ) : Type 0 where
-  pub registers : length regs ≡ registerWords
-  pub granules : length mem ≡ 64 * length tags
 
 -- capability i of the register file set
 unfoldable pub setCapability : (regs : List ℕ) → (i : ℕ) → Capability → List ℕ

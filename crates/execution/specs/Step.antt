@@ -1,14 +1,13 @@
--- One step of a machine whose buffers are good: fetch, decode, effect, commit. Document 01, "Traps"; CHERIoT report, 7.5. Assumes nothing.
+-- One step: fetch, decode, effect, commit; nothing is refused. Document 01, "Traps"; CHERIoT report, 7.5. Assumes nothing.
 use mathlib.Core.List.{List}
-use mathlib.Core.Path.{_≡_}
-use Prim.Native.Nat.{ℕ, _*_}
+use Prim.Native.Nat.{ℕ}
 use lib.ListN.{length}
 use Rattle.words.specs.Words.{leBytes}
 use Rattle.metadata.specs.Rights.{EX}
 use Rattle.instructions.specs.Decode.{decodeOf}
 use Rattle.instructions.specs.declared.Instruction.{Instruction}
 use Rattle.instructions.specs.declared.Instruction.the-variants.{Integer, Jump, Memory, Capability, System, Illegal}
-use Rattle.state.specs.Registers.{registerWords, pccOf, pcOf, instructionBytes}
+use Rattle.state.specs.Registers.{pccOf, pcOf, instructionBytes}
 use Rattle.state.specs.Memory.{Lent, lent, placeOf}
 use Rattle.state.specs.Checks.{checked, accessCause, pccRegister, executeCause}
 use Rattle.state.specs.declared.Place.{Place}
@@ -21,12 +20,6 @@ use Rattle.jump_instructions.specs.Jumps.{jumpEffect}
 use Rattle.capability_instructions.specs.Derivation.{capabilityEffect}
 use Rattle.system_instructions.specs.System.{systemEffect}
 use Rattle.commit.specs.Commit.{State, applyEffect}
-
--- the sizes that the refusals leave
-pub record Good (regs mem tags revoked : List ℕ) : Type 0 where
-  pub registers : length regs ≡ registerWords
-  pub granules : length mem ≡ 64 * length tags
-  pub revocation : length mem ≡ 64 * length revoked
 
 -- what an instruction does: "illegal instruction is mcause 2 with the word in mtval"
 unfoldable pub effectOf : Instruction → (word : ℕ) → (regs : List ℕ) → Lent → Effect
@@ -44,12 +37,12 @@ fetchedAt Outside regs m = Trap 1 (pcOf regs)
 fetchedAt (At i) regs m = effectOf (decodeOf (leBytes 4 (m .mem) i)) (leBytes 4 (m .mem) i) regs m
 
 -- where the check of PCC gave that cause, or 0
-abbrev pub fetched : (cause : ℕ) → (regs : List ℕ) → Lent → Effect
-fetched cause regs m = checked pccRegister cause (fetchedAt (placeOf (m .start) (length (m .mem)) (pcOf regs) instructionBytes) regs m)
+abbrev pub fetched : (cause pc : ℕ) → (regs : List ℕ) → Lent → Effect
+fetched cause pc regs m = checked pccRegister cause (fetchedAt (placeOf (m .start) (length (m .mem)) pc instructionBytes) regs m)
 
 -- what the next step does
 unfoldable pub nextEffect : (regs : List ℕ) → Lent → Effect
-nextEffect regs m = fetched (accessCause (pccOf regs) EX executeCause (pcOf regs) instructionBytes) regs m
+nextEffect regs m = fetched (accessCause (pccOf regs) EX executeCause (pcOf regs) instructionBytes) (pcOf regs) regs m
 
 -- the memory, its tags and what is only read, as an effect sees them
 abbrev pub seen : (start : ℕ) → (revoked : List ℕ) → State → Lent

@@ -1,11 +1,9 @@
-// One step of good buffers: fetch, decode, effect, commit.
+// One step: fetch, decode, effect, commit.
 ghost use mathlib.Core.Path.{_≡_};
-ghost use Prim.Native.Nat.{_+_, _*_, _<_, _≤_};
-ghost use lib.ListN.{length};
-ghost use Rattle.state.specs.Registers.{registerWords, pcOf};
-ghost use Rattle.state.specs.Memory.{lent, Within};
-ghost use Rattle.commit.specs.Commit.{State, state, retires};
-ghost use Rattle.execution.specs.Step.{Good, effectOf, fetchedAt, fetched, nextEffect, effectAt, stepOf};
+ghost use Rattle.state.specs.Registers.{pcOf};
+ghost use Rattle.state.specs.Memory.{lent};
+ghost use Rattle.commit.specs.Commit.{state, retires};
+ghost use Rattle.execution.specs.Step.{effectOf, fetchedAt, fetched, nextEffect, effectAt, stepOf};
 use instructions::Instruction;
 use state::Effect;
 use state::Place;
@@ -20,7 +18,6 @@ fn execute(
     tags: &[u8],
     revoked: &[u8],
 ) -> Effect
-    requires { ⌜ Good (now regs) (now mem) (now tags) (now revoked) ⌝ }
     ensures { λ r. ⌜ r ≡ effectOf i word (now (regs .entry)) (lent start (now (mem .entry)) (now (tags .entry)) (now (revoked .entry))) ⌝ }
 {
     match i {
@@ -40,7 +37,6 @@ fn execute(
 
 // What the instruction at a place does.
 fn fetched_at(p: Place, regs: &[u32], start: u32, mem: &[u8], tags: &[u8], revoked: &[u8]) -> Effect
-    requires { ⌜ Within p 4 (length (now mem)) × Good (now regs) (now mem) (now tags) (now revoked) ⌝ }
     ensures { λ r. ⌜ r ≡ fetchedAt p (now (regs .entry)) (lent start (now (mem .entry)) (now (tags .entry)) (now (revoked .entry))) ⌝ }
 {
     match p {
@@ -63,7 +59,6 @@ fn fetched_at(p: Place, regs: &[u32], start: u32, mem: &[u8], tags: &[u8], revok
 
 // A fetch that traps with PCC's address.
 fn fetch_trap(cause: u32, regs: &[u32]) -> Effect
-    requires { ⌜ length (now regs) ≡ registerWords ⌝ }
     ensures { λ r. ⌜ r ≡ Effect.Trap cause (pcOf (now (regs .entry))) ⌝ }
 {
     let pcc = state::pcc_of(regs);
@@ -73,14 +68,20 @@ fn fetch_trap(cause: u32, regs: &[u32]) -> Effect
     }
 }
 
-// What the next step does where the check of PCC gave a cause, or 0.
-fn fetch(cause: u32, regs: &[u32], start: u32, mem: &[u8], tags: &[u8], revoked: &[u8]) -> Effect
-    requires { ⌜ Good (now regs) (now mem) (now tags) (now revoked) ⌝ }
-    ensures { λ r. ⌜ r ≡ fetched cause (now (regs .entry)) (lent start (now (mem .entry)) (now (tags .entry)) (now (revoked .entry))) ⌝ }
+// What the next step does where the check of PCC, whose address is pc, gave a cause, or 0.
+fn fetch(
+    cause: u32,
+    pc: u32,
+    regs: &[u32],
+    start: u32,
+    mem: &[u8],
+    tags: &[u8],
+    revoked: &[u8],
+) -> Effect
+    ensures { λ r. ⌜ r ≡ fetched cause pc (now (regs .entry)) (lent start (now (mem .entry)) (now (tags .entry)) (now (revoked .entry))) ⌝ }
 {
     if cause == 0 {
-        let pcc = state::pcc_of(regs);
-        let place = state::place_of(start, mem.len(), pcc.address, 4);
+        let place = state::place_of(start, mem.len(), pc, 4);
         fetched_at(place, regs, start, mem, tags, revoked)
     } else {
         state::capability_trap(32, cause)
@@ -89,23 +90,21 @@ fn fetch(cause: u32, regs: &[u32], start: u32, mem: &[u8], tags: &[u8], revoked:
 
 // What the next step does.
 fn next_effect(regs: &[u32], start: u32, mem: &[u8], tags: &[u8], revoked: &[u8]) -> Effect
-    requires { ⌜ Good (now regs) (now mem) (now tags) (now revoked) ⌝ }
     ensures { λ r. ⌜ r ≡ nextEffect (now (regs .entry)) (lent start (now (mem .entry)) (now (tags .entry)) (now (revoked .entry))) ⌝ }
 {
     let pcc = state::pcc_of(regs);
     let cause = state::access_cause(pcc, 8, 17, pcc.address, 4);
-    fetch(cause, regs, start, mem, tags, revoked)
+    fetch(cause, pcc.address, regs, start, mem, tags, revoked)
 }
 
-// One step of good buffers. Answers whether the instruction retires.
-pub fn step_good(
+// One step. Nothing is refused: what lies outside a buffer reads as 0 and is not written. Answers whether the instruction retires.
+pub fn take_step(
     regs: &mut [u32],
     start: u32,
     mem: &mut [u8],
     tags: &mut [u8],
     revoked: &[u8],
 ) -> bool
-    requires { ⌜ Good (now regs) (now mem) (now tags) (now revoked) ⌝ }
     ensures { λ r. ⌜ (r ≡ retires (effectAt start (now (revoked .entry)) (state (now (regs .entry)) (now (mem .entry)) (now (tags .entry))))) × (state (now (regs .exit)) (now (mem .exit)) (now (tags .exit)) ≡ stepOf start (now (revoked .entry)) (state (now (regs .entry)) (now (mem .entry)) (now (tags .entry)))) ⌝ }
 {
     let e = next_effect(regs, start, mem, tags, revoked);

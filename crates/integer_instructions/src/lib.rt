@@ -1,8 +1,6 @@
 // What LUI and the instructions of OP-IMM and OP do.
 ghost use mathlib.Core.Path.{_≡_};
-ghost use lib.ListN.{length};
 ghost use Rattle.capability.specs.Capability.{integer};
-ghost use Rattle.state.specs.Registers.{registerWords};
 ghost use Rattle.integer_instructions.specs.Integer.{aluOf, integerEffect};
 use capability::Capability;
 use instructions::Alu;
@@ -43,7 +41,6 @@ fn write_integer(rd: u32, value: u32) -> Effect
 }
 
 pub fn integer_effect(i: IntegerInstruction, regs: &[u32]) -> Effect
-    requires { ⌜ length (now regs) ≡ registerWords ⌝ }
     ensures { λ r. ⌜ r ≡ integerEffect i (now (regs .entry)) ⌝ }
 {
     match i {

@@ -1,16 +1,14 @@
 // What jumps, branches and MRET do.
 ghost use mathlib.Core.Path.{_≡_};
-ghost use mathlib.Core.Bool.{Bool, cond, not, _&&_, _||_};
-ghost use Prim.Native.Nat.{_+_, _*_, _≤_, _<_};
-ghost use lib.Dec.{eqb};
-ghost use lib.ListN.{length};
-ghost use Rattle.capability.specs.Capability.{integer};
-ghost use Rattle.state.specs.Registers.{registerWords, pcOf, MIE};
+ghost use mathlib.Core.Bool.{cond, not, _&&_, _||_};
+ghost use Prim.Native.Nat.{_+_};
+ghost use Rattle.capability.specs.Capability.{integer, moveOf};
+ghost use Rattle.state.specs.Registers.{pcOf, instructionBytes, MIE};
 ghost use Rattle.words.specs.Words.{wrap};
 ghost use Rattle.metadata.specs.Rights.{has};
-ghost use Rattle.capability.specs.Sealing.{sentryEnabling, sentryDisabling};
+ghost use Rattle.capability.specs.Sealing.{sentryEnabling, sentryDisabling, withObjectType};
 ghost use Rattle.state.specs.Checks.{tagCause, sealCause, executeCause};
-ghost use Rattle.jump_instructions.specs.Jumps.{linkOf, aligned, targetCause, jalEffect, jalrCause, jumpStatus, jalrEffect, taken, takenEffect, branchEffect, mretEffect, jumpEffect};
+ghost use Rattle.jump_instructions.specs.Jumps.{aligned, targetCause, jalEffect, jalrCause, jumpStatus, jalrEffect, taken, takenEffect, branchEffect, mretEffect, jumpEffect};
 use capability::Capability;
 use instructions::BranchKind;
 use instructions::Csr;
@@ -26,13 +24,11 @@ fn link_type(mstatus: u32) -> u32
 }
 
 // The link: the next instruction's PCC, sealed.
-fn link_of(regs: &[u32]) -> Capability
-    requires { ⌜ length (now regs) ≡ registerWords ⌝ }
-    ensures { λ r. ⌜ r ≡ linkOf (now (regs .entry)) ⌝ }
+fn link_of(pcc: Capability, mstatus: u32) -> Capability
+    ensures { λ r. ⌜ r ≡ withObjectType (moveOf pcc (wrap (pcc .address + instructionBytes))) (cond (has mstatus MIE) sentryEnabling sentryDisabling) ⌝ }
 {
-    let pcc = state::pcc_of(regs);
     let next = capability::move_address(pcc, wrapping_add_u32(pcc.address, 4));
-    capability::with_object_type(next, link_type(state::csr_at(regs, Csr::Mstatus)))
+    capability::with_object_type(next, link_type(mstatus))
 }
 
 // The effect where a target is aligned, else the trap.
@@ -57,16 +53,17 @@ fn target_cause(c: Capability, target: u32) -> u32
 }
 
 // CJAL.
-fn jal(rd: u32, target: u32, regs: &[u32]) -> Effect
-    requires { ⌜ length (now regs) ≡ registerWords ⌝ }
-    ensures { λ r. ⌜ r ≡ jalEffect rd target (now (regs .entry)) ⌝ }
+fn jal(rd: u32, offset: u32, regs: &[u32]) -> Effect
+    ensures { λ r. ⌜ r ≡ jalEffect rd (wrap (pcOf (now (regs .entry)) + offset)) (now (regs .entry)) ⌝ }
 {
     let pcc = state::pcc_of(regs);
+    let mstatus = state::csr_at(regs, Csr::Mstatus);
+    let target = wrapping_add_u32(pcc.address, offset);
     let jump = Effect::Jump {
         rd,
-        link: link_of(regs),
+        link: link_of(pcc, mstatus),
         target: capability::move_address(pcc, target),
-        mstatus: state::csr_at(regs, Csr::Mstatus),
+        mstatus,
     };
     state::checked_effect(32, target_cause(pcc, target), aligned_effect(target, jump))
 }
@@ -125,14 +122,14 @@ fn jump_status(c: Capability, mstatus: u32) -> u32
 
 // CJALR.
 fn jalr(rd: u32, rs1: u32, offset: u32, target: u32, c: Capability, regs: &[u32]) -> Effect
-    requires { ⌜ length (now regs) ≡ registerWords ⌝ }
     ensures { λ r. ⌜ r ≡ jalrEffect rd rs1 offset target c (now (regs .entry)) ⌝ }
 {
+    let mstatus = state::csr_at(regs, Csr::Mstatus);
     let jump = Effect::Jump {
         rd,
-        link: link_of(regs),
+        link: link_of(state::pcc_of(regs), mstatus),
         target: capability::move_address(capability::with_object_type(c, 0), target),
-        mstatus: jump_status(c, state::csr_at(regs, Csr::Mstatus)),
+        mstatus: jump_status(c, mstatus),
     };
     state::checked_effect(
         rs1,
@@ -156,11 +153,11 @@ fn is_taken(kind: BranchKind, a: u32, b: u32) -> bool
 }
 
 // A taken branch.
-fn take(target: u32, regs: &[u32]) -> Effect
-    requires { ⌜ length (now regs) ≡ registerWords ⌝ }
-    ensures { λ r. ⌜ r ≡ takenEffect target (now (regs .entry)) ⌝ }
+fn take(offset: u32, regs: &[u32]) -> Effect
+    ensures { λ r. ⌜ r ≡ takenEffect (wrap (pcOf (now (regs .entry)) + offset)) (now (regs .entry)) ⌝ }
 {
     let pcc = state::pcc_of(regs);
+    let target = wrapping_add_u32(pcc.address, offset);
     let jump = go_to(
         capability::move_address(pcc, target),
         state::csr_at(regs, Csr::Mstatus),
@@ -184,19 +181,17 @@ fn go_to(target: Capability, mstatus: u32) -> Effect
     }
 }
 
-fn branch(takes: bool, target: u32, regs: &[u32]) -> Effect
-    requires { ⌜ length (now regs) ≡ registerWords ⌝ }
-    ensures { λ r. ⌜ r ≡ branchEffect takes target (now (regs .entry)) ⌝ }
+fn branch(takes: bool, offset: u32, regs: &[u32]) -> Effect
+    ensures { λ r. ⌜ r ≡ branchEffect takes (wrap (pcOf (now (regs .entry)) + offset)) (now (regs .entry)) ⌝ }
 {
     if takes {
-        take(target, regs)
+        take(offset, regs)
     } else {
         Effect::Advance
     }
 }
 
 fn mret(regs: &[u32]) -> Effect
-    requires { ⌜ length (now regs) ≡ registerWords ⌝ }
     ensures { λ r. ⌜ r ≡ mretEffect (now (regs .entry)) ⌝ }
 {
     let back = state::legalize(state::capability_at(regs, 20));
@@ -208,23 +203,15 @@ fn mret(regs: &[u32]) -> Effect
     )
 }
 
-// The address in PCC moved by an offset.
-fn pc_plus(regs: &[u32], offset: u32) -> u32
-    requires { ⌜ length (now regs) ≡ registerWords ⌝ }
-    ensures { λ r. ⌜ r ≡ wrap (pcOf (now (regs .entry)) + offset) ⌝ }
-{
-    wrapping_add_u32(state::pcc_of(regs).address, offset)
-}
-
 pub fn jump_effect(i: JumpInstruction, regs: &[u32]) -> Effect
-    requires { ⌜ length (now regs) ≡ registerWords ⌝ }
     ensures { λ r. ⌜ r ≡ jumpEffect i (now (regs .entry)) ⌝ }
 {
     match i {
-        JumpInstruction::Jal { rd, offset } => jal(rd, pc_plus(regs, offset), regs),
+        JumpInstruction::Jal { rd, offset } => jal(rd, offset, regs),
         JumpInstruction::Jalr { rd, rs1, offset } => {
-            let target = wrapping_add_u32(state::integer_at(regs, rs1), offset) / 2 * 2;
-            jalr(rd, rs1, offset, target, state::register_at(regs, rs1), regs)
+            let c = state::register_at(regs, rs1);
+            let target = wrapping_add_u32(c.address, offset) / 2 * 2;
+            jalr(rd, rs1, offset, target, c, regs)
         }
         JumpInstruction::Branch {
             kind,
@@ -237,7 +224,7 @@ pub fn jump_effect(i: JumpInstruction, regs: &[u32]) -> Effect
                 state::integer_at(regs, rs1),
                 state::integer_at(regs, rs2),
             );
-            branch(takes, pc_plus(regs, offset), regs)
+            branch(takes, offset, regs)
         }
         JumpInstruction::Mret => mret(regs),
     }

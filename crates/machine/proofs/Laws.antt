@@ -1,16 +1,16 @@
 -- Laws of the machine's definitions that the proofs of `step` and `run` cite. Assumes nothing.
-use Prim.Native.Nat.{ℕ, zero, suc, _+_, _-_, _*_, _/_, _%_, _^_, _≤_, _<_}
-use mathlib.Core.Path.{_≡_, refl, sym, ap, ap₂, _∙_}
-use mathlib.Core.Bool.{Bool, true, false, cond, _&&_, true≢false}
+use Prim.Native.Nat.{ℕ, zero, suc, _+_, _-_, _*_, _/_, _^_, _≤_, _<_}
+use mathlib.Core.Path.{_≡_, refl, sym, ap, ap₂}
+use mathlib.Core.Bool.{Bool, true, false, cond, _&&_}
 use mathlib.Core.List.{List}
 use native.Mathlib.Omega.{arith}
 use lib.Dec.{ltb, leb, eqb}
 use lib.ListN.{getD, length}
 use borrow.Author.Tests.{eqb-true, eqb-false, ltb-false, eq-eqb, ne-eqb, lt-ltb, le-ltb}
-use Rattle.commit.specs.Commit.{State, state, retires}
-use Rattle.execution.specs.Step.{Good, effectAt, stepOf}
+use Rattle.commit.specs.Commit.{State, retires}
+use Rattle.execution.specs.Step.{effectAt, stepOf}
 use Rattle.state.specs.Registers.{registerWords, capabilityCount}
-use Rattle.machine.specs.Refusals.{leastMemory, mostMemory, mostSteps, goodMemory, goodTags, goodZero, refusalOf, runRefusal}
+use Rattle.machine.specs.Refusals.{mostSteps, goodMemory, goodTags, goodZero, refusalOf, runRefusal}
 use Rattle.machine.specs.Run.{Ran, ran, oneMore, iterate, stepAnswer, stepAfter, StepPromise, runAnswer, runAfter, RunPromise, stepNumber, stepRetired, stepTrapped, runNumber, runRetired, runTrapped}
 use Rattle.machine.specs.declared.StepAnswer.{StepAnswer}
 use Rattle.machine.specs.declared.StepAnswer.the-variants as StepAnswer
@@ -22,36 +22,6 @@ pub tags-turn : (regs : List ℕ) (i : ℕ) → i < 21
     → goodTags (21 - i) regs i ≡ (leb (getD regs (i * 3 + 2) 0) 1 && goodTags (21 - (i + 1)) regs (i + 1))
 unfolding goodTags
 tags-turn regs i h = let e : 21 - i ≡ suc (21 - (i + 1)) = omega arith in rw e refl
-
--- where no refusal applies, the sizes are good
-tests-held : (a b c d : Bool) → _≡_ {A = ℕ} (cond a (cond b (cond c (cond d 0 4) 3) 2) 1) 0 → (a ≡ true) × (b ≡ true) × (c ≡ true)
-tests-held true true true d h = (refl, refl, refl)
-tests-held true true false d h = absurd (omega arith)
-tests-held true false c d h = absurd (omega arith)
-tests-held false b c d h = absurd (omega arith)
-
-third : (a b c d : Bool) → (a && (b && (c && d))) ≡ true → c ≡ true
-third true true true d h = refl
-third true true false d h = h
-third true false c d h = absurd (true≢false (sym h))
-third false b c d h = absurd (true≢false (sym h))
-
-both-true : (a b : Bool) → (a && b) ≡ true → (a ≡ true) × (b ≡ true)
-both-true true b h = (refl, h)
-both-true false b h = absurd (true≢false (sym h))
-
-pub none-good : (start : ℕ) (revoked : List ℕ) (s : State) → refusalOf start revoked s ≡ 0 → Good (s .regs) (s .mem) (s .tags) revoked
-unfolding refusalOf goodMemory
-none-good start revoked s h =
-    let n : ℕ = length (s .mem) in
-    let t = tests-held (eqb (length (s .regs)) registerWords) (goodMemory start n)
-    (eqb (length (s .tags)) (n / 64) && eqb (length revoked) (n / 64)) (goodTags capabilityCount (s .regs) 0 && goodZero (s .regs)) h in
-    let w : n % 64 ≡ 0 = eqb-true (n % 64) 0
-    (third (leb leastMemory n) (leb n mostMemory) (eqb (n % 64) 0) (eqb (start % 8) 0 && leb (start + n) (2 ^ 32)) (t .1)) in
-    let l = both-true (eqb (length (s .tags)) (n / 64)) (eqb (length revoked) (n / 64)) (t .2) in
-    let tags-long : length (s .tags) ≡ n / 64 = eqb-true (length (s .tags)) (n / 64) (l .0) in
-    let revoked-long : length revoked ≡ n / 64 = eqb-true (length revoked) (n / 64) (l .1) in
-    record { registers = eqb-true (length (s .regs)) registerWords (t .0); granules = omega arith; revocation = omega arith }
 
 -- one turn of a run
 pub run-turn : (start n k : ℕ) (revoked : List ℕ) (s after : State) (r t one : ℕ) → k < n → after ≡ stepOf start revoked s

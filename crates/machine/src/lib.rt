@@ -1,12 +1,10 @@
 // The machine over lent buffers: a step, and a run of steps.
 ghost use mathlib.Core.Path.{_≡_};
 ghost use mathlib.Core.Bool.{cond, _&&_};
-ghost use Prim.Native.Nat.{_+_, _-_, _*_, _/_, _<_, _≤_};
+ghost use Prim.Native.Nat.{_-_, _/_, _≤_};
 ghost use lib.Dec.{eqb};
-ghost use lib.ListN.{length};
-ghost use Rattle.state.specs.Registers.{registerWords, capabilityCount};
-ghost use Rattle.commit.specs.Commit.{State, state};
-ghost use Rattle.execution.specs.Step.{Good};
+ghost use Rattle.state.specs.Registers.{capabilityCount};
+ghost use Rattle.commit.specs.Commit.{state};
 ghost use Rattle.machine.specs.Refusals.{goodMemory, goodTags, goodZero, refusalOf};
 ghost use Rattle.machine.specs.Run.{StepPromise, ran, iterate, RunPromise};
 
@@ -46,12 +44,11 @@ fn good_memory(start: u32, size: usize) -> bool
 
 // Whether each tag word of the register file is 0 or 1.
 fn good_tags(regs: &[u32]) -> bool
-    requires { ⌜ length (now regs) ≡ registerWords ⌝ }
     ensures { λ r. ⌜ r ≡ goodTags capabilityCount (now (regs .entry)) 0 ⌝ }
 {
     let mut i = 0;
     while i < 21 {
-        if 1 < regs[i * 3 + 2] {
+        if 1 < words::word_at(regs, i * 3 + 2) {
             return false;
         }
         i += 1;
@@ -61,16 +58,15 @@ fn good_tags(regs: &[u32]) -> bool
 
 // Whether each word of c0 is 0.
 fn good_zero(regs: &[u32]) -> bool
-    requires { ⌜ length (now regs) ≡ registerWords ⌝ }
     ensures { λ r. ⌜ r ≡ goodZero (now (regs .entry)) ⌝ }
 {
-    if regs[0] != 0 {
+    if words::word_at(regs, 0) != 0 {
         return false;
     }
-    if regs[1] != 0 {
+    if words::word_at(regs, 1) != 0 {
         return false;
     }
-    regs[2] == 0
+    words::word_at(regs, 2) == 0
 }
 
 // Whether the tag and revocation buffers are as long as memory asks.
@@ -85,7 +81,6 @@ fn good_lengths(size: usize, tags: usize, revoked: usize) -> bool
 
 // Whether the register file's words are as they must be.
 fn good_words(regs: &[u32]) -> bool
-    requires { ⌜ length (now regs) ≡ registerWords ⌝ }
     ensures { λ r. ⌜ r ≡ (goodTags capabilityCount (now (regs .entry)) 0 && goodZero (now (regs .entry))) ⌝ }
 {
     if good_tags(regs) {
@@ -134,7 +129,7 @@ pub fn step(
     if no != 0 {
         return StepAnswer::Refused(no);
     }
-    if execution::step_good(regs, start, mem, tags, revoked) {
+    if execution::take_step(regs, start, mem, tags, revoked) {
         StepAnswer::Retired
     } else {
         StepAnswer::Trapped
@@ -154,8 +149,8 @@ fn one_if(b: bool) -> u32
     if b { 1 } else { 0 }
 }
 
-// n steps of good buffers.
-fn run_good(
+// n steps. Nothing is refused.
+fn take_steps(
     regs: &mut [u32],
     start: u32,
     mem: &mut [u8],
@@ -163,14 +158,13 @@ fn run_good(
     revoked: &[u8],
     n: u32,
 ) -> Counts
-    requires { ⌜ Good (now regs) (now mem) (now tags) (now revoked) ⌝ }
     ensures { λ r. ⌜ ran (state (now (regs .exit)) (now (mem .exit)) (now (tags .exit))) (r .retired) (r .trapped) ≡ iterate n start (now (revoked .entry)) (ran (state (now (regs .entry)) (now (mem .entry)) (now (tags .entry))) 0 0) ⌝ }
 {
     let mut retired: u32 = 0;
     let mut trapped: u32 = 0;
     let mut k: u32 = 0;
     while k < n {
-        let one = one_if(execution::step_good(regs, start, mem, tags, revoked));
+        let one = one_if(execution::take_step(regs, start, mem, tags, revoked));
         retired += one;
         trapped += 1 - one;
         k += 1;
@@ -196,7 +190,7 @@ pub fn run(
     if 1000000 < n {
         return RunAnswer::Refused(5);
     }
-    let counts = run_good(regs, start, mem, tags, revoked, n);
+    let counts = take_steps(regs, start, mem, tags, revoked, n);
     RunAnswer::Ran {
         retired: counts.retired,
         trapped: counts.trapped,

@@ -1,13 +1,12 @@
 // What loads and stores do: the checks of the authority, the place in memory, then the value or the bytes.
 ghost use mathlib.Core.Path.{_≡_};
 ghost use mathlib.Core.Bool.{cond, not, _&&_};
-ghost use Prim.Native.Nat.{_+_, _*_, _≤_, _<_};
-ghost use lib.ListN.{length};
-ghost use Rattle.state.specs.Registers.{registerWords};
-ghost use Rattle.state.specs.Memory.{lent, Within, loadWidth, granuleBytes};
+ghost use Prim.Native.Nat.{_+_};
+ghost use Rattle.words.specs.Words.{wrap};
+ghost use Rattle.state.specs.Memory.{lent};
 ghost use Rattle.state.specs.Checks.{tagCause, sealCause, storeCause, storeCapabilityCause, storeLocalCause, boundsCause};
 ghost use Rattle.capability.specs.Capability.{keepTagIf};
-ghost use Rattle.memory_instructions.specs.Access.{addressOf, loadedValue, loadAt, loadEffect, storeAt, storeEffect, filtered, revokedValue, loadCapabilityAt, loadCapabilityEffect, storeCapabilityCheck, storeCapabilityAt, storeCapabilityEffect, memoryEffect};
+ghost use Rattle.memory_instructions.specs.Access.{loadedValue, loadAt, loadEffect, storeAt, storeEffect, filtered, revokedValue, loadCapabilityAt, loadCapabilityEffect, storeCapabilityCheck, storeCapabilityAt, storeCapabilityEffect, memoryEffect};
 use capability::Capability;
 use instructions::LoadKind;
 use instructions::MemoryInstruction;
@@ -18,7 +17,6 @@ use std::num::wrapping_add_u32;
 
 // The value of a load at a place of memory.
 fn loaded_value(kind: LoadKind, mem: &[u8], at: usize) -> u32
-    requires { ⌜ at + loadWidth kind ≤ length (now mem) ⌝ }
     ensures { λ r. ⌜ r ≡ loadedValue kind (now (mem .entry)) at ⌝ }
 {
     match kind {
@@ -30,16 +28,14 @@ fn loaded_value(kind: LoadKind, mem: &[u8], at: usize) -> u32
     }
 }
 
-// The address of an access.
-fn address_of(regs: &[u32], rs1: u32, offset: u32) -> u32
-    requires { ⌜ length (now regs) ≡ registerWords ⌝ }
-    ensures { λ r. ⌜ r ≡ addressOf (now (regs .entry)) rs1 offset ⌝ }
+// The address of an access through an authority.
+fn address_of(authority: Capability, offset: u32) -> u32
+    ensures { λ r. ⌜ r ≡ wrap (authority .address + offset) ⌝ }
 {
-    wrapping_add_u32(state::integer_at(regs, rs1), offset)
+    wrapping_add_u32(authority.address, offset)
 }
 
 fn load_at(p: Place, kind: LoadKind, rd: u32, address: u32, mem: &[u8]) -> Effect
-    requires { ⌜ Within p (loadWidth kind) (length (now mem)) ⌝ }
     ensures { λ r. ⌜ r ≡ loadAt p kind rd address (now (mem .entry)) ⌝ }
 {
     match p {
@@ -116,7 +112,6 @@ fn store(
 
 // Whether the load filter takes a value's tag: its low bound lies in a revoked granule.
 fn is_revoked(start: u32, mem: &[u8], tags: &[u8], revoked: &[u8], v: Capability) -> bool
-    requires { ⌜ length (now mem) ≤ 64 * length (now revoked) ⌝ }
     ensures { λ r. ⌜ r ≡ revokedValue (lent start (now (mem .entry)) (now (tags .entry)) (now (revoked .entry))) v ⌝ }
 {
     let b = capability::bounds_of(v);
@@ -156,7 +151,6 @@ fn filter(
     tags: &[u8],
     revoked: &[u8],
 ) -> Capability
-    requires { ⌜ length (now mem) ≤ 64 * length (now revoked) ⌝ }
     ensures { λ r. ⌜ r ≡ filtered authority value (lent start (now (mem .entry)) (now (tags .entry)) (now (revoked .entry))) ⌝ }
 {
     let v = capability::loaded(authority, value);
@@ -173,7 +167,6 @@ fn load_capability_at(
     tags: &[u8],
     revoked: &[u8],
 ) -> Effect
-    requires { ⌜ Within p granuleBytes (length (now mem)) × (length (now mem) ≤ 64 * length (now tags)) × (length (now mem) ≤ 64 * length (now revoked)) ⌝ }
     ensures { λ r. ⌜ r ≡ loadCapabilityAt p rd address authority (lent start (now (mem .entry)) (now (tags .entry)) (now (revoked .entry))) ⌝ }
 {
     match p {
@@ -189,7 +182,7 @@ fn load_capability_at(
             rd,
             value: filter(
                 authority,
-                state::capability_in(mem, tags, at as usize),
+                state::capability_in(mem, tags, at),
                 start,
                 mem,
                 tags,
@@ -210,7 +203,6 @@ fn load_capability(
     tags: &[u8],
     revoked: &[u8],
 ) -> Effect
-    requires { ⌜ (length (now mem) ≤ 64 * length (now tags)) × (length (now mem) ≤ 64 * length (now revoked)) ⌝ }
     ensures { λ r. ⌜ r ≡ loadCapabilityEffect rd rs1 address authority (lent start (now (mem .entry)) (now (tags .entry)) (now (revoked .entry))) ⌝ }
 {
     let cause = state::access_cause(authority, 5, 18, address, 8);
@@ -312,7 +304,6 @@ pub fn memory_effect(
     tags: &[u8],
     revoked: &[u8],
 ) -> Effect
-    requires { ⌜ (length (now regs) ≡ registerWords) × (length (now mem) ≤ 64 * length (now tags)) × (length (now mem) ≤ 64 * length (now revoked)) ⌝ }
     ensures { λ r. ⌜ r ≡ memoryEffect i (now (regs .entry)) (lent start (now (mem .entry)) (now (tags .entry)) (now (revoked .entry))) ⌝ }
 {
     match i {
@@ -323,7 +314,7 @@ pub fn memory_effect(
             offset,
         } => {
             let c = state::register_at(regs, rs1);
-            load(kind, rd, rs1, address_of(regs, rs1, offset), c, start, mem)
+            load(kind, rd, rs1, address_of(c, offset), c, start, mem)
         }
         MemoryInstruction::Store {
             kind,
@@ -333,33 +324,16 @@ pub fn memory_effect(
         } => {
             let c = state::register_at(regs, rs1);
             let v = state::integer_at(regs, rs2);
-            store(
-                kind,
-                rs1,
-                address_of(regs, rs1, offset),
-                v,
-                c,
-                start,
-                mem.len(),
-            )
+            store(kind, rs1, address_of(c, offset), v, c, start, mem.len())
         }
         MemoryInstruction::LoadCapability { rd, rs1, offset } => {
             let c = state::register_at(regs, rs1);
-            load_capability(
-                rd,
-                rs1,
-                address_of(regs, rs1, offset),
-                c,
-                start,
-                mem,
-                tags,
-                revoked,
-            )
+            load_capability(rd, rs1, address_of(c, offset), c, start, mem, tags, revoked)
         }
         MemoryInstruction::StoreCapability { rs1, rs2, offset } => {
             let c = state::register_at(regs, rs1);
             let v = state::register_at(regs, rs2);
-            store_capability(rs1, address_of(regs, rs1, offset), v, c, start, mem.len())
+            store_capability(rs1, address_of(c, offset), v, c, start, mem.len())
         }
     }
 }

@@ -12,7 +12,7 @@ use Rattle.capability.specs.declared.Capability.{Capability}
 use Rattle.capability.proofs.Laws.{Kept, kept-le, move-kept}
 use Rattle.instructions.specs.declared.StoreKind.{StoreKind}
 use Rattle.instructions.specs.declared.StoreKind.the-variants.{Sb, Sh, Sw}
-use Rattle.state.specs.Registers.{capabilityAt, capabilityCount, registerAt, pccOf, legalized}
+use Rattle.state.specs.Registers.{capabilityAt, capabilityCount, registerAt, integerAt, pccOf, legalized}
 use Rattle.state.specs.Memory.{placeOf, capabilityIn, storeWidth, granuleBytes}
 use Rattle.state.specs.Checks.{checked, capabilityTrap, boundsCause, tagCause, sealCause}
 use Rattle.state.specs.Effects.{OneGranule, StoresWithin, Storeless, GoodTag, GoodTags}
@@ -97,6 +97,13 @@ place-within start size address width w h = go (eqb (address % width) 0) refl (l
         let l = leb-true start address q in
         let m = leb-true (address + width) (start + size) r in
         record { inside = omega arith; together = in-granule start address width w h (eqb-true (address % width) 0 p) l }
+
+-- ---- the register file
+
+-- the integer in a register is its address
+pub integer-is : (regs : List ℕ) (r : ℕ) → integerAt regs r ≡ registerAt regs r .address
+unfolding integerAt capabilityAt
+integer-is regs r = refl
 
 -- ---- tags
 

@@ -1,7 +1,7 @@
 -- Places in the lent memory, capabilities in it, and revocation. Document 01, "What is lent", "Loading capabilities". Assumes nothing.
 use mathlib.Core.Bool.{Bool, false, cond, _&&_}
 use mathlib.Core.List.{List}
-use Prim.Native.Nat.{ℕ, _+_, _-_, _*_, _/_, _%_, _^_, _≤_}
+use Prim.Native.Nat.{ℕ, _+_, _-_, _/_, _%_}
 use lib.Dec.{eqb, leb, ltb}
 use Rattle.words.specs.Words.{le32, bitAt}
 use Rattle.capability.specs.Capability.{capability}
@@ -46,12 +46,6 @@ placeOf start size address width =
     cond (eqb (address % width) 0)
     (cond (leb start address && leb (address + width) (start + size)) (At (address - start)) Outside)
     Misaligned
-
--- a place in memory has room for the access
-abbrev pub Within : Place → (width size : ℕ) → Type 0
-Within Misaligned width size = Unit {0}
-Within Outside width size = Unit {0}
-Within (At i) width size = i + width ≤ size
 
 -- the capability at a place: address, then metadata, little-endian, and the granule's tag
 unfoldable pub capabilityIn : (mem tags : List ℕ) → (i : ℕ) → Capability

@@ -2,11 +2,10 @@
 ghost use mathlib.Core.Path.{_≡_};
 ghost use mathlib.Core.Bool.{cond, not, _&&_};
 ghost use lib.Dec.{leb};
-ghost use Prim.Native.Nat.{_+_, _-_, _*_, _%_, _<_, _≤_};
-ghost use lib.ListN.{length};
+ghost use Prim.Native.Nat.{_+_, _-_, _%_, _<_};
 ghost use Rattle.words.specs.Words.{withBit};
-ghost use Rattle.state.specs.Registers.{registerWords, capabilityCount, capabilityAt, registerAt, integerAt, pccOf, mstatusOf, csrAt, csrIndex, scrIndex, scrNumber, trapStatus, returnStatus, writtenStatus, legalized, MIE, MPIE};
-ghost use Rattle.state.specs.Memory.{loadWidth, storeWidth, placeOf, Within, capabilityIn, revokedAt, granuleBytes};
+ghost use Rattle.state.specs.Registers.{capabilityAt, registerAt, integerAt, pccOf, csrAt, csrIndex, scrIndex, scrNumber, trapStatus, returnStatus, writtenStatus, legalized, MIE, MPIE};
+ghost use Rattle.state.specs.Memory.{loadWidth, storeWidth, placeOf, capabilityIn, revokedAt};
 ghost use Rattle.state.specs.Checks.{capabilityTrap, checked, inBounds, accessCause, systemAccess, boundsCause, tagCause, sealCause};
 use capability::Capability;
 use instructions::Csr;
@@ -64,45 +63,48 @@ pub enum Effect {
 // ---- the register file
 
 // Capability i of the register file.
-pub fn capability_at(regs: &[u32], i: usize) -> Capability
-    requires { ⌜ (i < capabilityCount) × (length (now regs) ≡ registerWords) ⌝ }
+pub fn capability_at(regs: &[u32], i: u32) -> Capability
     ensures { λ r. ⌜ r ≡ capabilityAt (now (regs .entry)) i ⌝ }
 {
-    let at = i * 3;
-    Capability {
-        address: regs[at],
-        metadata: regs[at + 1],
-        tag: regs[at + 2],
+    let at = i as usize * 3;
+    if at + 3 <= regs.len() {
+        Capability {
+            address: regs[at],
+            metadata: regs[at + 1],
+            tag: regs[at + 2],
+        }
+    } else {
+        Capability {
+            address: words::word_at(regs, at),
+            metadata: words::word_at(regs, at + 1),
+            tag: words::word_at(regs, at + 2),
+        }
     }
 }
 
 // Register c0 to c15.
 pub fn register_at(regs: &[u32], r: u32) -> Capability
-    requires { ⌜ length (now regs) ≡ registerWords ⌝ }
     ensures { λ c. ⌜ c ≡ registerAt (now (regs .entry)) r ⌝ }
 {
-    capability_at(regs, (r % 16) as usize)
+    capability_at(regs, r % 16)
 }
 
 // The integer in a register: its address.
 pub fn integer_at(regs: &[u32], r: u32) -> u32
-    requires { ⌜ length (now regs) ≡ registerWords ⌝ }
     ensures { λ x. ⌜ x ≡ integerAt (now (regs .entry)) r ⌝ }
 {
-    let at = (r % 16 * 3) as usize;
-    regs[at]
+    words::word_at(regs, (r % 16 * 3) as usize)
 }
 
 pub fn pcc_of(regs: &[u32]) -> Capability
-    requires { ⌜ length (now regs) ≡ registerWords ⌝ }
     ensures { λ r. ⌜ r ≡ pccOf (now (regs .entry)) ⌝ }
 {
     capability_at(regs, 16)
 }
 
 // The place of a special register in the register file.
-pub fn scr_index(scr: Scr) -> usize
-    ensures { λ r. ⌜ (r ≡ scrIndex scr) × (r < capabilityCount) ⌝ }
+pub fn scr_index(scr: Scr) -> u32
+    ensures { λ r. ⌜ r ≡ scrIndex scr ⌝ }
 {
     match scr {
         Scr::Mtcc => 17,
@@ -125,7 +127,7 @@ pub fn scr_number(scr: Scr) -> u32
 }
 
 pub fn csr_index(csr: Csr) -> usize
-    ensures { λ r. ⌜ (r ≡ csrIndex csr) × (r < registerWords) ⌝ }
+    ensures { λ r. ⌜ r ≡ csrIndex csr ⌝ }
 {
     match csr {
         Csr::Mstatus => 63,
@@ -135,11 +137,9 @@ pub fn csr_index(csr: Csr) -> usize
 }
 
 pub fn csr_at(regs: &[u32], csr: Csr) -> u32
-    requires { ⌜ length (now regs) ≡ registerWords ⌝ }
     ensures { λ r. ⌜ r ≡ csrAt (now (regs .entry)) csr ⌝ }
 {
-    let at = csr_index(csr);
-    regs[at]
+    words::word_at(regs, csr_index(csr))
 }
 
 // mstatus with another MIE.
@@ -187,7 +187,7 @@ pub fn legalize(c: Capability) -> Capability
 // ---- memory
 
 pub fn load_width(kind: LoadKind) -> u32
-    ensures { λ r. ⌜ (r ≡ loadWidth kind) × (0 < r) × (r ≤ 4) ⌝ }
+    ensures { λ r. ⌜ r ≡ loadWidth kind ⌝ }
 {
     match kind {
         LoadKind::Lb => 1,
@@ -199,7 +199,7 @@ pub fn load_width(kind: LoadKind) -> u32
 }
 
 pub fn store_width(kind: StoreKind) -> u32
-    ensures { λ r. ⌜ (r ≡ storeWidth kind) × (0 < r) × (r ≤ 4) ⌝ }
+    ensures { λ r. ⌜ r ≡ storeWidth kind ⌝ }
 {
     match kind {
         StoreKind::Sb => 1,
@@ -208,12 +208,12 @@ pub fn store_width(kind: StoreKind) -> u32
     }
 }
 
-// address mod width: the widths of accesses need no division.
+// address mod width: the widths of accesses need no division, and mod 0 is the address.
 fn remainder(address: u32, width: u32) -> u32
-    requires { ⌜ 0 < width ⌝ }
     ensures { λ r. ⌜ r ≡ address % width ⌝ }
 {
     match width {
+        0 => address,
         1 => 0,
         2 => address % 2,
         4 => address % 4,
@@ -224,7 +224,7 @@ fn remainder(address: u32, width: u32) -> u32
 
 // Where aligned bytes lie: in memory, or outside.
 fn aligned_place(start: u32, size: usize, address: u32, width: u32) -> Place
-    ensures { λ r. ⌜ (r ≡ cond (leb start address && leb (address + width) (start + size)) (Place.At (address - start)) Place.Outside) × Within r width size ⌝ }
+    ensures { λ r. ⌜ r ≡ cond (leb start address && leb (address + width) (start + size)) (Place.At (address - start)) Place.Outside ⌝ }
 {
     if start <= address {
         let at = address - start;
@@ -240,8 +240,7 @@ fn aligned_place(start: u32, size: usize, address: u32, width: u32) -> Place
 
 // Where width bytes at an address lie in a memory of size bytes from start.
 pub fn place_of(start: u32, size: usize, address: u32, width: u32) -> Place
-    requires { ⌜ 0 < width ⌝ }
-    ensures { λ r. ⌜ (r ≡ placeOf start size address width) × Within r width size ⌝ }
+    ensures { λ r. ⌜ r ≡ placeOf start size address width ⌝ }
 {
     if remainder(address, width) == 0 {
         aligned_place(start, size, address, width)
@@ -251,20 +250,19 @@ pub fn place_of(start: u32, size: usize, address: u32, width: u32) -> Place
 }
 
 // The capability at a place of memory.
-pub fn capability_in(mem: &[u8], tags: &[u8], at: usize) -> Capability
-    requires { ⌜ (at + granuleBytes ≤ length (now mem)) × (length (now mem) ≤ 64 * length (now tags)) ⌝ }
+pub fn capability_in(mem: &[u8], tags: &[u8], at: u32) -> Capability
     ensures { λ r. ⌜ r ≡ capabilityIn (now (mem .entry)) (now (tags .entry)) at ⌝ }
 {
+    let i = at as usize;
     Capability {
-        address: words::load32(mem, at),
-        metadata: words::load32(mem, at + 4),
-        tag: words::get_bit(tags, at / 8),
+        address: words::load32(mem, i),
+        metadata: words::load32(mem, i + 4),
+        tag: words::get_bit(tags, i / 8),
     }
 }
 
 // Whether the granule that holds an address is marked as revoked.
 pub fn revoked_at(start: u32, size: usize, revoked: &[u8], address: u32) -> bool
-    requires { ⌜ size ≤ 64 * length (now revoked) ⌝ }
     ensures { λ r. ⌜ r ≡ revokedAt start size (now (revoked .entry)) address ⌝ }
 {
     if start <= address {

@@ -1,7 +1,5 @@
 // What FENCE, WFI, ECALL, EBREAK, the CSR instructions and CSpecialRW do.
 ghost use mathlib.Core.Path.{_≡_};
-ghost use lib.ListN.{length};
-ghost use Rattle.state.specs.Registers.{registerWords};
 ghost use Rattle.system_instructions.specs.System.{csrAsked, csrWritten, csrEffect, scrValue, specialWrite, specialEffect, systemEffect};
 use capability::Capability;
 use instructions::Csr;
@@ -33,7 +31,6 @@ fn csr_written(csr: Csr, old: u32, asked: u32) -> u32
 }
 
 fn csr_effect(kind: CsrKind, csr: Csr, rd: u32, operand: u32, regs: &[u32]) -> Effect
-    requires { ⌜ length (now regs) ≡ registerWords ⌝ }
     ensures { λ r. ⌜ r ≡ csrEffect kind csr rd operand (now (regs .entry)) ⌝ }
 {
     let old = state::csr_at(regs, csr);
@@ -81,7 +78,6 @@ fn special_write(scr: Scr, rd: u32, rs1: u32, old: Capability, value: Capability
 
 // CSpecialRW.
 fn special(scr: Scr, rd: u32, rs1: u32, regs: &[u32]) -> Effect
-    requires { ⌜ length (now regs) ≡ registerWords ⌝ }
     ensures { λ r. ⌜ r ≡ specialEffect scr rd rs1 (now (regs .entry)) ⌝ }
 {
     let old = scr_value(scr, state::capability_at(regs, state::scr_index(scr)));
@@ -95,7 +91,6 @@ fn special(scr: Scr, rd: u32, rs1: u32, regs: &[u32]) -> Effect
 }
 
 pub fn system_effect(i: SystemInstruction, regs: &[u32]) -> Effect
-    requires { ⌜ length (now regs) ≡ registerWords ⌝ }
     ensures { λ r. ⌜ r ≡ systemEffect i (now (regs .entry)) ⌝ }
 {
     match i {

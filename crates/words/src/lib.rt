@@ -2,7 +2,7 @@
 ghost use mathlib.Core.Path.{_≡_};
 ghost use mathlib.Core.Bool.{cond};
 ghost use Prim.Native.Nat.{_+_, _-_, _*_, _<_, _≤_, _%_, _^_};
-ghost use lib.ListN.{length};
+ghost use lib.ListN.{getD, set};
 ghost use lib.Dec.{ltb};
 ghost use lib.Bits.{bitAnd, bitXor, bitOr};
 ghost use Rattle.words.specs.Words.{signExtend, sllOf, srlOf, sraOf, lessSigned, sltOf, sltuOf, le8, le16, le32, set8, set16, set32, bitAt, withBit, putBit};
@@ -97,57 +97,121 @@ fn wide(x: u8) -> u32
     x as u32
 }
 
-pub fn load8(m: &[u8], at: usize) -> u32
-    requires { ⌜ at < length (now m) ⌝ }
-    ensures { λ r. ⌜ r ≡ le8 (now (m .entry)) at ⌝ }
+// Byte k from a place on; 0 outside the buffer.
+fn byte_from(m: &[u8], at: usize, k: usize) -> u32
+    ensures { λ r. ⌜ (r ≡ getD (now (m .entry)) (at + k) 0) × (r < 256) ⌝ }
 {
-    wide(m[at])
+    if at < m.len() {
+        if k < m.len() - at { wide(m[at + k]) } else { 0 }
+    } else {
+        0
+    }
 }
 
+// Byte k from a place on set; outside the buffer nothing is.
+fn put_byte_from(m: &mut [u8], at: usize, k: usize, v: u32)
+    ensures { λ _. ⌜ now (m .exit) ≡ set (now (m .entry)) (at + k) (v % 256) ⌝ }
+{
+    if at < m.len() {
+        if k < m.len() - at {
+            m[at + k] = (v % 256) as u8;
+        }
+    }
+}
+
+pub fn load8(m: &[u8], at: usize) -> u32
+    ensures { λ r. ⌜ r ≡ le8 (now (m .entry)) at ⌝ }
+{
+    byte_from(m, at, 0)
+}
+
+// Bytes that all lie in the buffer are read, and stored, after one test: the other, that the sum does not wrap, goes where the place is a u32.
 pub fn load16(m: &[u8], at: usize) -> u32
-    requires { ⌜ at + 2 ≤ length (now m) ⌝ }
     ensures { λ r. ⌜ r ≡ le16 (now (m .entry)) at ⌝ }
 {
-    wide(m[at]) + wide(m[at + 1]) * 256
+    if at < 0x8000_0000_0000_0000 {
+        if at + 2 <= m.len() {
+            return wide(m[at]) + wide(m[at + 1]) * 256;
+        }
+    }
+    byte_from(m, at, 0) + byte_from(m, at, 1) * 256
 }
 
 pub fn load32(m: &[u8], at: usize) -> u32
-    requires { ⌜ at + 4 ≤ length (now m) ⌝ }
     ensures { λ r. ⌜ r ≡ le32 (now (m .entry)) at ⌝ }
 {
-    wide(m[at]) + wide(m[at + 1]) * 256 + wide(m[at + 2]) * 65536 + wide(m[at + 3]) * 16777216
+    if at < 0x8000_0000_0000_0000 {
+        if at + 4 <= m.len() {
+            return wide(m[at])
+                + wide(m[at + 1]) * 256
+                + wide(m[at + 2]) * 65536
+                + wide(m[at + 3]) * 16777216;
+        }
+    }
+    byte_from(m, at, 0)
+        + byte_from(m, at, 1) * 256
+        + byte_from(m, at, 2) * 65536
+        + byte_from(m, at, 3) * 16777216
 }
 
 pub fn store8(m: &mut [u8], at: usize, v: u32)
-    requires { ⌜ at < length (now m) ⌝ }
     ensures { λ _. ⌜ now (m .exit) ≡ set8 (now (m .entry)) at v ⌝ }
 {
-    m[at] = (v % 256) as u8;
+    put_byte_from(m, at, 0, v);
 }
 
 pub fn store16(m: &mut [u8], at: usize, v: u32)
-    requires { ⌜ at + 2 ≤ length (now m) ⌝ }
     ensures { λ _. ⌜ now (m .exit) ≡ set16 (now (m .entry)) at v ⌝ }
 {
-    m[at] = (v % 256) as u8;
-    m[at + 1] = (v / 256 % 256) as u8;
+    if at < 0x8000_0000_0000_0000 {
+        if at + 2 <= m.len() {
+            m[at] = (v % 256) as u8;
+            m[at + 1] = (v / 256 % 256) as u8;
+            return;
+        }
+    }
+    put_byte_from(m, at, 0, v);
+    put_byte_from(m, at, 1, v / 256);
 }
 
 pub fn store32(m: &mut [u8], at: usize, v: u32)
-    requires { ⌜ at + 4 ≤ length (now m) ⌝ }
     ensures { λ _. ⌜ now (m .exit) ≡ set32 (now (m .entry)) at v ⌝ }
 {
-    m[at] = (v % 256) as u8;
-    m[at + 1] = (v / 256 % 256) as u8;
-    m[at + 2] = (v / 65536 % 256) as u8;
-    m[at + 3] = (v / 16777216 % 256) as u8;
+    if at < 0x8000_0000_0000_0000 {
+        if at + 4 <= m.len() {
+            m[at] = (v % 256) as u8;
+            m[at + 1] = (v / 256 % 256) as u8;
+            m[at + 2] = (v / 65536 % 256) as u8;
+            m[at + 3] = (v / 16777216 % 256) as u8;
+            return;
+        }
+    }
+    put_byte_from(m, at, 0, v);
+    put_byte_from(m, at, 1, v / 256);
+    put_byte_from(m, at, 2, v / 65536);
+    put_byte_from(m, at, 3, v / 16777216);
+}
+
+// Element i of a buffer of words; 0 outside.
+pub fn word_at(l: &[u32], i: usize) -> u32
+    ensures { λ r. ⌜ r ≡ getD (now (l .entry)) i 0 ⌝ }
+{
+    if i < l.len() { l[i] } else { 0 }
+}
+
+// Element i set; outside nothing is.
+pub fn put_word(l: &mut [u32], i: usize, v: u32)
+    ensures { λ _. ⌜ now (l .exit) ≡ set (now (l .entry)) i v ⌝ }
+{
+    if i < l.len() {
+        l[i] = v;
+    }
 }
 
 pub fn get_bit(t: &[u8], g: usize) -> u32
-    requires { ⌜ g < 8 * length (now t) ⌝ }
     ensures { λ r. ⌜ r ≡ bitAt (now (t .entry)) g ⌝ }
 {
-    wide((t[g / 8] >> (g % 8)) % 2)
+    (byte_from(t, g / 8, 0) >> (g % 8)) % 2
 }
 
 fn with_bit(b: u32, k: u32, v: u32) -> u32
@@ -159,8 +223,9 @@ fn with_bit(b: u32, k: u32, v: u32) -> u32
 }
 
 pub fn put_bit(t: &mut [u8], g: usize, v: u32)
-    requires { ⌜ g < 8 * length (now t) ⌝ }
     ensures { λ _. ⌜ now (t .exit) ≡ putBit (now (t .entry)) g v ⌝ }
 {
-    t[g / 8] = with_bit(wide(t[g / 8]), (g % 8) as u32, v) as u8;
+    if g / 8 < t.len() {
+        t[g / 8] = with_bit(wide(t[g / 8]), (g % 8) as u32, v) as u8;
+    }
 }

@@ -1,18 +1,13 @@
-use lib.ListN.{length-set}
-use native.Mathlib.Omega.{arith}
 use Rattle.commit.specs.Commit.{jumped}
 use borrow.Author.Needs.{needs}
 use Rattle.commit.proofs.jump.Statement.{statement}
 use Rattle.commit.proofs.jump.Tie as tie
 
-same-length : tie.Need-same-length
-same-length c = simp length-set (omega arith)
-
 returns : tie.Need-returns
 unfolding jumped
-returns c = simp (c .before .before .set-capability .ensures, c .before .before .before .before .before .before .write-register .ensures)
+returns c = simp (c .before .before .set-csr .ensures, c .before .before .before .before .before .before .set-capability .ensures, c .before .before .before .before .before .before .before .before .before .before .write-register .ensures)
 
 pub jump-spec : {M : Type 1} → statement M
 jump-spec =
     tie.close
-    (tie.spec (λ c κs. search needs) (λ c κs. search needs) (λ c. search needs) same-length returns)
+    (tie.spec (λ c κs. search needs) (λ c κs. search needs) (λ c κs. search needs) (λ c. search needs) returns)

@@ -1,16 +1,6 @@
-use native.Mathlib.Omega.{arith}
 use borrow.Author.Needs.{needs}
 use Rattle.commit.proofs.put_bytes.Statement.{statement}
 use Rattle.commit.proofs.put_bytes.Tie as tie
-
-store8-requires : tie.Need-store8-requires
-store8-requires c κs = omega (arith, rw (c .before .enum-told .given .1) at (c .before .before .before .before .pre))
-
-store16-requires : tie.Need-store16-requires
-store16-requires c κs = omega (arith, rw (c .before .enum-told2 .given .1) at (c .before .before .before .before .pre))
-
-store32-requires : tie.Need-store32-requires
-store32-requires c κs = omega (arith, rw (c .before .enum-told3 .given .1) at (c .before .before .before .before .pre))
 
 returns : tie.Need-returns
 returns c = simp (c .before .before .store8 .ensures, c .before .before .before .before .enum-told .given .1)
@@ -26,11 +16,11 @@ put-bytes-spec =
     tie.close
     (tie.spec
     (λ c. search needs)
-    store8-requires
+    (λ c κs. search needs)
     (λ c. search needs)
-    store16-requires
+    (λ c κs. search needs)
     (λ c. search needs)
-    store32-requires
+    (λ c κs. search needs)
     (λ c. search needs)
     returns
     (λ c. search needs)

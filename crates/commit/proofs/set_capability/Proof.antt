@@ -16,6 +16,10 @@ returns : tie.Need-returns
 unfolding setCapability
 returns c = refl
 
+returns-2 : tie.Need-returns-2
+unfolding setCapability
+returns-2 c = simp (c .before .before .put-word3 .ensures, c .before .before .before .before .before .before .put-word2 .ensures, c .before .before .before .before .before .before .before .before .before .before .put-word .ensures)
+
 pub set-capability-spec : {M : Type 1} → statement M
 set-capability-spec =
     tie.close
@@ -25,9 +29,17 @@ set-capability-spec =
     (λ c. search needs)
     (λ c. search needs)
     (λ c. search needs)
+    (λ c. search needs)
     slice-write-regs-2
     (λ c. search needs)
     (λ c. search needs)
     slice-write-regs-3
+    (λ c κs. search needs)
     (λ c. search needs)
-    returns)
+    (λ c κs. search needs)
+    (λ c. search needs)
+    (λ c κs. search needs)
+    (λ c. search needs)
+    returns
+    (λ c. search needs)
+    returns-2)

@@ -13,5 +13,4 @@ unfolding writeRegister
 returns-2 c = simp (eq-eqb _ _ (c .if1 .left))
 
 pub write-register-spec : {M : Type 1} → statement M
-write-register-spec =
-    tie.close (tie.spec (λ c. search needs) (λ c κs. search needs) (λ c. search needs) returns returns-2)
+write-register-spec = tie.close (tie.spec (λ c κs. search needs) (λ c. search needs) returns returns-2)

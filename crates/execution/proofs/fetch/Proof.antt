@@ -6,11 +6,11 @@ use Rattle.execution.proofs.fetch.Tie as tie
 
 returns : tie.Need-returns
 unfolding checked
-returns c = simp (c .fetched-at .ensures, c .before .place-of .ensures .0, c .before .before .pcc-of .ensures, c .before .before .before .if1 .taken)
+returns c = simp (c .fetched-at .ensures, c .before .place-of .ensures, c .before .before .if1 .taken)
 
 returns-2 : tie.Need-returns-2
 unfolding checked
 returns-2 c = search tests
 
 pub fetch-spec : {M : Type 1} → statement M
-fetch-spec = tie.close (tie.spec (λ c κs. search needs) (λ c κs. search needs) (λ c κs. search needs) (λ c κs. search needs) returns returns-2)
+fetch-spec = tie.close (tie.spec (λ c κs. search needs) (λ c κs. search needs) (λ c κs. search needs) returns returns-2)

@@ -1,11 +1,7 @@
-use native.Mathlib.Omega.{arith}
 use Rattle.execution.specs.Step.{fetchedAt}
 use borrow.Author.Needs.{needs}
 use Rattle.execution.proofs.fetched_at.Statement.{statement}
 use Rattle.execution.proofs.fetched_at.Tie as tie
-
-load32-requires : tie.Need-load32-requires
-load32-requires c κs = omega (arith, rw (c .before .p .given .1) at (c .before .before .before .before .before .before .before .pre .0))
 
 returns : tie.Need-returns
 unfolding fetchedAt
@@ -29,7 +25,7 @@ fetched-at-spec =
     (λ c κs. search needs)
     (λ c. search needs)
     (λ c. search needs)
-    load32-requires
+    (λ c κs. search needs)
     (λ c κs. search needs)
     (λ c κs. search needs)
     returns

@@ -1,3 +1,4 @@
+use Rattle.state.proofs.Laws.{integer-is}
 use Rattle.jump_instructions.specs.Jumps.{jumpEffect}
 use borrow.Author.Needs.{needs}
 use Rattle.jump_instructions.proofs.jump_effect.Statement.{statement}
@@ -5,15 +6,15 @@ use Rattle.jump_instructions.proofs.jump_effect.Tie as tie
 
 returns : tie.Need-returns
 unfolding jumpEffect
-returns c = simp (c .jal .ensures, c .before .pc-plus .ensures, c .before .before .before .i .given .1)
+returns c = simp (c .jal .ensures, c .before .before .i .given .1)
 
 returns-2 : tie.Need-returns-2
 unfolding jumpEffect
-returns-2 c = simp (c .jalr .ensures, c .before .register-at .ensures, c .before .before .wrapping-add-u32 .ensures, c .before .before .before .integer-at .ensures, c .before .before .before .before .before .i2 .given .1)
+returns-2 c = simp (integer-is, c .jalr .ensures, c .before .wrapping-add-u32 .ensures, c .before .before .register-at .ensures, c .before .before .before .before .i2 .given .1)
 
 returns-3 : tie.Need-returns-3
 unfolding jumpEffect
-returns-3 c = simp (c .branch .ensures, c .before .pc-plus2 .ensures, c .before .before .is-taken .ensures, c .before .before .before .integer-at3 .ensures, c .before .before .before .before .integer-at2 .ensures, c .before .before .before .before .before .before .i3 .given .1)
+returns-3 c = simp (c .branch .ensures, c .before .is-taken .ensures, c .before .before .integer-at2 .ensures, c .before .before .before .integer-at .ensures, c .before .before .before .before .before .i3 .given .1)
 
 returns-4 : tie.Need-returns-4
 unfolding jumpEffect
@@ -25,15 +26,12 @@ jump-effect-spec =
     (tie.spec
     (λ c. search needs)
     (λ c κs. search needs)
-    (λ c κs. search needs)
     (λ c. search needs)
     (λ c κs. search needs)
     (λ c κs. search needs)
     (λ c. search needs)
     (λ c κs. search needs)
-    (λ c κs. search needs)
     (λ c. search needs)
-    (λ c κs. search needs)
     (λ c κs. search needs)
     (λ c κs. search needs)
     (λ c κs. search needs)

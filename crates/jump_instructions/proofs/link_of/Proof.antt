@@ -1,18 +1,14 @@
-use Rattle.jump_instructions.specs.Jumps.{linkOf}
 use borrow.Author.Needs.{needs}
 use Rattle.jump_instructions.proofs.link_of.Statement.{statement}
 use Rattle.jump_instructions.proofs.link_of.Tie as tie
 
 returns : tie.Need-returns
-unfolding linkOf
-returns c = simp (c .with-object-type .ensures, c .before .link-type .ensures, c .before .before .csr-at .ensures, c .before .before .before .move-address .ensures, c .before .before .before .before .wrapping-add-u32 .ensures, c .before .before .before .before .before .pcc-of .ensures)
+returns c = simp (c .with-object-type .ensures, c .before .link-type .ensures, c .before .before .move-address .ensures, c .before .before .before .wrapping-add-u32 .ensures)
 
 pub link-of-spec : {M : Type 1} → statement M
 link-of-spec =
     tie.close
     (tie.spec
-    (λ c κs. search needs)
-    (λ c κs. search needs)
     (λ c κs. search needs)
     (λ c κs. search needs)
     (λ c κs. search needs)

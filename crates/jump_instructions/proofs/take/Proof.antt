@@ -5,12 +5,13 @@ use Rattle.jump_instructions.proofs.take.Tie as tie
 
 returns : tie.Need-returns
 unfolding takenEffect
-returns c = simp (c .checked-effect .ensures, c .before .aligned-effect .ensures, c .before .before .target-cause .ensures, c .before .before .before .go-to .ensures, c .before .before .before .before .csr-at .ensures, c .before .before .before .before .before .move-address .ensures, c .before .before .before .before .before .before .pcc-of .ensures)
+returns c = simp (c .checked-effect .ensures, c .before .aligned-effect .ensures, c .before .before .target-cause .ensures, c .before .before .before .go-to .ensures, c .before .before .before .before .csr-at .ensures, c .before .before .before .before .before .move-address .ensures, c .before .before .before .before .before .before .wrapping-add-u32 .ensures, c .before .before .before .before .before .before .before .pcc-of .ensures)
 
 pub take-spec : {M : Type 1} → statement M
 take-spec =
     tie.close
     (tie.spec
+    (λ c κs. search needs)
     (λ c κs. search needs)
     (λ c κs. search needs)
     (λ c κs. search needs)

@@ -2,7 +2,7 @@ use borrow.Author.Tests.{le-leb, lt-leb}
 use borrow.Author.Needs.{needs}
 use Prim.Native.Nat.{_+_, _-_, _*_, _≤_, _<_}
 use lib.ListN.{getD}
-use mathlib.Core.Path.{_≡_, refl, sym, _∙_}
+use mathlib.Core.Path.{_≡_, sym, _∙_}
 use native.Mathlib.Omega.{arith}
 use Rattle.machine.specs.Refusals.{goodTags}
 use Rattle.machine.proofs.Laws as laws
@@ -18,23 +18,20 @@ abbrev μ-loop : tie.MeasureT-loop
 loop-holds : tie.Need-loop-holds Inv-loop μ-loop
 loop-holds c = search needs
 
-mul-if1 : tie.Need-mul-if1 Inv-loop μ-loop
-mul-if1 c = search needs
+mul-word-at : tie.Need-mul-word-at Inv-loop μ-loop
+mul-word-at c = search needs
 
-add-if1 : tie.Need-add-if1 Inv-loop μ-loop
-add-if1 c = search needs
+add-word-at : tie.Need-add-word-at Inv-loop μ-loop
+add-word-at c = search needs
 
-mul-if1-2 : tie.Need-mul-if1-2 Inv-loop μ-loop
-mul-if1-2 c = search needs
-
-shared-slice-read-if1 : tie.Need-shared-slice-read-if1 Inv-loop μ-loop
-shared-slice-read-if1 c = search needs
+word-at-requires : tie.Need-word-at-requires Inv-loop μ-loop
+word-at-requires c κs = search needs
 
 returns : tie.Need-returns Inv-loop μ-loop
 returns c =
-    let r = c .before .before .before .before .args .regs .now in
+    let r = c .before .before .before .before .before .args .regs .now in
     let i = c .before .before .before .loop .i in
-    let unsound : 1 < getD r (i * 3 + 2) 0 = omega (arith, c .if1 .taken) in
+    let unsound : 1 < getD r (i * 3 + 2) 0 = omega (arith, c .if1 .taken, c .before .word-at .ensures) in
     sym (rw (lt-leb (getD r (i * 3 + 2) 0) 1 unsound) at (laws.tags-turn r i (c .before .before .loop-test .taken))) ∙ c .before .before .before .loop .inv .1
 
 add-i : tie.Need-add-i Inv-loop μ-loop
@@ -45,9 +42,9 @@ loop-less c = search needs
 
 loop-again : tie.Need-loop-again Inv-loop μ-loop
 loop-again c =
-    let r = c .before .before .before .before .args .regs .now in
+    let r = c .before .before .before .before .before .args .regs .now in
     let i = c .before .before .before .loop .i in
-    let sound : getD r (i * 3 + 2) 0 ≤ 1 = omega (arith, c .if1 .left) in
+    let sound : getD r (i * 3 + 2) 0 ≤ 1 = omega (arith, c .if1 .left, c .before .word-at .ensures) in
     (search needs, sym (rw (le-leb (getD r (i * 3 + 2) 0) 1 sound) at (laws.tags-turn r i (c .before .before .loop-test .taken))) ∙ c .before .before .before .loop .inv .1)
 
 returns-2 : tie.Need-returns-2 Inv-loop μ-loop
@@ -61,10 +58,9 @@ good-tags-spec =
     Inv-loop
     μ-loop
     loop-holds
-    mul-if1
-    add-if1
-    mul-if1-2
-    shared-slice-read-if1
+    mul-word-at
+    add-word-at
+    word-at-requires
     returns
     add-i
     loop-less

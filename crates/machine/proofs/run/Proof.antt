@@ -10,11 +10,8 @@ returns c = laws.run-refused _ _ _ _ _ (c .before .refusal .ensures) (c .if1 .ta
 returns-2 : tie.Need-returns-2
 returns-2 c = laws.run-too-long _ _ _ _ (sym (c .before .if1 .left) ∙ c .before .before .refusal .ensures) (c .if2 .taken)
 
-run-good-requires : tie.Need-run-good-requires
-run-good-requires c κs = laws.none-good _ _ _ (sym (c .before .before .before .before .before .refusal .ensures) ∙ c .before .before .before .before .if1 .left)
-
 returns-3 : tie.Need-returns-3
-returns-3 c = laws.run-done _ _ _ _ _ _ _ (sym (c .before .before .before .before .before .before .before .before .before .before .before .if1 .left) ∙ c .before .before .before .before .before .before .before .before .before .before .before .before .refusal .ensures) (c .before .before .before .before .before .before .before .before .before .before .if2 .left) (c .before .before .before .before .before .before .run-good .ensures)
+returns-3 c = laws.run-done _ _ _ _ _ _ _ (sym (c .before .before .before .before .before .before .before .before .before .before .before .if1 .left) ∙ c .before .before .before .before .before .before .before .before .before .before .before .before .refusal .ensures) (c .before .before .before .before .before .before .before .before .before .before .if2 .left) (c .before .before .before .before .before .before .take-steps .ensures)
 
 pub run-spec : {M : Type 1} → statement M
 run-spec =
@@ -29,7 +26,7 @@ run-spec =
     (λ c. search needs)
     (λ c. search needs)
     returns-2
-    run-good-requires
+    (λ c κs. search needs)
     (λ c. search needs)
     (λ c. search needs)
     (λ c. search needs)

@@ -7,14 +7,11 @@ use Rattle.machine.proofs.step.Tie as tie
 returns : tie.Need-returns
 returns c = laws.step-refused _ _ _ _ (c .before .refusal .ensures) (c .if1 .taken)
 
-step-good-requires : tie.Need-step-good-requires
-step-good-requires c κs = laws.none-good _ _ _ (sym (c .before .before .before .before .refusal .ensures) ∙ c .before .before .before .if1 .left)
-
 returns-2 : tie.Need-returns-2
-returns-2 c = laws.step-retired _ _ _ _ _ (sym (c .before .before .before .before .before .before .before .before .before .before .before .if1 .left) ∙ c .before .before .before .before .before .before .before .before .before .before .before .before .refusal .ensures) (c .before .before .before .before .before .before .before .step-good .ensures .0) (c .if2 .taken) (c .before .before .before .before .before .before .before .step-good .ensures .1)
+returns-2 c = laws.step-retired _ _ _ _ _ (sym (c .before .before .before .before .before .before .before .before .before .before .before .if1 .left) ∙ c .before .before .before .before .before .before .before .before .before .before .before .before .refusal .ensures) (c .before .before .before .before .before .before .before .take-step .ensures .0) (c .if2 .taken) (c .before .before .before .before .before .before .before .take-step .ensures .1)
 
 returns-3 : tie.Need-returns-3
-returns-3 c = laws.step-trapped _ _ _ _ _ (sym (c .before .before .before .before .before .before .before .before .before .before .before .if1 .left) ∙ c .before .before .before .before .before .before .before .before .before .before .before .before .refusal .ensures) (c .before .before .before .before .before .before .before .step-good .ensures .0) (c .if2 .left) (c .before .before .before .before .before .before .before .step-good .ensures .1)
+returns-3 c = laws.step-trapped _ _ _ _ _ (sym (c .before .before .before .before .before .before .before .before .before .before .before .if1 .left) ∙ c .before .before .before .before .before .before .before .before .before .before .before .before .refusal .ensures) (c .before .before .before .before .before .before .before .take-step .ensures .0) (c .if2 .left) (c .before .before .before .before .before .before .before .take-step .ensures .1)
 
 pub step-spec : {M : Type 1} → statement M
 step-spec =
@@ -25,7 +22,7 @@ step-spec =
     (λ c. search needs)
     (λ c. search needs)
     returns
-    step-good-requires
+    (λ c κs. search needs)
     (λ c. search needs)
     (λ c. search needs)
     (λ c. search needs)

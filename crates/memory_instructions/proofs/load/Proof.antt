@@ -3,12 +3,9 @@ use borrow.Author.Needs.{needs}
 use Rattle.memory_instructions.proofs.load.Statement.{statement}
 use Rattle.memory_instructions.proofs.load.Tie as tie
 
-load-at-requires : tie.Need-load-at-requires
-load-at-requires c κs = rw (c .before .before .load-width .ensures .0) at (c .place-of .ensures .1)
-
 returns : tie.Need-returns
 unfolding loadEffect
-returns c = simp (c .checked-effect .ensures, c .before .load-at .ensures, c .before .before .place-of .ensures .0, c .before .before .before .access-cause .ensures, c .before .before .before .before .load-width .ensures .0)
+returns c = simp (c .checked-effect .ensures, c .before .load-at .ensures, c .before .before .place-of .ensures, c .before .before .before .access-cause .ensures, c .before .before .before .before .load-width .ensures)
 
 pub load-spec : {M : Type 1} → statement M
 load-spec =
@@ -17,6 +14,6 @@ load-spec =
     (λ c κs. search needs)
     (λ c κs. search needs)
     (λ c κs. search needs)
-    load-at-requires
+    (λ c κs. search needs)
     (λ c κs. search needs)
     returns)

@@ -1,11 +1,7 @@
-use native.Mathlib.Omega.{arith}
 use Rattle.memory_instructions.specs.Access.{loadAt}
 use borrow.Author.Needs.{needs}
 use Rattle.memory_instructions.proofs.load_at.Statement.{statement}
 use Rattle.memory_instructions.proofs.load_at.Tie as tie
-
-loaded-value-requires : tie.Need-loaded-value-requires
-loaded-value-requires c κs = omega (arith, rw (c .before .p .given .1) at (c .before .before .before .before .pre))
 
 returns : tie.Need-returns
 unfolding loadAt
@@ -22,4 +18,4 @@ returns-3 c = simp (c .loaded-value .ensures, c .before .before .p .given .1)
 pub load-at-spec : {M : Type 1} → statement M
 load-at-spec =
     tie.close
-    (tie.spec (λ c. search needs) (λ c. search needs) (λ c. search needs) (λ c. search needs) loaded-value-requires returns returns-2 returns-3)
+    (tie.spec (λ c. search needs) (λ c. search needs) (λ c. search needs) (λ c. search needs) (λ c κs. search needs) returns returns-2 returns-3)

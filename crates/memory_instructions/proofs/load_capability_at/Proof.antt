@@ -3,9 +3,6 @@ use borrow.Author.Needs.{needs}
 use Rattle.memory_instructions.proofs.load_capability_at.Statement.{statement}
 use Rattle.memory_instructions.proofs.load_capability_at.Tie as tie
 
-capability-in-requires : tie.Need-capability-in-requires
-capability-in-requires c κs = (rw (c .before .p .given .1) at (c .before .before .before .before .before .before .pre .0), c .before .before .before .before .before .before .pre .1)
-
 returns : tie.Need-returns
 unfolding loadCapabilityAt
 returns c = simp (c .enum-told .given .1)
@@ -25,8 +22,7 @@ load-capability-at-spec =
     (λ c. search needs)
     (λ c. search needs)
     (λ c. search needs)
-    (λ c. search needs)
-    capability-in-requires
+    (λ c κs. search needs)
     (λ c κs. search needs)
     returns
     returns-2

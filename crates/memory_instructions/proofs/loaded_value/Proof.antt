@@ -1,23 +1,7 @@
-use native.Mathlib.Omega.{arith}
 use Rattle.memory_instructions.specs.Access.{loadedValue}
 use borrow.Author.Needs.{needs}
 use Rattle.memory_instructions.proofs.loaded_value.Statement.{statement}
 use Rattle.memory_instructions.proofs.loaded_value.Tie as tie
-
-load8-requires : tie.Need-load8-requires
-load8-requires c κs = omega (arith, rw (c .enum-told .given .1) at (c .before .before .before .pre))
-
-load16-requires : tie.Need-load16-requires
-load16-requires c κs = omega (arith, rw (c .enum-told2 .given .1) at (c .before .before .before .pre))
-
-load32-requires : tie.Need-load32-requires
-load32-requires c κs = omega (arith, rw (c .enum-told3 .given .1) at (c .before .before .before .pre))
-
-load8-requires-2 : tie.Need-load8-requires-2
-load8-requires-2 c κs = omega (arith, rw (c .enum-told4 .given .1) at (c .before .before .before .pre))
-
-load16-requires-2 : tie.Need-load16-requires-2
-load16-requires-2 c κs = omega (arith, rw (c .enum-told5 .given .1) at (c .before .before .before .pre))
 
 returns : tie.Need-returns
 unfolding loadedValue
@@ -44,17 +28,17 @@ loaded-value-spec =
     tie.close
     (tie.spec
     (λ c. search needs)
-    load8-requires
+    (λ c κs. search needs)
     (λ c κs. search needs)
     (λ c. search needs)
-    load16-requires
+    (λ c κs. search needs)
     (λ c κs. search needs)
     (λ c. search needs)
-    load32-requires
+    (λ c κs. search needs)
     (λ c. search needs)
-    load8-requires-2
+    (λ c κs. search needs)
     (λ c. search needs)
-    load16-requires-2
+    (λ c κs. search needs)
     returns
     returns-2
     returns-3

@@ -5,7 +5,7 @@ use Rattle.memory_instructions.proofs.store.Tie as tie
 
 returns : tie.Need-returns
 unfolding storeEffect
-returns c = simp (c .checked-effect .ensures, c .before .store-at .ensures, c .before .before .place-of .ensures .0, c .before .before .before .access-cause .ensures, c .before .before .before .before .store-width .ensures .0)
+returns c = simp (c .checked-effect .ensures, c .before .store-at .ensures, c .before .before .place-of .ensures, c .before .before .before .access-cause .ensures, c .before .before .before .before .store-width .ensures)
 
 pub store-spec : {M : Type 1} → statement M
 store-spec =

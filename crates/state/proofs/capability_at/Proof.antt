@@ -8,6 +8,10 @@ returns : tie.Need-returns
 unfolding capabilityAt
 returns c = refl
 
+returns-2 : tie.Need-returns-2
+unfolding capabilityAt
+returns-2 c = simp (c .word-at3 .ensures, c .before .word-at2 .ensures, c .before .before .word-at .ensures)
+
 pub capability-at-spec : {M : Type 1} → statement M
 capability-at-spec =
     tie.close
@@ -21,4 +25,11 @@ capability-at-spec =
     (λ c. search needs)
     (λ c. search needs)
     (λ c. search needs)
-    returns)
+    (λ c. search needs)
+    (λ c κs. search needs)
+    (λ c. search needs)
+    (λ c κs. search needs)
+    (λ c. search needs)
+    (λ c κs. search needs)
+    returns
+    returns-2)

@@ -5,7 +5,7 @@ use Rattle.state.proofs.integer_at.Tie as tie
 
 returns : tie.Need-returns
 unfolding integerAt
-returns c = search needs
+returns c = c .word-at .ensures
 
 pub integer-at-spec : {M : Type 1} → statement M
-integer-at-spec = tie.close (tie.spec (λ c. search needs) (λ c. search needs) (λ c. search needs) (λ c. search needs) returns)
+integer-at-spec = tie.close (tie.spec (λ c. search needs) (λ c. search needs) (λ c κs. search needs) returns)

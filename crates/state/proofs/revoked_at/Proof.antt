@@ -1,7 +1,6 @@
 use borrow.Author.Tests.{le-leb, lt-leb, lt-ltb, le-ltb}
 use Prim.Native.Nat.{_+_}
 use native.Mathlib.Omega.{arith}
-use Rattle.words.proofs.Tests.{tests}
 use Rattle.state.specs.Memory.{revokedAt}
 use borrow.Author.Needs.{needs}
 use Rattle.state.proofs.revoked_at.Statement.{statement}

@@ -9,15 +9,25 @@ returns : tie.Need-returns
 unfolding leBytes
 returns c = rw add-zero (omega arith)
 
+returns-2 : tie.Need-returns-2
+unfolding leBytes
+returns-2 c = simp (c .byte-from2 .ensures .0, c .before .byte-from .ensures .0, add-zero) (omega arith)
+
 pub load16-spec : {M : Type 1} → statement M
 load16-spec =
     tie.close
     (tie.spec
     (λ c. search needs)
-    (λ c κs. search needs)
-    (λ c. search needs)
     (λ c. search needs)
     (λ c κs. search needs)
     (λ c. search needs)
     (λ c. search needs)
-    returns)
+    (λ c κs. search needs)
+    (λ c. search needs)
+    (λ c. search needs)
+    returns
+    (λ c κs. search needs)
+    (λ c κs. search needs)
+    (λ c. search needs)
+    (λ c. search needs)
+    returns-2)

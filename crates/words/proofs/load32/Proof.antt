@@ -9,17 +9,17 @@ returns : tie.Need-returns
 unfolding leBytes
 returns c = rw add-zero (omega arith)
 
+returns-2 : tie.Need-returns-2
+unfolding leBytes
+returns-2 c = simp (c .byte-from4 .ensures .0, c .before .byte-from3 .ensures .0, c .before .before .byte-from2 .ensures .0, c .before .before .before .byte-from .ensures .0, add-zero) (omega arith)
+
 pub load32-spec : {M : Type 1} → statement M
 load32-spec =
     tie.close
     (tie.spec
     (λ c. search needs)
-    (λ c κs. search needs)
-    (λ c. search needs)
     (λ c. search needs)
     (λ c κs. search needs)
-    (λ c. search needs)
-    (λ c. search needs)
     (λ c. search needs)
     (λ c. search needs)
     (λ c κs. search needs)
@@ -30,4 +30,20 @@ load32-spec =
     (λ c κs. search needs)
     (λ c. search needs)
     (λ c. search needs)
-    returns)
+    (λ c. search needs)
+    (λ c. search needs)
+    (λ c κs. search needs)
+    (λ c. search needs)
+    (λ c. search needs)
+    returns
+    (λ c κs. search needs)
+    (λ c κs. search needs)
+    (λ c. search needs)
+    (λ c. search needs)
+    (λ c κs. search needs)
+    (λ c. search needs)
+    (λ c. search needs)
+    (λ c κs. search needs)
+    (λ c. search needs)
+    (λ c. search needs)
+    returns-2)

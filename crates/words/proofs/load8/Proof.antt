@@ -7,7 +7,7 @@ use Rattle.words.proofs.load8.Tie as tie
 
 returns : tie.Need-returns
 unfolding leBytes
-returns c = rw add-zero (omega arith)
+returns c = simp (c .byte-from .ensures .0, add-zero) (omega arith)
 
 pub load8-spec : {M : Type 1} → statement M
-load8-spec = tie.close (tie.spec (λ c. search needs) (λ c κs. search needs) returns)
+load8-spec = tie.close (tie.spec (λ c κs. search needs) returns)

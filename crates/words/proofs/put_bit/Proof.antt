@@ -1,3 +1,6 @@
+use Prim.Native.Nat.{_/_}
+use mathlib.Core.Path.{sym}
+use lib.Seq.{set-out}
 use Rattle.words.specs.Words.{putBit}
 use borrow.Author.Needs.{needs}
 use Rattle.words.proofs.put_bit.Statement.{statement}
@@ -6,6 +9,10 @@ use Rattle.words.proofs.put_bit.Tie as tie
 returns : tie.Need-returns
 unfolding putBit
 returns c = simp (c .with-bit .ensures .0, c .before .wide .ensures .0)
+
+returns-2 : tie.Need-returns-2
+unfolding putBit
+returns-2 c = let a = c .before .before .args in sym (set-out (a .t .now) (a .g / 8) _ (c .if1 .left))
 
 pub put-bit-spec : {M : Type 1} → statement M
 put-bit-spec =
@@ -18,4 +25,5 @@ put-bit-spec =
     (λ c. search needs)
     (λ c. search needs)
     (λ c. search needs)
-    returns)
+    returns
+    returns-2)

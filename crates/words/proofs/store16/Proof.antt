@@ -1,7 +1,7 @@
 use native.Mathlib.Nat.{add-zero, div-one}
-use Rattle.words.specs.Words.{setBytes}
-use native.Mathlib.Omega.{arith}
 use lib.ListN.{length-set}
+use native.Mathlib.Omega.{arith}
+use Rattle.words.specs.Words.{setBytes}
 use borrow.Author.Needs.{needs}
 use Rattle.words.proofs.store16.Statement.{statement}
 use Rattle.words.proofs.store16.Tie as tie
@@ -13,6 +13,23 @@ returns : tie.Need-returns
 unfolding setBytes
 returns c = simp (add-zero, div-one)
 
+returns-2 : tie.Need-returns-2
+unfolding setBytes
+returns-2 c = simp (div-one, c .before .before .put-byte-from2 .ensures, c .before .before .before .before .before .before .put-byte-from .ensures)
+
 pub store16-spec : {M : Type 1} → statement M
 store16-spec =
-    tie.close (tie.spec (λ c. search needs) (λ c. search needs) (λ c. search needs) (λ c. search needs) slice-write-m-2 (λ c. search needs) returns)
+    tie.close
+    (tie.spec
+    (λ c. search needs)
+    (λ c. search needs)
+    (λ c. search needs)
+    (λ c. search needs)
+    (λ c. search needs)
+    slice-write-m-2
+    (λ c. search needs)
+    returns
+    (λ c κs. search needs)
+    (λ c κs. search needs)
+    (λ c. search needs)
+    returns-2)

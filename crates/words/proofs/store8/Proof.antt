@@ -1,4 +1,4 @@
-use native.Mathlib.Nat.{add-zero, div-one}
+use native.Mathlib.Nat.{div-one}
 use Rattle.words.specs.Words.{setBytes}
 use borrow.Author.Needs.{needs}
 use Rattle.words.proofs.store8.Statement.{statement}
@@ -6,7 +6,7 @@ use Rattle.words.proofs.store8.Tie as tie
 
 returns : tie.Need-returns
 unfolding setBytes
-returns c = simp (add-zero, div-one)
+returns c = simp (div-one, c .before .before .put-byte-from .ensures)
 
 pub store8-spec : {M : Type 1} → statement M
-store8-spec = tie.close (tie.spec (λ c. search needs) (λ c. search needs) (λ c. search needs) returns)
+store8-spec = tie.close (tie.spec (λ c κs. search needs) (λ c. search needs) returns)

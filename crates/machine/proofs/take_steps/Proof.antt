@@ -1,14 +1,14 @@
 use borrow.Author.Needs.{needs}
 use Prim.Native.Nat.{_-_, _≤_}
-use mathlib.Core.Path.{_≡_, refl, sym, ap, _∙_}
+use mathlib.Core.Path.{_≡_, ap, _∙_}
 use mathlib.Core.Bool.{cond}
 use native.Mathlib.Omega.{arith}
 use lib.ListN.{length}
 use Rattle.commit.specs.Commit.{state}
 use Rattle.machine.specs.Run.{ran, iterate}
 use Rattle.machine.proofs.Laws as laws
-use Rattle.machine.proofs.run_good.Statement.{statement}
-use Rattle.machine.proofs.run_good.Tie as tie
+use Rattle.machine.proofs.take_steps.Statement.{statement}
+use Rattle.machine.proofs.take_steps.Tie as tie
 
 abbrev Inv-loop : tie.InvT-loop
 Inv-loop regs₀ start mem₀ tags₀ revoked n retired₀ trapped₀ k₀ regs mem tags retired trapped k =
@@ -22,8 +22,8 @@ loop-holds : tie.Need-loop-holds Inv-loop μ-loop
 unfolding iterate
 loop-holds c = (omega arith, omega arith, omega arith, omega arith, omega arith, omega arith, let e : c .before .before .before .before .args .n - 0 ≡ c .before .before .before .before .args .n = omega arith in rw e)
 
-step-good-requires : tie.Need-step-good-requires Inv-loop μ-loop
-step-good-requires c κs = record { registers = omega arith; granules = omega arith; revocation = omega arith }
+take-step-requires : tie.Need-take-step-requires Inv-loop μ-loop
+take-step-requires c κs = search needs
 
 one-if-requires : tie.Need-one-if-requires Inv-loop μ-loop
 one-if-requires c κs = search needs
@@ -44,7 +44,7 @@ loop-less : tie.Need-loop-less Inv-loop μ-loop
 loop-less c = omega arith
 
 loop-again : tie.Need-loop-again Inv-loop μ-loop
-loop-again c = (omega arith, omega arith, omega arith, omega arith, omega arith, omega arith, laws.run-turn _ _ _ _ _ _ _ _ _ (c .before .before .before .before .before .before .before .before .before .before .before .loop-test .taken) (c .before .before .before .before .before .before .before .step-good .ensures .1) (c .one-if .ensures .0 ∙ ap (λ b. cond b 1 0) (c .before .before .before .before .before .before .before .step-good .ensures .0)) (c .one-if .ensures .1 ∙ ap (λ b. cond b 0 1) (c .before .before .before .before .before .before .before .step-good .ensures .0)) ∙ c .before .before .before .before .before .before .before .before .before .before .before .before .loop .inv .6)
+loop-again c = (omega arith, omega arith, omega arith, omega arith, omega arith, omega arith, laws.run-turn _ _ _ _ _ _ _ _ _ (c .before .before .before .before .before .before .before .before .before .before .before .loop-test .taken) (c .before .before .before .before .before .before .before .take-step .ensures .1) (c .one-if .ensures .0 ∙ ap (λ b. cond b 1 0) (c .before .before .before .before .before .before .before .take-step .ensures .0)) (c .one-if .ensures .1 ∙ ap (λ b. cond b 0 1) (c .before .before .before .before .before .before .before .take-step .ensures .0)) ∙ c .before .before .before .before .before .before .before .before .before .before .before .before .loop .inv .6)
 
 same-length : tie.Need-same-length Inv-loop μ-loop
 same-length c = search needs
@@ -59,14 +59,14 @@ returns : tie.Need-returns Inv-loop μ-loop
 unfolding iterate
 returns c = let e : c .before .before .before .before .before .before .args .n - c .before .loop .k ≡ 0 = omega arith in rw e at (c .before .loop .inv .6)
 
-pub run-good-spec : {M : Type 1} → statement M
-run-good-spec =
+pub take-steps-spec : {M : Type 1} → statement M
+take-steps-spec =
     tie.close
     (tie.spec
     Inv-loop
     μ-loop
     loop-holds
-    step-good-requires
+    take-step-requires
     one-if-requires
     add-retired
     sub-trapped

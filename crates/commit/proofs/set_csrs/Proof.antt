@@ -1,0 +1,10 @@
+use borrow.Author.Needs.{needs}
+use Rattle.commit.proofs.set_csrs.Statement.{statement}
+use Rattle.commit.proofs.set_csrs.Tie as tie
+
+returns : tie.Need-returns
+returns c = simp (c .before .before .set-csr3 .ensures, c .before .before .before .before .before .before .set-csr2 .ensures, c .before .before .before .before .before .before .before .before .before .before .set-csr .ensures)
+
+pub set-csrs-spec : {M : Type 1} → statement M
+set-csrs-spec =
+    tie.close (tie.spec (λ c κs. search needs) (λ c κs. search needs) (λ c κs. search needs) (λ c. search needs) returns)
