@@ -2,7 +2,7 @@
 use mathlib.Core.Path.{_≡_, refl, sym, ap, _∙_}
 use mathlib.Core.Logic.{_⊎_, inl, inr}
 use mathlib.Core.Bool.{Bool, true, false, cond}
-use Prim.Native.Nat.{ℕ, _-_, _*_, _%_, _^_, _≤_, _<_}
+use Prim.Native.Nat.{ℕ, _-_, _*_, _%_, _^_, _≤_, _<_, _+_}
 use native.Mathlib.Nat.{one-mul}
 use native.Mathlib.Omega.{arith}
 use borrow.Author.Tests.{ltb-true, ltb-false}
@@ -35,6 +35,14 @@ test a b = go (ltb a b) refl
     go : (t : Bool) → ltb a b ≡ t → Test a b (less a b)
     go true e = inl (ltb-true a b e, ap (λ x. cond x 1 0) e)
     go false e = inr (ltb-false a b e, ap (λ x. cond x 1 0) e)
+
+-- how far the top stands above the base, both of nine bits
+span-test : (T B h : ℕ) → T < 512 → B < 512 → Test T B h → B + (T + 512 - B) % 512 ≡ h * 512 + T
+span-test T B h a b (inl t) = omega arith
+span-test T B h a b (inr t) = omega arith
+
+pub span-is : (T B : ℕ) → T < 512 → B < 512 → B + (T + 512 - B) % 512 ≡ less T B * 512 + T
+span-is T B a b = span-test T B (less T B) a b (test T B)
 
 test-le : (a b h : ℕ) → Test a b h → h ≤ 1
 test-le a b h (inl t) = omega arith

@@ -1,8 +1,9 @@
 // The bounds of a metadata word at an address.
 use crate::Region;
 use crate::shifts::base_block;
-use crate::shifts::if_less;
+use crate::shifts::base_unit;
 use crate::shifts::placed;
+use crate::shifts::span;
 ghost use mathlib.Core.Path.{_≡_};
 ghost use mathlib.Core.Bool.{_&&_};
 ghost use Prim.Native.Nat.{_<_, _≤_};
@@ -24,10 +25,9 @@ pub fn bounds(address: u32, metadata: u32) -> Region
     let e = exponent(metadata::scale_of(metadata));
     let top = metadata::top_of(metadata);
     let base = metadata::base_of(metadata);
-    let block = base_block(address, e, base);
-    let next = block + if_less(top, base);
-    let low = placed(block * 512 + base as u64, e) % 0x1_0000_0000;
-    let high = placed(next * 512 + top as u64, e) % 0x2_0000_0000;
+    let unit = base_unit(address, e, base);
+    let low = placed(unit, e) % 0x1_0000_0000;
+    let high = placed(unit + span(top, base), e) % 0x2_0000_0000;
     Region {
         low: low as u32,
         high,

@@ -28,11 +28,21 @@ pub(crate) fn base_block(address: u32, e: u32, base: u32) -> u64
     ((address as u64 >> e) + 512 - base as u64) >> 9
 }
 
-// 1 where x < y, else 0.
-pub(crate) fn if_less(x: u32, y: u32) -> u64
-    ensures { λ r. ⌜ (r ≡ less x y) × (r ≤ 1) ⌝ }
+// The unit of 2^e that the base stands at, counted from one block of 512 below 0: the last up to the address's own whose low nine bits are the field's.
+pub(crate) fn base_unit(address: u32, e: u32, base: u32) -> u64
+    requires { ⌜ (e ≤ 24) × (base < 512) ⌝ }
+    ensures { λ r. ⌜ (r ≡ (address / 2 ^ e + 512 - base) / 512 * 512 + base) × (r < 2 ^ 33 - 512) ⌝ }
 {
-    if x < y { 1 } else { 0 }
+    let unit = (address as u64 >> e) + 512;
+    unit - (unit - base as u64) % 512
+}
+
+// How many units the top stands above the base.
+pub(crate) fn span(top: u32, base: u32) -> u64
+    requires { ⌜ (top < 512) × (base < 512) ⌝ }
+    ensures { λ r. ⌜ (base + r ≡ less top base * 512 + top) × (r < 512) ⌝ }
+{
+    (top as u64 + 512 - base as u64) % 512
 }
 
 // The address of a unit counted from one block below 0. 2^33 is added before what may be more is taken away.
