@@ -149,12 +149,12 @@ module _ (start : ℕ) (revoked : List ℕ) where
         go true e = in-type-stays s (good-tags e) t
         go false e = t
 
-    take-steps : (n : ℕ) → GoodTags (s .regs) → InType (runAfter n start revoked s)
+    good-run : (n : ℕ) → GoodTags (s .regs) → InType (runAfter n start revoked s)
     unfolding runAfter
-    take-steps n g = cond-holds InType (eqb (runRefusal n start revoked s) 0) (ranFrom n start revoked s .at) s (iterate-in-type n (ran s 0 0) g t) t
+    good-run n g = cond-holds InType (eqb (runRefusal n start revoked s) 0) (ranFrom n start revoked s .at) s (iterate-in-type n (ran s 0 0) g t) t
 
     pub run-in-type : (n : ℕ) → InType (runAfter n start revoked s)
     run-in-type n =
-        by-test (eqb (refusalOf start revoked s) 0) (λ e. take-steps n (good-tags e))
+        by-test (eqb (refusalOf start revoked s) 0) (λ e. good-run n (good-tags e))
         (λ e. let r = eqb-false (refusalOf start revoked s) 0 e in
         rw (refused-run start revoked s n (rw (refused-alike start revoked s r n) r)) t)

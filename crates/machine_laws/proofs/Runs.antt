@@ -38,9 +38,9 @@ module _ (start : ℕ) (revoked : List ℕ) where
       one false = omega arith
 
   module _ (s : State) (good : refusalOf start revoked s ≡ 0) where
-    take-step : stepAfter start revoked s ≡ stepOf start revoked s
+    good-step : stepAfter start revoked s ≡ stepOf start revoked s
     unfolding stepAfter
-    take-step = rw good
+    good-step = rw good
 
     answer-retired : stepRetired (stepAnswer start revoked s) ≡ cond (retires (effectAt start revoked s)) 1 0
     unfolding stepAnswer
@@ -64,7 +64,7 @@ module _ (start : ℕ) (revoked : List ℕ) where
   unfolding iterate stepsAfter retiredIn trappedIn oneMore
   run-is-steps zero s r t h = let a : r + 0 ≡ r = omega arith in let b : t + 0 ≡ t = omega arith in rw (a, b)
   run-is-steps (suc n) s r t h =
-      rw (take-step s h, answer-retired s h, answer-trapped s h)
+      rw (good-step s h, answer-retired s h, answer-trapped s h)
       (run-is-steps n (stepOf start revoked s) _ _ (good-stays start revoked s h) ∙ rw (add-assoc, add-assoc))
 
   -- the two counts are all of its steps
