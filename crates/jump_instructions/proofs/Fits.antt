@@ -36,7 +36,7 @@ status-fits c m h =
     (cond-holds Word (eqb (typeOf (c .metadata)) sentryEnabling) (withBit m MIE 1) m (mie-fits m 1 h) h)
 
 module _ (regs : List ℕ) (h : FitsRegisters regs) where
-  pub link-fits : Good (linkOf regs)
+  pub link-fits : Good (linkOf (pccOf regs) (mstatusOf regs))
   unfolding linkOf
   link-fits = type-good _ _ (move-good (pccOf regs) _ (pcc-fits regs h) (omega arith))
 

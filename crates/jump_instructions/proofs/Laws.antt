@@ -11,7 +11,7 @@ use Rattle.capability.specs.declared.Capability.{Capability}
 use Rattle.capability.proofs.Laws.{move-kept, type-kept}
 use Rattle.instructions.specs.declared.JumpInstruction.{JumpInstruction}
 use Rattle.instructions.specs.declared.JumpInstruction.the-variants.{Jal, Jalr, Branch, Mret}
-use Rattle.state.specs.Registers.{registerAt, capabilityAt, pccOf, mepccIndex, instructionBytes, nextAddress}
+use Rattle.state.specs.Registers.{registerAt, capabilityAt, pccOf, mepccIndex, mstatusOf, instructionBytes}
 use Rattle.state.specs.Checks.{checked}
 use Rattle.state.specs.Effects.{Storeless, GoodTag, GoodTags, GoodEffect}
 use Rattle.state.specs.declared.Effect.{Effect}
@@ -47,18 +47,18 @@ moved-tag c address h = kept-good c (moveOf c address) (move-kept c address) h
 typed-tag : (c : Capability) (t : ℕ) → GoodTag c → GoodTag (withObjectType c t)
 typed-tag c t h = kept-good c (withObjectType c t) (type-kept c t) h
 
-pub link-tag : (regs : List ℕ) → GoodTags regs → GoodTag (linkOf regs)
+pub link-tag : (pcc : Capability) (mstatus : ℕ) → GoodTag pcc → GoodTag (linkOf pcc mstatus)
 unfolding linkOf
-link-tag regs h = typed-tag _ _ (moved-tag (pccOf regs) (nextAddress regs) (pcc-tag regs h))
+link-tag pcc mstatus h = typed-tag _ _ (moved-tag pcc _ h)
 
 jal-good : (rd target : ℕ) (regs : List ℕ) → GoodTags regs → GoodEffect (jalEffect rd target regs)
 unfolding jalEffect
-jal-good rd target regs h = targeted GoodEffect _ _ target _ (λ n v. tt) (link-tag regs h, moved-tag (pccOf regs) target (pcc-tag regs h))
+jal-good rd target regs h = targeted GoodEffect _ _ target _ (λ n v. tt) (link-tag (pccOf regs) (mstatusOf regs) (pcc-tag regs h), moved-tag (pccOf regs) target (pcc-tag regs h))
 
 jalr-good : (rd rs1 offset target : ℕ) (c : Capability) (regs : List ℕ) → GoodTag c → GoodTags regs → GoodEffect (jalrEffect rd rs1 offset target c regs)
 unfolding jalrEffect
 jalr-good rd rs1 offset target c regs g h =
-    targeted GoodEffect _ _ target _ (λ n v. tt) (link-tag regs h, moved-tag (withObjectType c 0) target (typed-tag c 0 g))
+    targeted GoodEffect _ _ target _ (λ n v. tt) (link-tag (pccOf regs) (mstatusOf regs) (pcc-tag regs h), moved-tag (withObjectType c 0) target (typed-tag c 0 g))
 
 taken-good : (target : ℕ) (regs : List ℕ) → GoodTags regs → GoodEffect (takenEffect target regs)
 unfolding takenEffect

@@ -13,14 +13,14 @@ use Rattle.instructions.specs.declared.BranchKind.{BranchKind}
 use Rattle.instructions.specs.declared.BranchKind.the-variants.{Beq, Bne, Blt, Bge, Bltu, Bgeu}
 use Rattle.instructions.specs.declared.JumpInstruction.{JumpInstruction}
 use Rattle.instructions.specs.declared.JumpInstruction.the-variants.{Jal, Jalr, Branch, Mret}
-use Rattle.state.specs.Registers.{registerAt, integerAt, capabilityAt, pccOf, pcOf, mepccIndex, instructionBytes, nextAddress, mstatusOf, MIE, returnStatus, legalized}
+use Rattle.state.specs.Registers.{registerAt, integerAt, capabilityAt, pccOf, pcOf, mepccIndex, instructionBytes, mstatusOf, MIE, returnStatus, legalized}
 use Rattle.state.specs.Checks.{checked, inBounds, systemAccess, pccRegister, tagCause, sealCause, executeCause, boundsCause}
 use Rattle.state.specs.declared.Effect.{Effect}
 use Rattle.state.specs.declared.Effect.the-variants.{Advance, Jump, Trap}
 
 -- the link: the next instruction's PCC, by the address-move rule, sealed as the sentry of the current interrupt status
-unfoldable pub linkOf : (regs : List ℕ) → Capability
-linkOf regs = withObjectType (moveOf (pccOf regs) (nextAddress regs)) (cond (has (mstatusOf regs) MIE) sentryEnabling sentryDisabling)
+unfoldable pub linkOf : (pcc : Capability) → (mstatus : ℕ) → Capability
+linkOf pcc mstatus = withObjectType (moveOf pcc (wrap (pcc .address + instructionBytes))) (cond (has mstatus MIE) sentryEnabling sentryDisabling)
 
 -- "Misaligned is 0 .., address in mtval": the target of a jump
 unfoldable pub aligned : (target : ℕ) → Effect → Effect
@@ -33,7 +33,7 @@ targetCause c target = cond (inBounds c target instructionBytes) 0 boundsCause
 -- CJAL
 unfoldable pub jalEffect : (rd target : ℕ) → (regs : List ℕ) → Effect
 jalEffect rd target regs =
-    checked pccRegister (targetCause (pccOf regs) target) (aligned target (Jump rd (linkOf regs) (moveOf (pccOf regs) target) (mstatusOf regs)))
+    checked pccRegister (targetCause (pccOf regs) target) (aligned target (Jump rd (linkOf (pccOf regs) (mstatusOf regs)) (moveOf (pccOf regs) target) (mstatusOf regs)))
 
 -- CJALR: tag; sealed, and not a sentry or the offset not 0; execute; bounds
 unfoldable pub jalrCause : (c : Capability) → (offset target : ℕ) → ℕ
@@ -51,7 +51,7 @@ jumpStatus c m =
 unfoldable pub jalrEffect : (rd rs1 offset target : ℕ) → (c : Capability) → (regs : List ℕ) → Effect
 jalrEffect rd rs1 offset target c regs =
     checked rs1 (jalrCause c offset target)
-    (aligned target (Jump rd (linkOf regs) (moveOf (withObjectType c 0) target) (jumpStatus c (mstatusOf regs))))
+    (aligned target (Jump rd (linkOf (pccOf regs) (mstatusOf regs)) (moveOf (withObjectType c 0) target) (jumpStatus c (mstatusOf regs))))
 
 unfoldable pub taken : BranchKind → (a b : ℕ) → Bool
 taken Beq a b = eqb a b

@@ -2,13 +2,13 @@
 ghost use mathlib.Core.Path.{_≡_};
 ghost use mathlib.Core.Bool.{cond, not, _&&_, _||_};
 ghost use Prim.Native.Nat.{_+_};
-ghost use Rattle.capability.specs.Capability.{integer, moveOf};
-ghost use Rattle.state.specs.Registers.{pcOf, instructionBytes, MIE};
+ghost use Rattle.capability.specs.Capability.{integer};
+ghost use Rattle.state.specs.Registers.{pcOf, MIE};
 ghost use Rattle.words.specs.Words.{wrap};
 ghost use Rattle.metadata.specs.Rights.{has};
-ghost use Rattle.capability.specs.Sealing.{sentryEnabling, sentryDisabling, withObjectType};
+ghost use Rattle.capability.specs.Sealing.{sentryEnabling, sentryDisabling};
 ghost use Rattle.state.specs.Checks.{tagCause, sealCause, executeCause};
-ghost use Rattle.jump_instructions.specs.Jumps.{aligned, targetCause, jalEffect, jalrCause, jumpStatus, jalrEffect, taken, takenEffect, branchEffect, mretEffect, jumpEffect};
+ghost use Rattle.jump_instructions.specs.Jumps.{linkOf, aligned, targetCause, jalEffect, jalrCause, jumpStatus, jalrEffect, taken, takenEffect, branchEffect, mretEffect, jumpEffect};
 use capability::Capability;
 use instructions::BranchKind;
 use instructions::Csr;
@@ -25,7 +25,7 @@ fn link_type(mstatus: u32) -> u32
 
 // The link: the next instruction's PCC, sealed.
 fn link_of(pcc: Capability, mstatus: u32) -> Capability
-    ensures { λ r. ⌜ r ≡ withObjectType (moveOf pcc (wrap (pcc .address + instructionBytes))) (cond (has mstatus MIE) sentryEnabling sentryDisabling) ⌝ }
+    ensures { λ r. ⌜ r ≡ linkOf pcc mstatus ⌝ }
 {
     let next = capability::move_address(pcc, wrapping_add_u32(pcc.address, 4));
     capability::with_object_type(next, link_type(mstatus))

@@ -39,7 +39,7 @@ use Rattle.machine.specs.Run.{stepAfter, Ran, ran, oneMore, iterate, ranFrom, r
 use Rattle.machine_laws.specs.Fits.{InType}
 use Rattle.machine_laws.proofs.Registers.{Holds, Rule, Keeps, each-applied}
 use Rattle.machine_laws.proofs.Refusals.{good-of, refused-alike, refused-run}
-use Rattle.machine_laws.proofs.Kept.{csr-place, tags-stay}
+use Rattle.machine_laws.proofs.Kept.{Tag, csr-place, tags-stay}
 use Rattle.machine_laws.proofs.Bytes.{bytes-stay}
 
 -- ---- the next effect
@@ -71,7 +71,7 @@ next-fits start revoked s h b = checked-fits _ _ _ (fetched-fits (s .regs) (seen
 
 -- a word, and at a tag's place 0 or 1
 abbrev Fit : ℕ → ℕ → Type 0
-Fit i v = Word v × ((k : ℕ) → k < capabilityCount → i ≡ k * 3 + 2 → v ≤ 1)
+Fit i v = Word v × Tag i v
 
 fit : (i : ℕ) (c : Capability) → Good c → Holds Fit i c
 fit i c g =

@@ -83,7 +83,7 @@ c0-stays start revoked s h =
 -- ---- tag words
 
 -- the third word of each capability is 0 or 1
-abbrev Tag : ℕ → ℕ → Type 0
+abbrev pub Tag : ℕ → ℕ → Type 0
 Tag i v = (k : ℕ) → k < capabilityCount → i ≡ k * 3 + 2 → v ≤ 1
 
 tag-holds-of : (i : ℕ) (c : Capability) → GoodTag c → Holds Tag i c

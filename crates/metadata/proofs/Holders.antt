@@ -9,7 +9,8 @@ use borrow.Author.Tests.{ltb-true, ltb-false, ne-eqb}
 use lib.Dec.{eqb, ltb, eqb→eq}
 use lib.Pow.{pow-pos}
 use Rattle.metadata.specs.Word.{permissionsOf}
-use Rattle.metadata.specs.Rights.{bit, rightsOf, wordRights, columnOf}
+use Rattle.metadata.specs.Rights.{bit, rightsOf, wordRights}
+use Rattle.metadata.specs.Columns.{columnOf}
 use Rattle.metadata.proofs.Table.{every, every-at}
 use Rattle.metadata.proofs.Narrowed.{no-right}
 

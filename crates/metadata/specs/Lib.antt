@@ -1,2 +1,3 @@
 pub mod Word
 pub mod Rights
+pub mod Columns

@@ -1,7 +1,8 @@
 // Which codes hold a right: the table of rights by its columns. A test of one right then copies no table.
 use crate::word::permissions;
 ghost use mathlib.Core.Path.{_≡_};
-ghost use Rattle.metadata.specs.Rights.{has, wordRights, columnOf};
+ghost use Rattle.metadata.specs.Rights.{has, wordRights};
+ghost use Rattle.metadata.specs.Columns.{columnOf};
 
 // The codes that hold right k: code c where bit c is set.
 fn column(k: u32) -> u64

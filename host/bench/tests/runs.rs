@@ -226,6 +226,12 @@ fn messages_that_cannot_be_written_do_not_change_the_status() {
     }
 }
 
+/// The arguments of a run from the state `start` on through its traps.
+fn through_traps<'a>(steps: &'a str, more: &[&'a str]) -> Vec<&'a str> {
+    let run = ["run", "--state", "start", "--through-traps", "--steps"];
+    [&run[..], &[steps], more].concat()
+}
+
 #[test]
 fn a_recorded_trap_says_whether_the_program_has_gone_on() {
     let directory = directory("gone_on");
@@ -233,17 +239,9 @@ fn a_recorded_trap_says_whether_the_program_has_gone_on() {
     state.set(MTCC, Capability::tagged(START, EXECUTABLE_ROOT));
     std::fs::write(directory.join("start"), text(&state)).unwrap();
     for (steps, gone_on) in [("5", false), ("6", true)] {
-        let through = [
-            "run",
-            "--state",
-            "start",
-            "--through-traps",
-            "--steps",
-            steps,
-        ];
         let run = bench_in(
             &directory,
-            &[&through[..], &["--json", "--save", "end"]].concat(),
+            &through_traps(steps, &["--json", "--save", "end"]),
         );
         assert_eq!(run.json()["trap"]["gone_on"], gone_on);
         let explained = bench_in(&directory, &["explain", "end", "--json"]);
@@ -259,16 +257,7 @@ fn through_traps_goes_on_at_mtcc() {
     let mut state = traced();
     state.set(MTCC, Capability::tagged(START + 8, EXECUTABLE_ROOT));
     std::fs::write(directory.join("start"), text(&state)).unwrap();
-    let through = [
-        "run",
-        "--state",
-        "start",
-        "--through-traps",
-        "--steps",
-        "1000",
-        "--json",
-    ];
-    let answer = bench_in(&directory, &through);
+    let answer = bench_in(&directory, &through_traps("1000", &["--json"]));
     let value = answer.json();
     assert_eq!((answer.status, &value["end"]), (1, &json!("steps")));
     assert_eq!(

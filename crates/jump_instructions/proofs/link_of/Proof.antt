@@ -1,8 +1,10 @@
+use Rattle.jump_instructions.specs.Jumps.{linkOf}
 use borrow.Author.Needs.{needs}
 use Rattle.jump_instructions.proofs.link_of.Statement.{statement}
 use Rattle.jump_instructions.proofs.link_of.Tie as tie
 
 returns : tie.Need-returns
+unfolding linkOf
 returns c = simp (c .with-object-type .ensures, c .before .link-type .ensures, c .before .before .move-address .ensures, c .before .before .before .wrapping-add-u32 .ensures)
 
 pub link-of-spec : {M : Type 1} → statement M

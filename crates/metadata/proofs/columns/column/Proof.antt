@@ -1,5 +1,5 @@
 use borrow.Author.Tests.{ne-eqb}
-use Rattle.metadata.specs.Rights.{columnOf}
+use Rattle.metadata.specs.Columns.{columnOf}
 use Rattle.metadata.proofs.columns.column.Statement.{statement}
 use Rattle.metadata.proofs.columns.column.Tie as tie
 
