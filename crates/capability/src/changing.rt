@@ -5,7 +5,18 @@ use crate::choosing::choose;
 use crate::reading::covers_range;
 use crate::reading::is_unsealed;
 ghost use mathlib.Core.Path.{_≡_};
-ghost use Rattle.capability.specs.Capability.{clearTag, sameBounds, moveOf, setBoundsOf, setBoundsExactOf, narrowOf};
+ghost use Rattle.capability.specs.Capability.{integer, clearTag, sameBounds, moveOf, setBoundsOf, setBoundsExactOf, narrowOf};
+
+// An integer as a register holds it: no metadata, no tag.
+pub fn integer(x: u32) -> Capability
+    ensures { λ r. ⌜ r ≡ integer x ⌝ }
+{
+    Capability {
+        address: x,
+        metadata: 0,
+        tag: 0,
+    }
+}
 
 // The capability without its tag.
 pub fn clear_tag(c: Capability) -> Capability

@@ -6,6 +6,7 @@ mod reading;
 mod sealing;
 
 pub use changing::clear_tag;
+pub use changing::integer;
 pub use changing::move_address;
 pub use changing::narrow_rights;
 pub use changing::set_bounds;

@@ -15,7 +15,7 @@ ghost use mathlib.Core.Path.{_≡_};
 ghost use mathlib.Core.Bool.{_&&_, _||_};
 ghost use Prim.Native.Nat.{_+_, _*_, _<_, _≤_};
 ghost use Rattle.metadata.specs.Word.{withPermissions};
-ghost use Rattle.metadata.specs.Rights.{rightsOf, codeOf, wordRights, narrowWord};
+ghost use Rattle.metadata.specs.Rights.{has, rightsOf, codeOf, wordRights, narrowWord};
 
 // The rights of each of the 64 codes.
 const MASKS: [u16; 64] = [
@@ -104,6 +104,17 @@ pub fn rights(metadata: u32) -> u32
     ensures { λ r. ⌜ (r ≡ wordRights metadata) × (r < 4096) ⌝ }
 {
     code_rights(permissions(metadata))
+}
+
+// Whether right k is among some rights.
+pub fn has(rights: u32, k: u32) -> bool
+    ensures { λ r. ⌜ r ≡ has rights k ⌝ }
+{
+    if k < 32 {
+        (rights >> k) % 2 == 1
+    } else {
+        false
+    }
 }
 
 fn both(a: bool, b: bool) -> bool

@@ -4,6 +4,7 @@ mod columns;
 mod word;
 
 pub use codes::encode;
+pub use codes::has;
 pub use codes::narrow;
 pub use codes::rights;
 pub use columns::has_right;
