@@ -11,7 +11,10 @@ use Rattle.capability.proofs.Laws.{move-good}
 use Rattle.capability.specs.Capability.{Good}
 use Rattle.instructions.specs.Range.{Word}
 use Rattle.instructions.specs.declared.Csr.{Csr}
-use Rattle.state.specs.Registers.{capabilityAt, capabilityCount, registerAt, integerAt, pccOf, csrAt, csrIndex, MIE, MPIE, trapStatus, returnStatus, writtenStatus, legalized}
+use Rattle.state.specs.Layout.{capabilityWords, generalCount, capabilityCount, pccIndex, csrIndex}
+use Rattle.state.specs.Registers.{capabilityAt, registerAt, integerAt, pccOf, csrAt}
+use Rattle.state.specs.Addresses.{vectorAlignment, legalized}
+use Rattle.state.specs.Status.{MIE, MPIE, trapStatus, returnStatus, writtenStatus}
 use Rattle.state.specs.Memory.{capabilityIn}
 use Rattle.state.specs.Checks.{checked, capabilityTrap}
 use Rattle.state.specs.Fits.{FitsRegisters, FitsEffect}
@@ -22,7 +25,7 @@ use Rattle.state.proofs.Laws.{cond-holds, capability-in-tag}
 
 pub checked-fits : (r cause : ℕ) (e : Effect) → FitsEffect e → FitsEffect (checked r cause e)
 unfolding checked
-checked-fits r cause e h = cond-holds FitsEffect (eqb cause 0) e (capabilityTrap r cause) h (omega arith, omega arith)
+checked-fits r cause e h = cond-holds FitsEffect (eqb cause 0) e (capabilityTrap r cause) h (tt, (omega arith, omega arith))
 
 -- ---- what is read
 
@@ -30,17 +33,17 @@ module _ (regs : List ℕ) (h : FitsRegisters regs) where
   pub capability-fits : (i : ℕ) → i < capabilityCount → Good (capabilityAt regs i)
   unfolding capabilityAt
   capability-fits i l =
-      record { address-fits = h .words (i * 3); metadata-fits = h .words (i * 3 + 1); tag-fits = omega (arith, h .tags i l) }
+      record { address-fits = h .words (i * capabilityWords); metadata-fits = h .words (i * capabilityWords + 1); tag-fits = omega (arith, h .tags i l) }
 
   pub register-fits : (r : ℕ) → Good (registerAt regs r)
-  register-fits r = capability-fits (r % 16) (omega arith)
+  register-fits r = capability-fits (r % generalCount) (omega arith)
 
   pub pcc-fits : Good (pccOf regs)
-  pcc-fits = capability-fits 16 (omega arith)
+  pcc-fits = capability-fits pccIndex (omega arith)
 
   pub integer-fits : (r : ℕ) → Word (integerAt regs r)
   unfolding integerAt
-  integer-fits r = h .words (r % 16 * 3)
+  integer-fits r = h .words (r % generalCount * capabilityWords)
 
   pub csr-fits : (csr : Csr) → Word (csrAt regs csr)
   csr-fits csr = h .words (csrIndex csr)
@@ -54,7 +57,7 @@ capability-in-fits mem tags i b =
 
 pub legalized-fits : (c : Capability) → Good c → Good (legalized c)
 unfolding legalized
-legalized-fits c g = move-good c (c .address / 4 * 4) g (omega (arith, g .address-fits))
+legalized-fits c g = move-good c (c .address / vectorAlignment * vectorAlignment) g (omega (arith, g .address-fits))
 
 -- mstatus with another MIE, MPIE or both
 pub mie-fits : (m v : ℕ) → Word m → Word (withBit m MIE v)

@@ -1,6 +1,6 @@
 -- What holds of each effect that the checks leave, where a place lies, and the tags of what is read. Assumes nothing.
 use mathlib.Core.Path.{_≡_, refl, sym}
-use mathlib.Core.Bool.{Bool, true, false, cond, not, _&&_, true≢false}
+use mathlib.Core.Bool.{Bool, true, false, cond, _&&_}
 use mathlib.Core.Logic.{_⊎_, inl, inr}
 use mathlib.Core.List.{List}
 use Prim.Native.Nat.{ℕ, _+_, _-_, _*_, _/_, _%_, _≤_, _<_}
@@ -12,29 +12,16 @@ use Rattle.capability.specs.declared.Capability.{Capability}
 use Rattle.capability.proofs.Laws.{Kept, kept-le, move-kept}
 use Rattle.instructions.specs.declared.StoreKind.{StoreKind}
 use Rattle.instructions.specs.declared.StoreKind.the-variants.{Sb, Sh, Sw}
-use Rattle.state.specs.Registers.{capabilityAt, capabilityCount, registerAt, integerAt, pccOf, legalized}
+use Rattle.state.specs.Layout.{generalCount, capabilityCount, pccIndex}
+use Rattle.state.specs.Registers.{capabilityAt, registerAt, integerAt, pccOf}
+use Rattle.state.specs.Addresses.{legalized}
 use Rattle.state.specs.Memory.{placeOf, capabilityIn, storeWidth, granuleBytes}
-use Rattle.state.specs.Checks.{checked, capabilityTrap, boundsCause, tagCause, sealCause}
-use Rattle.state.specs.Effects.{OneGranule, StoresWithin, Storeless, GoodTag, GoodTags}
+use Rattle.state.specs.Checks.{checked, capabilityTrap, capabilityFault}
+use Rattle.state.specs.Effects.{Stored, nothing, bytes, whole, storedBy, OneGranule, Within, StoresWithin, Nothing, Storeless, GoodTag, GoodTags}
 use Rattle.state.specs.declared.Place.{Place}
 use Rattle.state.specs.declared.Place.the-variants.{At, Misaligned, Outside}
 use Rattle.state.specs.declared.Effect.{Effect}
-use Rattle.state.specs.declared.Effect.the-variants.{Advance, Write, Store, StoreCapability, Jump, WriteScr, WriteCsr, Trap}
-
--- ---- the checks of an access
-
-pub all-passed : (tagged sealed granted inside : Bool) (right : ℕ) → (tagged && (not sealed && (granted && inside))) ≡ true
-    → cond tagged (cond sealed sealCause (cond granted (cond inside 0 boundsCause) right)) tagCause ≡ 0
-all-passed true false true true right h = refl
-all-passed true false true false right h = absurd (true≢false (sym h))
-all-passed true false false inside right h = absurd (true≢false (sym h))
-all-passed true true granted inside right h = absurd (true≢false (sym h))
-all-passed false sealed granted inside right h = absurd (true≢false (sym h))
-
--- where the other checks passed and not all did, the bounds failed
-pub bounds-failed : (inside : Bool) → (true && (not false && (true && inside))) ≡ false → boundsCause ≡ cond inside 0 boundsCause
-bounds-failed true h = absurd (true≢false h)
-bounds-failed false h = refl
+use Rattle.state.specs.declared.Effect.the-variants.{Trap}
 
 -- ---- effects
 
@@ -45,18 +32,16 @@ cond-holds P false x y h k = k
 -- what holds of an effect and of every trap holds where a check may fail
 pub checked-holds : (P : Effect → Type 0) (r cause : ℕ) (e : Effect) → ((n v : ℕ) → P (Trap n v)) → P e → P (checked r cause e)
 unfolding checked
-checked-holds P r cause e t h = cond-holds P (eqb cause 0) e (capabilityTrap r cause) h (t 28 (r % 64 * 32 + cause % 32))
+checked-holds P r cause e t h = cond-holds P (eqb cause 0) e (capabilityTrap r cause) h (t capabilityFault _)
 
--- an effect that stores nothing has no store outside memory
+-- a store of nothing has no byte outside memory
+nothing-within : (size : ℕ) (x : Stored) → Nothing x → Within size x
+nothing-within size nothing h = tt
+nothing-within size (bytes width i value) h = absurd h
+nothing-within size (whole i value) h = absurd h
+
 pub storeless-within : (size : ℕ) (e : Effect) → Storeless e → StoresWithin size e
-storeless-within size Advance h = tt
-storeless-within size (Write rd value) h = tt
-storeless-within size (Store kind i value) h = absurd h
-storeless-within size (StoreCapability i value) h = absurd h
-storeless-within size (Jump rd link target mstatus) h = tt
-storeless-within size (WriteScr rd old scr value) h = tt
-storeless-within size (WriteCsr rd old csr value) h = tt
-storeless-within size (Trap cause value) h = tt
+storeless-within size e h = nothing-within size (storedBy e) h
 
 -- ---- places
 
@@ -78,13 +63,13 @@ Placed Misaligned width size = Unit {0}
 Placed Outside width size = Unit {0}
 Placed (At i) width size = OneGranule i width size
 
-in-granule : (start address width : ℕ) → Width width → start % 8 ≡ 0 → address % width ≡ 0 → start ≤ address → (address - start) % 8 + width ≤ 8
+in-granule : (start address width : ℕ) → Width width → start % granuleBytes ≡ 0 → address % width ≡ 0 → start ≤ address → (address - start) % granuleBytes + width ≤ granuleBytes
 in-granule start address width (inl e) h k l = omega arith
 in-granule start address width (inr (inl e)) h k l = omega (arith, rw e at k)
 in-granule start address width (inr (inr (inl e))) h k l = omega (arith, rw e at k)
 in-granule start address width (inr (inr (inr e))) h k l = omega (arith, rw e at k)
 
-pub place-within : (start size address width : ℕ) → Width width → start % 8 ≡ 0 → Placed (placeOf start size address width) width size
+pub place-within : (start size address width : ℕ) → Width width → start % granuleBytes ≡ 0 → Placed (placeOf start size address width) width size
 unfolding placeOf
 place-within start size address width w h = go (eqb (address % width) 0) refl (leb start address) refl (leb (address + width) (start + size)) refl
   where
@@ -116,14 +101,14 @@ unfolding capabilityAt
 capability-tag regs i l h = h i l
 
 pub register-tag : (regs : List ℕ) (r : ℕ) → GoodTags regs → GoodTag (registerAt regs r)
-register-tag regs r h = capability-tag regs (r % 16) (omega arith) h
+register-tag regs r h = capability-tag regs (r % generalCount) (omega arith) h
 
 pub pcc-tag : (regs : List ℕ) → GoodTags regs → GoodTag (pccOf regs)
-pcc-tag regs h = capability-tag regs 16 (omega arith) h
+pcc-tag regs h = capability-tag regs pccIndex (omega arith) h
 
 pub legalized-tag : (c : Capability) → GoodTag c → GoodTag (legalized c)
 unfolding legalized
-legalized-tag c h = kept-good c (legalized c) (move-kept c (c .address / 4 * 4)) h
+legalized-tag c h = kept-good c (legalized c) (move-kept c _) h
 
 pub capability-in-tag : (mem tags : List ℕ) (i : ℕ) → GoodTag (capabilityIn mem tags i)
 unfolding capabilityIn

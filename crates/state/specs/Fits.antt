@@ -4,9 +4,8 @@ use Prim.Native.Nat.{ℕ}
 use lib.ListN.{getD}
 use Rattle.capability.specs.Capability.{Good}
 use Rattle.instructions.specs.Range.{Word}
-use Rattle.state.specs.Effects.{GoodTags}
+use Rattle.state.specs.Effects.{EachCapability, EachWord, GoodTags}
 use Rattle.state.specs.declared.Effect.{Effect}
-use Rattle.state.specs.declared.Effect.the-variants.{Advance, Write, Store, StoreCapability, Jump, WriteScr, WriteCsr, Trap}
 
 -- each element is a word
 abbrev pub Words : List ℕ → Type 0
@@ -19,11 +18,4 @@ pub record FitsRegisters (regs : List ℕ) : Type 0 where
 
 -- each capability of an effect is good, and each number that it writes is a word
 abbrev pub FitsEffect : Effect → Type 0
-FitsEffect Advance = Unit {0}
-FitsEffect (Write rd value) = Good value
-FitsEffect (Store kind i value) = Word value
-FitsEffect (StoreCapability i value) = Good value
-FitsEffect (Jump rd link target mstatus) = Good link × Good target × Word mstatus
-FitsEffect (WriteScr rd old scr value) = Good old × Good value
-FitsEffect (WriteCsr rd old csr value) = Word old × Word value
-FitsEffect (Trap cause value) = Word cause × Word value
+FitsEffect e = EachCapability Good e × EachWord Word e

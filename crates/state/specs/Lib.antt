@@ -1,4 +1,8 @@
+pub mod Layout
 pub mod Registers
+pub mod Addresses
+pub mod Status
+pub mod Lent
 pub mod Memory
 pub mod Checks
 pub mod Effects

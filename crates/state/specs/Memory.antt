@@ -10,18 +10,9 @@ use Rattle.instructions.specs.declared.LoadKind.{LoadKind}
 use Rattle.instructions.specs.declared.LoadKind.the-variants.{Lb, Lh, Lw, Lbu, Lhu}
 use Rattle.instructions.specs.declared.StoreKind.{StoreKind}
 use Rattle.instructions.specs.declared.StoreKind.the-variants.{Sb, Sh, Sw}
+use Rattle.state.specs.declared.Board.{Board}
 use Rattle.state.specs.declared.Place.{Place}
 use Rattle.state.specs.declared.Place.the-variants.{At, Misaligned, Outside}
-
--- what is lent and only read: memory's start and the revocation bits; and memory and its tags as they stand
-pub record Lent : Type 0 where
-  pub start : ℕ
-  pub mem : List ℕ
-  pub tags : List ℕ
-  pub revoked : List ℕ
-
-abbrev pub lent : ℕ → (mem tags revoked : List ℕ) → Lent
-lent start mem tags revoked = record { start = start; mem = mem; tags = tags; revoked = revoked }
 
 -- how many bytes a load or a store touches
 abbrev pub loadWidth : LoadKind → ℕ
@@ -40,7 +31,7 @@ storeWidth Sw = 4
 abbrev pub granuleBytes : ℕ
 granuleBytes = 8
 
--- an access of width bytes at an address of a memory of size bytes from start: "Capability checks come first, then alignment, then access."
+-- an access of width bytes at an address of a memory of size bytes from start: alignment, then access ("Traps")
 unfoldable pub placeOf : (start size address width : ℕ) → Place
 placeOf start size address width =
     cond (eqb (address % width) 0)
@@ -51,7 +42,7 @@ placeOf start size address width =
 unfoldable pub capabilityIn : (mem tags : List ℕ) → (i : ℕ) → Capability
 capabilityIn mem tags i = capability (le32 mem i) (le32 mem (i + 4)) (bitAt tags (i / granuleBytes))
 
--- The revocation bit of the granule that holds an address. "A low bound outside memory has no bit and counts as not revoked."
-unfoldable pub revokedAt : (start size : ℕ) → (revoked : List ℕ) → (address : ℕ) → Bool
-revokedAt start size revoked address =
-    cond (leb start address && ltb address (start + size)) (eqb (bitAt revoked ((address - start) / granuleBytes)) 1) false
+-- the revocation bit of the granule that holds an address is set; outside memory there is none, and nothing is revoked
+unfoldable pub revokedAt : Board → (size : ℕ) → (revoked : List ℕ) → (address : ℕ) → Bool
+revokedAt board size revoked address =
+    cond (leb (board .start) address && ltb address (board .start + size)) (eqb (bitAt revoked ((address - board .start) / granuleBytes)) 1) false

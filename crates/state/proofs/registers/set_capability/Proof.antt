@@ -1,0 +1,45 @@
+use mathlib.Core.Path.{refl}
+use lib.ListN.{length-set}
+use native.Mathlib.Omega.{arith}
+use Rattle.state.specs.Registers.{setCapability}
+use borrow.Author.Needs.{needs}
+use Rattle.state.proofs.registers.set_capability.Statement.{statement}
+use Rattle.state.proofs.registers.set_capability.Tie as tie
+
+slice-write-regs-2 : tie.Need-slice-write-regs-2
+slice-write-regs-2 c = simp length-set (omega arith)
+
+slice-write-regs-3 : tie.Need-slice-write-regs-3
+slice-write-regs-3 c = simp length-set (omega arith)
+
+returns : tie.Need-returns
+unfolding setCapability
+returns c = refl
+
+returns-2 : tie.Need-returns-2
+unfolding setCapability
+returns-2 c = simp (c .before .before .put-word3 .ensures, c .before .before .before .before .before .before .put-word2 .ensures, c .before .before .before .before .before .before .before .before .before .before .put-word .ensures)
+
+pub set-capability-spec : {M : Type 1} → statement M
+set-capability-spec =
+    tie.close
+    (tie.spec
+    (λ c. search needs)
+    (λ c. search needs)
+    (λ c. search needs)
+    (λ c. search needs)
+    (λ c. search needs)
+    (λ c. search needs)
+    slice-write-regs-2
+    (λ c. search needs)
+    (λ c. search needs)
+    slice-write-regs-3
+    (λ c κs. search needs)
+    (λ c. search needs)
+    (λ c κs. search needs)
+    (λ c. search needs)
+    (λ c κs. search needs)
+    (λ c. search needs)
+    returns
+    (λ c. search needs)
+    returns-2)

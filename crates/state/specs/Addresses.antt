@@ -1,0 +1,30 @@
+-- How long an instruction is, and at which addresses one may stand. Document 01, "Traps"; CHERIoT report, 7.5 and 7.14. Assumes nothing.
+use Prim.Native.Nat.{ℕ, _+_, _*_, _/_}
+use mathlib.Core.List.{List}
+use Rattle.words.specs.Words.{wrap}
+use Rattle.capability.specs.Capability.{moveOf}
+use Rattle.capability.specs.declared.Capability.{Capability}
+use Rattle.state.specs.Registers.{pcOf}
+
+-- the bytes of an instruction
+abbrev pub instructionBytes : ℕ
+instructionBytes = 4
+
+-- the bytes that a jump's target must have in bounds (the report's min_instruction_bytes), and what its address is a multiple of
+abbrev pub targetBytes : ℕ
+targetBytes = 4
+
+abbrev pub targetAlignment : ℕ
+targetAlignment = 4
+
+-- the address after an instruction of some bytes
+abbrev pub nextAddress : (bytes : ℕ) → (regs : List ℕ) → ℕ
+nextAddress bytes regs = wrap (pcOf regs + bytes)
+
+-- what the addresses in MTCC and MEPCC are multiples of
+abbrev pub vectorAlignment : ℕ
+vectorAlignment = 4
+
+-- a write or read of MTCC or MEPCC, a trap's entry and a return: the low address bits cleared, by the address-move rule also where that changes nothing
+unfoldable pub legalized : Capability → Capability
+legalized c = moveOf c (c .address / vectorAlignment * vectorAlignment)

@@ -1,0 +1,103 @@
+// Places in the lent memory, capabilities in it, and revocation.
+use crate::Board;
+use crate::Place;
+use capability::Capability;
+use instructions::LoadKind;
+use instructions::StoreKind;
+ghost use mathlib.Core.Path.{_≡_};
+ghost use mathlib.Core.Bool.{cond, _&&_};
+ghost use lib.Dec.{leb};
+ghost use Prim.Native.Nat.{_+_, _-_, _%_};
+ghost use Rattle.state.specs.Memory.{loadWidth, storeWidth, placeOf, capabilityIn, revokedAt};
+
+pub fn load_width(kind: LoadKind) -> u32
+    ensures { λ r. ⌜ r ≡ loadWidth kind ⌝ }
+{
+    match kind {
+        LoadKind::Lb => 1,
+        LoadKind::Lh => 2,
+        LoadKind::Lw => 4,
+        LoadKind::Lbu => 1,
+        LoadKind::Lhu => 2,
+    }
+}
+
+pub fn store_width(kind: StoreKind) -> u32
+    ensures { λ r. ⌜ r ≡ storeWidth kind ⌝ }
+{
+    match kind {
+        StoreKind::Sb => 1,
+        StoreKind::Sh => 2,
+        StoreKind::Sw => 4,
+    }
+}
+
+// address mod width: the widths of accesses need no division, and mod 0 is the address.
+fn remainder(address: u32, width: u32) -> u32
+    ensures { λ r. ⌜ r ≡ address % width ⌝ }
+{
+    match width {
+        0 => address,
+        1 => 0,
+        2 => address % 2,
+        4 => address % 4,
+        8 => address % 8,
+        _ => address % width,
+    }
+}
+
+// Where aligned bytes lie: in memory, or outside.
+fn aligned_place(start: u32, size: usize, address: u32, width: u32) -> Place
+    ensures { λ r. ⌜ r ≡ cond (leb start address && leb (address + width) (start + size)) (Place.At (address - start)) Place.Outside ⌝ }
+{
+    if start <= address {
+        let at = address - start;
+        if at as usize + width as usize <= size {
+            Place::At(at)
+        } else {
+            Place::Outside
+        }
+    } else {
+        Place::Outside
+    }
+}
+
+// Where width bytes at an address lie in a memory of size bytes from start.
+pub fn place_of(start: u32, size: usize, address: u32, width: u32) -> Place
+    ensures { λ r. ⌜ r ≡ placeOf start size address width ⌝ }
+{
+    if remainder(address, width) == 0 {
+        aligned_place(start, size, address, width)
+    } else {
+        Place::Misaligned
+    }
+}
+
+// The capability at a place of memory.
+pub fn capability_in(mem: &[u8], tags: &[u8], at: u32) -> Capability
+    ensures { λ r. ⌜ r ≡ capabilityIn (now (mem .entry)) (now (tags .entry)) at ⌝ }
+{
+    let i = at as usize;
+    Capability {
+        address: words::load32(mem, i),
+        metadata: words::load32(mem, i + 4),
+        tag: words::get_bit(tags, i / 8),
+    }
+}
+
+// Whether the granule that holds an address is marked as revoked.
+pub fn revoked_at(board: Board, size: usize, revoked: &[u8], address: u32) -> bool
+    ensures { λ r. ⌜ r ≡ revokedAt board size (now (revoked .entry)) address ⌝ }
+{
+    let start = board.start;
+    if start <= address {
+        let at = (address - start) as usize;
+        if at < size {
+            words::get_bit(revoked, at / 8) == 1
+        } else {
+            false
+        }
+    } else {
+        false
+    }
+}
