@@ -2,7 +2,7 @@
 use mathlib.Core.List.{List}
 use mathlib.Core.Path.{_≡_}
 use Prim.Native.Nat.{ℕ, _+_, _*_, _^_}
-use Rattle.commit.specs.Commit.{State}
+use Rattle.state.specs.Lent.{State}
 use Rattle.machine.specs.Run.{stepAnswer, stepAfter, stepNumber, stepRetired, stepTrapped, runAnswer, runAfter, runNumber, runRetired, runTrapped}
 
 -- number * 2^48 + trapped * 2^24 + retired

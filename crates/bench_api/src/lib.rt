@@ -1,7 +1,7 @@
 // A step and a run for C: slices and numbers, the answer packed into one number.
 ghost use mathlib.Core.Path.{_≡_};
 ghost use Prim.Native.Nat.{_<_, _≤_, _^_};
-ghost use Rattle.commit.specs.Commit.{state};
+ghost use Rattle.state.specs.Lent.{state};
 ghost use Rattle.machine.specs.Run.{stepNumber, stepRetired, stepTrapped, runNumber, runRetired, runTrapped};
 ghost use Rattle.bench_api.specs.Packing.{packed, StepPacked, RunPacked};
 use machine::RunAnswer;

@@ -25,6 +25,13 @@ pub use sealing::seal;
 pub use sealing::unseal;
 pub use sealing::with_object_type;
 
+// The types of sentries: 1 inherits, 2 disables and 3 enables interrupts.
+pub const SENTRY: u32 = 1;
+
+pub const SENTRY_DISABLING: u32 = 2;
+
+pub const SENTRY_ENABLING: u32 = 3;
+
 // Address, metadata word, and tag, 0 or 1.
 pub struct Capability {
     pub address: u32,

@@ -60,12 +60,12 @@ combined-fits SetEqualExact c d g h = truth-fits (equalExact c d)
 -- whatever the immediate: a moved address wraps, and the request of a cut may be any number
 pub capability-fits : (i : CapabilityInstruction) (regs : List ℕ) → FitsRegisters regs → FitsEffect (capabilityEffect i regs)
 unfolding capabilityEffect
-capability-fits (AuiPcc rd offset) regs h = moved-fits (pccOf regs) offset (pcc-fits regs h)
-capability-fits (AuiCgp rd offset) regs h = moved-fits (registerAt regs globalPointer) offset (register-fits regs h globalPointer)
-capability-fits (IncAddrImm rd rs1 offset) regs h = moved-fits (registerAt regs rs1) offset (register-fits regs h rs1)
-capability-fits (SetBoundsImm rd rs1 n) regs h = set-bounds-good (registerAt regs rs1) n (register-fits regs h rs1)
-capability-fits (Move rd rs1) regs h = register-fits regs h rs1
-capability-fits (ClearTag rd rs1) regs h = clear-good (registerAt regs rs1) (register-fits regs h rs1)
-capability-fits (Inspect what rd rs1) regs h = integer-good _ (inspected-word what (registerAt regs rs1) (register-fits regs h rs1))
+capability-fits (AuiPcc rd offset) regs h = (moved-fits (pccOf regs) offset (pcc-fits regs h), tt)
+capability-fits (AuiCgp rd offset) regs h = (moved-fits (registerAt regs globalPointer) offset (register-fits regs h globalPointer), tt)
+capability-fits (IncAddrImm rd rs1 offset) regs h = (moved-fits (registerAt regs rs1) offset (register-fits regs h rs1), tt)
+capability-fits (SetBoundsImm rd rs1 n) regs h = (set-bounds-good (registerAt regs rs1) n (register-fits regs h rs1), tt)
+capability-fits (Move rd rs1) regs h = (register-fits regs h rs1, tt)
+capability-fits (ClearTag rd rs1) regs h = (clear-good (registerAt regs rs1) (register-fits regs h rs1), tt)
+capability-fits (Inspect what rd rs1) regs h = (integer-good _ (inspected-word what (registerAt regs rs1) (register-fits regs h rs1)), tt)
 capability-fits (Combine what rd rs1 rs2) regs h =
-    combined-fits what (registerAt regs rs1) (registerAt regs rs2) (register-fits regs h rs1) (register-fits regs h rs2)
+    (combined-fits what (registerAt regs rs1) (registerAt regs rs2) (register-fits regs h rs1) (register-fits regs h rs2), tt)

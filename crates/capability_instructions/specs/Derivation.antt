@@ -19,7 +19,7 @@ use Rattle.state.specs.Registers.{registerAt, pccOf}
 use Rattle.state.specs.declared.Effect.{Effect}
 use Rattle.state.specs.declared.Effect.the-variants.{Write}
 
--- an address moved by an offset: "Address sums wrap modulo 2^32"
+-- an address moved by an offset: the sum wraps
 abbrev pub movedBy : Capability → (offset : ℕ) → Capability
 movedBy c offset = moveOf c (wrap (c .address + offset))
 

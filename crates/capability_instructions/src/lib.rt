@@ -1,7 +1,6 @@
 // What the instructions that inspect, derive and compare capabilities do. None of them traps.
 ghost use mathlib.Core.Path.{_≡_};
-ghost use mathlib.Core.Bool.{_&&_};
-ghost use Rattle.capability.specs.Capability.{integer, low, high};
+ghost use Rattle.capability.specs.Capability.{low, high};
 ghost use Rattle.capability_instructions.specs.Derivation.{movedBy, atMostWord, lengthOf, inspected, subset, equalExact, truth, combined, capabilityEffect};
 use capability::Capability;
 use instructions::CapabilityInstruction;
@@ -10,6 +9,14 @@ use instructions::Inspection;
 use state::Effect;
 use std::num::wrapping_add_u32;
 use std::num::wrapping_sub_u32;
+
+// c3, the global pointer that AUICGP adds to.
+pub const GLOBAL_POINTER: u32 = 3;
+
+// The largest word, and 2^33, the modulus of a length.
+pub const LARGEST_WORD: u32 = 0xFFFF_FFFF;
+
+pub const LENGTH_MODULUS: u64 = 0x2_0000_0000;
 
 // A capability with its address moved by an offset.
 fn moved_by(c: Capability, offset: u32) -> Capability
@@ -22,10 +29,10 @@ fn moved_by(c: Capability, offset: u32) -> Capability
 fn at_most_word(x: u64) -> u32
     ensures { λ r. ⌜ r ≡ atMostWord x ⌝ }
 {
-    if x < 0x1_0000_0000 {
+    if x <= LARGEST_WORD as u64 {
         x as u32
     } else {
-        0xFFFF_FFFF
+        LARGEST_WORD
     }
 }
 
@@ -46,7 +53,7 @@ fn length_of(c: Capability) -> u64
     ensures { λ r. ⌜ r ≡ lengthOf c ⌝ }
 {
     let r = capability::bounds_of(c);
-    (r.high + 0x2_0000_0000 - r.low as u64) % 0x2_0000_0000
+    (r.high + LENGTH_MODULUS - r.low as u64) % LENGTH_MODULUS
 }
 
 // The number that an inspection gives.
@@ -74,7 +81,7 @@ fn is_subset(c: Capability, d: Capability) -> bool
     let x = capability::bounds_of(c);
     let y = capability::bounds_of(d);
     let held = capability::rights_of(d);
-    all_four(
+    choices::all_four(
         c.tag == d.tag,
         x.low <= y.low,
         y.high <= x.high,
@@ -82,43 +89,21 @@ fn is_subset(c: Capability, d: Capability) -> bool
     )
 }
 
-fn all_four(a: bool, b: bool, c: bool, d: bool) -> bool
-    ensures { λ r. ⌜ r ≡ (a && (b && (c && d))) ⌝ }
-{
-    a && (b && (c && d))
-}
-
-fn all_three(a: bool, b: bool, c: bool) -> bool
-    ensures { λ r. ⌜ r ≡ (a && (b && c)) ⌝ }
-{
-    a && (b && c)
-}
-
 // Whether all three words are equal.
 fn is_equal(c: Capability, d: Capability) -> bool
     ensures { λ r. ⌜ r ≡ equalExact c d ⌝ }
 {
-    all_three(
+    choices::all_three(
         c.address == d.address,
         c.metadata == d.metadata,
         c.tag == d.tag,
     )
 }
 
-fn integer_of(x: u32) -> Capability
-    ensures { λ r. ⌜ r ≡ integer x ⌝ }
-{
-    Capability {
-        address: x,
-        metadata: 0,
-        tag: 0,
-    }
-}
-
 fn truth_of(b: bool) -> Capability
     ensures { λ r. ⌜ r ≡ truth b ⌝ }
 {
-    if b { integer_of(1) } else { integer_of(0) }
+    capability::integer(choices::one_if(b))
 }
 
 // The capability's address with another metadata word, untagged.
@@ -144,7 +129,7 @@ fn combine(what: Combination, c: Capability, d: Capability) -> Capability
         Combination::AndPerm => capability::narrow_rights(c, d.address),
         Combination::SetAddr => capability::move_address(c, d.address),
         Combination::IncAddr => moved_by(c, d.address),
-        Combination::SubAddr => integer_of(wrapping_sub_u32(c.address, d.address)),
+        Combination::SubAddr => capability::integer(wrapping_sub_u32(c.address, d.address)),
         Combination::SetHigh => with_high(c, d.address),
         Combination::TestSubset => truth_of(is_subset(c, d)),
         Combination::SetEqualExact => truth_of(is_equal(c, d)),
@@ -166,7 +151,10 @@ pub fn capability_effect(i: CapabilityInstruction, regs: &[u32]) -> Effect
             write(rd, moved_by(state::pcc_of(regs), offset))
         }
         CapabilityInstruction::AuiCgp { rd, offset } => {
-            write(rd, moved_by(state::register_at(regs, 3), offset))
+            write(
+                rd,
+                moved_by(state::register_at(regs, GLOBAL_POINTER), offset),
+            )
         }
         CapabilityInstruction::IncAddrImm { rd, rs1, offset } => {
             write(rd, moved_by(state::register_at(regs, rs1), offset))
@@ -180,7 +168,10 @@ pub fn capability_effect(i: CapabilityInstruction, regs: &[u32]) -> Effect
             write(rd, capability::clear_tag(state::register_at(regs, rs1)))
         }
         CapabilityInstruction::Inspect { what, rd, rs1 } => {
-            write(rd, integer_of(inspect(what, state::register_at(regs, rs1))))
+            write(
+                rd,
+                capability::integer(inspect(what, state::register_at(regs, rs1))),
+            )
         }
         CapabilityInstruction::Combine { what, rd, rs1, rs2 } => {
             let c = state::register_at(regs, rs1);

@@ -10,7 +10,10 @@ use Rattle.capability.specs.declared.Capability.{Capability}
 use Rattle.instructions.specs.declared.Csr.{Csr}
 use Rattle.instructions.specs.declared.Scr.{Scr}
 use Rattle.instructions.specs.declared.Csr.the-variants.{Mstatus, Mcause, Mtval}
-use Rattle.state.specs.Registers.{capabilityAt, pccOf, pccIndex, mtccIndex, mepccIndex, nextAddress, mstatusOf, csrIndex, scrIndex, trapStatus, legalized}
+use Rattle.state.specs.Layout.{pccIndex, mtccIndex, mepccIndex, csrIndex, scrIndex}
+use Rattle.state.specs.Registers.{capabilityAt, pccOf, mstatusOf}
+use Rattle.state.specs.Addresses.{nextAddress, legalized}
+use Rattle.state.specs.Status.{trapStatus}
 use Rattle.state.specs.Memory.{granuleBytes, storeWidth}
 use Rattle.state.specs.declared.Effect.{Effect}
 use Rattle.state.specs.declared.Effect.the-variants.{Advance, Write, Store, StoreCapability, Jump, WriteScr, WriteCsr, Trap}

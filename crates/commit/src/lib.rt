@@ -2,9 +2,11 @@
 ghost use mathlib.Core.Path.{_≡_};
 ghost use lib.ListN.{set};
 ghost use Rattle.words.specs.Words.{setBytes};
-ghost use Rattle.state.specs.Registers.{csrIndex};
+ghost use Rattle.state.specs.Layout.{csrIndex};
 ghost use Rattle.state.specs.Memory.{storeWidth, granuleBytes};
-ghost use Rattle.commit.specs.Commit.{state, setCapability, writeRegister, advanced, trapped, jumped, withScr, withCsr, stored, retagged, storedCapability, applyEffect, retires};
+ghost use Rattle.state.specs.Registers.{setCapability, writeRegister};
+ghost use Rattle.state.specs.Lent.{state};
+ghost use Rattle.commit.specs.Commit.{advanced, trapped, jumped, withScr, withCsr, stored, retagged, storedCapability, applyEffect, retires};
 use capability::Capability;
 use instructions::Csr;
 use instructions::Scr;

@@ -7,8 +7,10 @@ use Rattle.metadata.specs.Rights.{EX}
 use Rattle.instructions.specs.Decode.{decodeOf}
 use Rattle.instructions.specs.declared.Instruction.{Instruction}
 use Rattle.instructions.specs.declared.Instruction.the-variants.{Integer, Jump, Memory, Capability, System, Illegal}
-use Rattle.state.specs.Registers.{pccOf, pcOf, instructionBytes}
-use Rattle.state.specs.Memory.{Lent, lent, placeOf}
+use Rattle.state.specs.Registers.{pccOf, pcOf}
+use Rattle.state.specs.Addresses.{instructionBytes}
+use Rattle.state.specs.Lent.{Lent, lent, State}
+use Rattle.state.specs.Memory.{placeOf}
 use Rattle.state.specs.Checks.{checked, accessCause, pccRegister, executeCause}
 use Rattle.state.specs.declared.Place.{Place}
 use Rattle.state.specs.declared.Place.the-variants.{At, Misaligned, Outside}
@@ -19,7 +21,7 @@ use Rattle.memory_instructions.specs.Access.{memoryEffect}
 use Rattle.jump_instructions.specs.Jumps.{jumpEffect}
 use Rattle.capability_instructions.specs.Derivation.{capabilityEffect}
 use Rattle.system_instructions.specs.System.{systemEffect}
-use Rattle.commit.specs.Commit.{State, applyEffect}
+use Rattle.commit.specs.Commit.{applyEffect}
 
 -- what an instruction does: "illegal instruction is mcause 2 with the word in mtval"
 unfoldable pub effectOf : Instruction → (word : ℕ) → (regs : List ℕ) → Lent → Effect

@@ -1,8 +1,8 @@
 // One step: fetch, decode, effect, commit.
 ghost use mathlib.Core.Path.{_≡_};
 ghost use Rattle.state.specs.Registers.{pcOf};
-ghost use Rattle.state.specs.Memory.{lent};
-ghost use Rattle.commit.specs.Commit.{state, retires};
+ghost use Rattle.state.specs.Lent.{lent, state};
+ghost use Rattle.commit.specs.Commit.{retires};
 ghost use Rattle.execution.specs.Step.{effectOf, fetchedAt, fetched, nextEffect, effectAt, stepOf};
 use instructions::Instruction;
 use state::Effect;

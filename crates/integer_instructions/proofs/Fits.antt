@@ -29,6 +29,6 @@ alu-word And a b h k = and-lt 32 a b h k
 
 pub integer-fits : (i : IntegerInstruction) (regs : List ℕ) → IntegerInRange i → FitsRegisters regs → FitsEffect (integerEffect i regs)
 unfolding integerEffect
-integer-fits (Lui rd value) regs r h = capability.integer-good value (r .1)
-integer-fits (OpImm op rd rs1 value) regs r h = capability.integer-good _ (alu-word op _ value (state.integer-fits regs h rs1) (r .2))
-integer-fits (Op op rd rs1 rs2) regs r h = capability.integer-good _ (alu-word op _ _ (state.integer-fits regs h rs1) (state.integer-fits regs h rs2))
+integer-fits (Lui rd value) regs r h = (capability.integer-good value (r .1), tt)
+integer-fits (OpImm op rd rs1 value) regs r h = (capability.integer-good _ (alu-word op _ value (state.integer-fits regs h rs1) (r .2)), tt)
+integer-fits (Op op rd rs1 rs2) regs r h = (capability.integer-good _ (alu-word op _ _ (state.integer-fits regs h rs1) (state.integer-fits regs h rs2)), tt)

@@ -1,6 +1,5 @@
--- The integer instructions: LUI, OP-IMM and OP. RISC-V unprivileged standard, RV32E. Sources are the address words. CHERIoT report, 7.3:
--- "Instructions that produce integers write a NULL capability (Section 7.13.6) with the address set to the integer result."
--- Assumes nothing.
+-- The integer instructions: LUI, OP-IMM and OP. RISC-V unprivileged standard, RV32E. Sources are the address words, and a result has no metadata
+-- and no tag (CHERIoT report, 7.3). Assumes nothing.
 use mathlib.Core.List.{List}
 use Prim.Native.Nat.{ℕ, _+_, _-_, _^_}
 use lib.Bits.{bitAnd, bitOr, bitXor}

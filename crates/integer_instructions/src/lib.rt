@@ -2,7 +2,6 @@
 ghost use mathlib.Core.Path.{_≡_};
 ghost use Rattle.capability.specs.Capability.{integer};
 ghost use Rattle.integer_instructions.specs.Integer.{aluOf, integerEffect};
-use capability::Capability;
 use instructions::Alu;
 use instructions::IntegerInstruction;
 use state::Effect;
@@ -32,11 +31,7 @@ fn write_integer(rd: u32, value: u32) -> Effect
 {
     Effect::Write {
         rd,
-        value: Capability {
-            address: value,
-            metadata: 0,
-            tag: 0,
-        },
+        value: capability::integer(value),
     }
 }
 

@@ -14,8 +14,11 @@ use Rattle.instructions.specs.Range.{Word}
 use Rattle.instructions.specs.declared.JumpInstruction.{JumpInstruction}
 use Rattle.instructions.specs.declared.JumpInstruction.the-variants.{Jal, Jalr, Branch, Mret}
 use Rattle.instructions.specs.declared.Csr.the-variants.{Mstatus}
-use Rattle.state.specs.Registers.{registerAt, capabilityAt, pccOf, mepccIndex, instructionBytes, mstatusOf, MIE}
-use Rattle.state.specs.Checks.{checked}
+use Rattle.state.specs.Layout.{mepccIndex}
+use Rattle.state.specs.Registers.{registerAt, capabilityAt, pccOf, mstatusOf}
+use Rattle.state.specs.Addresses.{targetAlignment}
+use Rattle.state.specs.Status.{MIE}
+use Rattle.state.specs.Checks.{fetchMisaligned, checked}
 use Rattle.state.specs.Fits.{FitsRegisters, FitsEffect}
 use Rattle.state.specs.declared.Effect.{Effect}
 use Rattle.state.specs.declared.Effect.the-variants.{Advance, Trap}
@@ -27,7 +30,7 @@ use Rattle.jump_instructions.specs.Jumps.{linkOf, aligned, jalEffect, ju
 targeted : (r cause target : ℕ) (e : Effect) → Word target → FitsEffect e → FitsEffect (checked r cause (aligned target e))
 unfolding aligned
 targeted r cause target e t h =
-    checked-fits r cause (aligned target e) (cond-holds FitsEffect (eqb (target % instructionBytes) 0) e (Trap 0 target) h (omega arith, t))
+    checked-fits r cause (aligned target e) (cond-holds FitsEffect (eqb (target % targetAlignment) 0) e (Trap fetchMisaligned target) h (tt, (omega arith, t)))
 
 status-fits : (c : Capability) (m : ℕ) → Word m → Word (jumpStatus c m)
 unfolding jumpStatus
@@ -35,42 +38,41 @@ status-fits c m h =
     cond-holds Word (eqb (typeOf (c .metadata)) sentryDisabling) (withBit m MIE 0) _ (mie-fits m 0 h)
     (cond-holds Word (eqb (typeOf (c .metadata)) sentryEnabling) (withBit m MIE 1) m (mie-fits m 1 h) h)
 
-module _ (regs : List ℕ) (h : FitsRegisters regs) where
-  pub link-fits : Good (linkOf (pccOf regs) (mstatusOf regs))
+module _ (bytes : ℕ) (regs : List ℕ) (h : FitsRegisters regs) where
+  pub link-fits : Good (linkOf bytes (pccOf regs) (mstatusOf regs))
   unfolding linkOf
   link-fits = type-good _ _ (move-good (pccOf regs) _ (pcc-fits regs h) (omega arith))
 
   mstatus-fits : Word (mstatusOf regs)
   mstatus-fits = csr-fits regs h Mstatus
 
-  jal-fits : (rd target : ℕ) → Word target → FitsEffect (jalEffect rd target regs)
+  jal-fits : (rd target : ℕ) → Word target → FitsEffect (jalEffect bytes rd target regs)
   unfolding jalEffect
-  jal-fits rd target t = targeted _ _ target _ t (link-fits, move-good (pccOf regs) target (pcc-fits regs h) t, mstatus-fits)
+  jal-fits rd target t = targeted _ _ target _ t ((link-fits, move-good (pccOf regs) target (pcc-fits regs h) t), mstatus-fits)
 
-  jalr-fits : (rd rs1 offset target : ℕ) (c : Capability) → Word target → Good c → FitsEffect (jalrEffect rd rs1 offset target c regs)
+  jalr-fits : (rd rs1 offset target : ℕ) (c : Capability) → Word target → Good c → FitsEffect (jalrEffect bytes rd rs1 offset target c regs)
   unfolding jalrEffect
   jalr-fits rd rs1 offset target c t g =
-      targeted _ _ target _ t (link-fits, move-good (withObjectType c 0) target (type-good c 0 g) t, status-fits c (mstatusOf regs) mstatus-fits)
+      targeted _ _ target _ t ((link-fits, move-good (withObjectType c 0) target (type-good c 0 g) t), status-fits c (mstatusOf regs) mstatus-fits)
 
   taken-fits : (target : ℕ) → Word target → FitsEffect (takenEffect target regs)
   unfolding takenEffect
-  taken-fits target t = targeted _ _ target _ t (integer-good 0 (omega arith), move-good (pccOf regs) target (pcc-fits regs h) t, mstatus-fits)
+  taken-fits target t = targeted _ _ target _ t ((integer-good 0 (omega arith), move-good (pccOf regs) target (pcc-fits regs h) t), mstatus-fits)
 
   branch-fits : (takes : Bool) (target : ℕ) → Word target → FitsEffect (branchEffect takes target regs)
   unfolding branchEffect
-  branch-fits takes target t = cond-holds FitsEffect takes (takenEffect target regs) Advance (taken-fits target t) tt
+  branch-fits takes target t = cond-holds FitsEffect takes (takenEffect target regs) Advance (taken-fits target t) (tt, tt)
 
   mret-fits : FitsEffect (mretEffect regs)
   unfolding mretEffect
   mret-fits =
       checked-fits _ _ _ (
-        integer-good 0 (omega arith),
-        legalized-fits (capabilityAt regs mepccIndex) (capability-fits regs h mepccIndex (omega arith)),
+        (integer-good 0 (omega arith), legalized-fits (capabilityAt regs mepccIndex) (capability-fits regs h mepccIndex (omega arith))),
         return-status-fits (mstatusOf regs) mstatus-fits,
       )
 
   -- whatever the offset: a target wraps
-  pub jump-fits : (i : JumpInstruction) → FitsEffect (jumpEffect i regs)
+  pub jump-fits : (i : JumpInstruction) → FitsEffect (jumpEffect bytes i regs)
   unfolding jumpEffect
   jump-fits (Jal rd offset) = jal-fits rd _ (omega arith)
   jump-fits (Jalr rd rs1 offset) = jalr-fits rd rs1 offset _ (registerAt regs rs1) (omega arith) (register-fits regs h rs1)

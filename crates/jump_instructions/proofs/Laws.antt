@@ -11,8 +11,10 @@ use Rattle.capability.specs.declared.Capability.{Capability}
 use Rattle.capability.proofs.Laws.{move-kept, type-kept}
 use Rattle.instructions.specs.declared.JumpInstruction.{JumpInstruction}
 use Rattle.instructions.specs.declared.JumpInstruction.the-variants.{Jal, Jalr, Branch, Mret}
-use Rattle.state.specs.Registers.{registerAt, capabilityAt, pccOf, mepccIndex, mstatusOf, instructionBytes}
-use Rattle.state.specs.Checks.{checked}
+use Rattle.state.specs.Layout.{mepccIndex}
+use Rattle.state.specs.Registers.{registerAt, capabilityAt, pccOf, mstatusOf}
+use Rattle.state.specs.Addresses.{targetAlignment}
+use Rattle.state.specs.Checks.{fetchMisaligned, checked}
 use Rattle.state.specs.Effects.{Storeless, GoodTag, GoodTags, GoodEffect}
 use Rattle.state.specs.declared.Effect.{Effect}
 use Rattle.state.specs.declared.Effect.the-variants.{Advance, Jump, Trap}
@@ -23,7 +25,7 @@ use Rattle.jump_instructions.specs.Jumps.{linkOf, aligned, jalEffect, ja
 targeted : (P : Effect → Type 0) (r cause target : ℕ) (e : Effect) → ((n v : ℕ) → P (Trap n v)) → P e → P (checked r cause (aligned target e))
 unfolding aligned
 targeted P r cause target e t h =
-    checked-holds P r cause (aligned target e) t (cond-holds P (eqb (target % instructionBytes) 0) e (Trap 0 target) h (t 0 target))
+    checked-holds P r cause (aligned target e) t (cond-holds P (eqb (target % targetAlignment) 0) e (Trap fetchMisaligned target) h (t fetchMisaligned target))
 
 -- what holds of a jump to each target, and of an advance, holds of a branch
 branched : (P : Effect → Type 0) (takes : Bool) (target : ℕ) (regs : List ℕ) → P (takenEffect target regs) → P Advance → P (branchEffect takes target regs)
@@ -32,12 +34,12 @@ branched P takes target regs h k = cond-holds P takes (takenEffect target regs) 
 
 -- ---- stores
 
-pub jump-storeless : (i : JumpInstruction) (regs : List ℕ) → Storeless (jumpEffect i regs)
+pub jump-storeless : (bytes : ℕ) (i : JumpInstruction) (regs : List ℕ) → Storeless (jumpEffect bytes i regs)
 unfolding jumpEffect jalEffect jalrEffect takenEffect mretEffect
-jump-storeless (Jal rd offset) regs = targeted Storeless _ _ _ _ (λ n v. tt) tt
-jump-storeless (Jalr rd rs1 offset) regs = targeted Storeless _ _ _ _ (λ n v. tt) tt
-jump-storeless (Branch kind rs1 rs2 offset) regs = branched Storeless _ _ regs (targeted Storeless _ _ _ _ (λ n v. tt) tt) tt
-jump-storeless Mret regs = checked-holds Storeless _ _ _ (λ n v. tt) tt
+jump-storeless bytes (Jal rd offset) regs = targeted Storeless _ _ _ _ (λ n v. tt) tt
+jump-storeless bytes (Jalr rd rs1 offset) regs = targeted Storeless _ _ _ _ (λ n v. tt) tt
+jump-storeless bytes (Branch kind rs1 rs2 offset) regs = branched Storeless _ _ regs (targeted Storeless _ _ _ _ (λ n v. tt) tt) tt
+jump-storeless bytes Mret regs = checked-holds Storeless _ _ _ (λ n v. tt) tt
 
 -- ---- tags
 
@@ -47,18 +49,18 @@ moved-tag c address h = kept-good c (moveOf c address) (move-kept c address) h
 typed-tag : (c : Capability) (t : ℕ) → GoodTag c → GoodTag (withObjectType c t)
 typed-tag c t h = kept-good c (withObjectType c t) (type-kept c t) h
 
-pub link-tag : (pcc : Capability) (mstatus : ℕ) → GoodTag pcc → GoodTag (linkOf pcc mstatus)
+pub link-tag : (bytes : ℕ) (pcc : Capability) (mstatus : ℕ) → GoodTag pcc → GoodTag (linkOf bytes pcc mstatus)
 unfolding linkOf
-link-tag pcc mstatus h = typed-tag _ _ (moved-tag pcc _ h)
+link-tag bytes pcc mstatus h = typed-tag _ _ (moved-tag pcc _ h)
 
-jal-good : (rd target : ℕ) (regs : List ℕ) → GoodTags regs → GoodEffect (jalEffect rd target regs)
+jal-good : (bytes rd target : ℕ) (regs : List ℕ) → GoodTags regs → GoodEffect (jalEffect bytes rd target regs)
 unfolding jalEffect
-jal-good rd target regs h = targeted GoodEffect _ _ target _ (λ n v. tt) (link-tag (pccOf regs) (mstatusOf regs) (pcc-tag regs h), moved-tag (pccOf regs) target (pcc-tag regs h))
+jal-good bytes rd target regs h = targeted GoodEffect _ _ target _ (λ n v. tt) (link-tag bytes (pccOf regs) (mstatusOf regs) (pcc-tag regs h), moved-tag (pccOf regs) target (pcc-tag regs h))
 
-jalr-good : (rd rs1 offset target : ℕ) (c : Capability) (regs : List ℕ) → GoodTag c → GoodTags regs → GoodEffect (jalrEffect rd rs1 offset target c regs)
+jalr-good : (bytes rd rs1 offset target : ℕ) (c : Capability) (regs : List ℕ) → GoodTag c → GoodTags regs → GoodEffect (jalrEffect bytes rd rs1 offset target c regs)
 unfolding jalrEffect
-jalr-good rd rs1 offset target c regs g h =
-    targeted GoodEffect _ _ target _ (λ n v. tt) (link-tag (pccOf regs) (mstatusOf regs) (pcc-tag regs h), moved-tag (withObjectType c 0) target (typed-tag c 0 g))
+jalr-good bytes rd rs1 offset target c regs g h =
+    targeted GoodEffect _ _ target _ (λ n v. tt) (link-tag bytes (pccOf regs) (mstatusOf regs) (pcc-tag regs h), moved-tag (withObjectType c 0) target (typed-tag c 0 g))
 
 taken-good : (target : ℕ) (regs : List ℕ) → GoodTags regs → GoodEffect (takenEffect target regs)
 unfolding takenEffect
@@ -69,9 +71,9 @@ unfolding mretEffect
 mret-good regs h =
     checked-holds GoodEffect _ _ _ (λ n v. tt) (omega arith, legalized-tag (capabilityAt regs mepccIndex) (capability-tag regs mepccIndex (omega arith) h))
 
-pub jump-good : (i : JumpInstruction) (regs : List ℕ) → GoodTags regs → GoodEffect (jumpEffect i regs)
+pub jump-good : (bytes : ℕ) (i : JumpInstruction) (regs : List ℕ) → GoodTags regs → GoodEffect (jumpEffect bytes i regs)
 unfolding jumpEffect
-jump-good (Jal rd offset) regs h = jal-good rd _ regs h
-jump-good (Jalr rd rs1 offset) regs h = jalr-good rd rs1 offset _ (registerAt regs rs1) regs (register-tag regs rs1 h) h
-jump-good (Branch kind rs1 rs2 offset) regs h = branched GoodEffect _ _ regs (taken-good _ regs h) tt
-jump-good Mret regs h = mret-good regs h
+jump-good bytes (Jal rd offset) regs h = jal-good bytes rd _ regs h
+jump-good bytes (Jalr rd rs1 offset) regs h = jalr-good bytes rd rs1 offset _ (registerAt regs rs1) regs (register-tag regs rs1 h) h
+jump-good bytes (Branch kind rs1 rs2 offset) regs h = branched GoodEffect _ _ regs (taken-good _ regs h) tt
+jump-good bytes Mret regs h = mret-good regs h

@@ -13,45 +13,54 @@ use Rattle.instructions.specs.declared.BranchKind.{BranchKind}
 use Rattle.instructions.specs.declared.BranchKind.the-variants.{Beq, Bne, Blt, Bge, Bltu, Bgeu}
 use Rattle.instructions.specs.declared.JumpInstruction.{JumpInstruction}
 use Rattle.instructions.specs.declared.JumpInstruction.the-variants.{Jal, Jalr, Branch, Mret}
-use Rattle.state.specs.Registers.{registerAt, integerAt, capabilityAt, pccOf, pcOf, mepccIndex, instructionBytes, mstatusOf, MIE, returnStatus, legalized}
-use Rattle.state.specs.Checks.{checked, inBounds, systemAccess, pccRegister, tagCause, sealCause, executeCause, boundsCause}
+use Rattle.state.specs.Layout.{mepccIndex}
+use Rattle.state.specs.Registers.{registerAt, integerAt, capabilityAt, pccOf, pcOf, mstatusOf}
+use Rattle.state.specs.Addresses.{targetBytes, targetAlignment, legalized}
+use Rattle.state.specs.Status.{MIE, returnStatus}
+use Rattle.state.specs.Checks.{checked, failIf, inBounds, systemAccess, pccRegister, noCause, tagCause, sealCause, executeCause, boundsCause, fetchMisaligned}
 use Rattle.state.specs.declared.Effect.{Effect}
 use Rattle.state.specs.declared.Effect.the-variants.{Advance, Jump, Trap}
 
--- the link: the next instruction's PCC, by the address-move rule, sealed as the sentry of the current interrupt status
-unfoldable pub linkOf : (pcc : Capability) → (mstatus : ℕ) → Capability
-linkOf pcc mstatus = withObjectType (moveOf pcc (wrap (pcc .address + instructionBytes))) (cond (has mstatus MIE) sentryEnabling sentryDisabling)
+-- the type of a link: the sentry of the current interrupt status
+abbrev pub linkType : (mstatus : ℕ) → ℕ
+linkType mstatus = cond (has mstatus MIE) sentryEnabling sentryDisabling
 
--- "Misaligned is 0 .., address in mtval": the target of a jump
+-- the link of a jump of some bytes: PCC after it, by the address-move rule, sealed
+unfoldable pub linkOf : (bytes : ℕ) → (pcc : Capability) → (mstatus : ℕ) → Capability
+linkOf bytes pcc mstatus = withObjectType (moveOf pcc (wrap (pcc .address + bytes))) (linkType mstatus)
+
+-- a jump to a target that is not aligned traps with the target
 unfoldable pub aligned : (target : ℕ) → Effect → Effect
-aligned target e = cond (eqb (target % instructionBytes) 0) e (Trap 0 target)
+aligned target e = cond (eqb (target % targetAlignment) 0) e (Trap fetchMisaligned target)
 
 -- the target of a jump has room for an instruction
 unfoldable pub targetCause : Capability → (target : ℕ) → ℕ
-targetCause c target = cond (inBounds c target instructionBytes) 0 boundsCause
+targetCause c target = failIf (not (inBounds c target targetBytes)) boundsCause noCause
 
 -- CJAL
-unfoldable pub jalEffect : (rd target : ℕ) → (regs : List ℕ) → Effect
-jalEffect rd target regs =
-    checked pccRegister (targetCause (pccOf regs) target) (aligned target (Jump rd (linkOf (pccOf regs) (mstatusOf regs)) (moveOf (pccOf regs) target) (mstatusOf regs)))
+unfoldable pub jalEffect : (bytes rd target : ℕ) → (regs : List ℕ) → Effect
+jalEffect bytes rd target regs =
+    checked pccRegister (targetCause (pccOf regs) target)
+    (aligned target (Jump rd (linkOf bytes (pccOf regs) (mstatusOf regs)) (moveOf (pccOf regs) target) (mstatusOf regs)))
 
 -- CJALR: tag; sealed, and not a sentry or the offset not 0; execute; bounds
 unfoldable pub jalrCause : (c : Capability) → (offset target : ℕ) → ℕ
 jalrCause c offset target =
-    cond (tagged c)
-    (cond (sealed c && (not (isSentry c) || not (eqb offset 0))) sealCause (cond (grants c EX) (targetCause c target) executeCause))
-    tagCause
+    failIf (not (tagged c)) tagCause
+    (failIf (sealed c && (not (isSentry c) || not (eqb offset 0))) sealCause
+    (failIf (not (grants c EX)) executeCause
+    (targetCause c target)))
 
 -- MIE after a jump through c: 0 for an interrupt-disabling sentry, 1 for an enabling one, else as before
 unfoldable pub jumpStatus : (c : Capability) → (mstatus : ℕ) → ℕ
 jumpStatus c m =
     cond (eqb (typeOf (c .metadata)) sentryDisabling) (withBit m MIE 0) (cond (eqb (typeOf (c .metadata)) sentryEnabling) (withBit m MIE 1) m)
 
--- "a jump unseals a sentry first"
-unfoldable pub jalrEffect : (rd rs1 offset target : ℕ) → (c : Capability) → (regs : List ℕ) → Effect
-jalrEffect rd rs1 offset target c regs =
+-- a sentry is unsealed before the address moves
+unfoldable pub jalrEffect : (bytes rd rs1 offset target : ℕ) → (c : Capability) → (regs : List ℕ) → Effect
+jalrEffect bytes rd rs1 offset target c regs =
     checked rs1 (jalrCause c offset target)
-    (aligned target (Jump rd (linkOf (pccOf regs) (mstatusOf regs)) (moveOf (withObjectType c 0) target) (jumpStatus c (mstatusOf regs))))
+    (aligned target (Jump rd (linkOf bytes (pccOf regs) (mstatusOf regs)) (moveOf (withObjectType c 0) target) (jumpStatus c (mstatusOf regs))))
 
 unfoldable pub taken : BranchKind → (a b : ℕ) → Bool
 taken Beq a b = eqb a b
@@ -75,9 +84,10 @@ unfoldable pub mretEffect : (regs : List ℕ) → Effect
 mretEffect regs =
     checked pccRegister (systemAccess (pccOf regs)) (Jump 0 (integer 0) (legalized (capabilityAt regs mepccIndex)) (returnStatus (mstatusOf regs)))
 
-unfoldable pub jumpEffect : JumpInstruction → (regs : List ℕ) → Effect
-jumpEffect (Jal rd offset) regs = jalEffect rd (wrap (pcOf regs + offset)) regs
-jumpEffect (Jalr rd rs1 offset) regs = jalrEffect rd rs1 offset (wrap (integerAt regs rs1 + offset) / 2 * 2) (registerAt regs rs1) regs
-jumpEffect (Branch kind rs1 rs2 offset) regs =
+-- what a jump of some bytes does
+unfoldable pub jumpEffect : (bytes : ℕ) → JumpInstruction → (regs : List ℕ) → Effect
+jumpEffect bytes (Jal rd offset) regs = jalEffect bytes rd (wrap (pcOf regs + offset)) regs
+jumpEffect bytes (Jalr rd rs1 offset) regs = jalrEffect bytes rd rs1 offset (wrap (integerAt regs rs1 + offset) / 2 * 2) (registerAt regs rs1) regs
+jumpEffect bytes (Branch kind rs1 rs2 offset) regs =
     branchEffect (taken kind (integerAt regs rs1) (integerAt regs rs2)) (wrap (pcOf regs + offset)) regs
-jumpEffect Mret regs = mretEffect regs
+jumpEffect bytes Mret regs = mretEffect regs

@@ -1,33 +1,45 @@
 // What jumps, branches and MRET do.
 ghost use mathlib.Core.Path.{_≡_};
-ghost use mathlib.Core.Bool.{cond, not, _&&_, _||_};
+ghost use mathlib.Core.Bool.{not, _&&_, _||_};
 ghost use Prim.Native.Nat.{_+_};
 ghost use Rattle.capability.specs.Capability.{integer};
-ghost use Rattle.state.specs.Registers.{pcOf, MIE};
+ghost use Rattle.state.specs.Registers.{pcOf};
 ghost use Rattle.words.specs.Words.{wrap};
-ghost use Rattle.metadata.specs.Rights.{has};
-ghost use Rattle.capability.specs.Sealing.{sentryEnabling, sentryDisabling};
-ghost use Rattle.state.specs.Checks.{tagCause, sealCause, executeCause};
-ghost use Rattle.jump_instructions.specs.Jumps.{linkOf, aligned, targetCause, jalEffect, jalrCause, jumpStatus, jalrEffect, taken, takenEffect, branchEffect, mretEffect, jumpEffect};
+ghost use Rattle.state.specs.Checks.{failIf, tagCause, sealCause, executeCause};
+ghost use Rattle.jump_instructions.specs.Jumps.{linkType, linkOf, aligned, targetCause, jalEffect, jalrCause, jumpStatus, jalrEffect, taken, takenEffect, branchEffect, mretEffect, jumpEffect};
 use capability::Capability;
+use capability::SENTRY_DISABLING;
+use capability::SENTRY_ENABLING;
 use instructions::BranchKind;
 use instructions::Csr;
 use instructions::JumpInstruction;
+use state::EXECUTE_CAUSE;
 use state::Effect;
+use state::FETCH_MISALIGNED;
+use state::MEPCC_INDEX;
+use state::PCC_REGISTER;
+use state::SEAL_CAUSE;
+use state::TAG_CAUSE;
+use state::TARGET_ALIGNMENT;
+use state::TARGET_BYTES;
 use std::num::wrapping_add_u32;
 
 // The type of a link: an interrupt-enabling sentry if MIE is set, else a disabling one.
 fn link_type(mstatus: u32) -> u32
-    ensures { λ r. ⌜ r ≡ cond (has mstatus MIE) sentryEnabling sentryDisabling ⌝ }
+    ensures { λ r. ⌜ r ≡ linkType mstatus ⌝ }
 {
-    if mstatus / 8 % 2 == 1 { 3 } else { 2 }
+    if state::mie_of(mstatus) == 1 {
+        SENTRY_ENABLING
+    } else {
+        SENTRY_DISABLING
+    }
 }
 
-// The link: the next instruction's PCC, sealed.
-fn link_of(pcc: Capability, mstatus: u32) -> Capability
-    ensures { λ r. ⌜ r ≡ linkOf pcc mstatus ⌝ }
+// The link of a jump of some bytes: PCC after it, sealed.
+fn link_of(bytes: u32, pcc: Capability, mstatus: u32) -> Capability
+    ensures { λ r. ⌜ r ≡ linkOf bytes pcc mstatus ⌝ }
 {
-    let next = capability::move_address(pcc, wrapping_add_u32(pcc.address, 4));
+    let next = capability::move_address(pcc, wrapping_add_u32(pcc.address, bytes));
     capability::with_object_type(next, link_type(mstatus))
 }
 
@@ -35,11 +47,11 @@ fn link_of(pcc: Capability, mstatus: u32) -> Capability
 fn aligned_effect(target: u32, e: Effect) -> Effect
     ensures { λ r. ⌜ r ≡ aligned target e ⌝ }
 {
-    if target % 4 == 0 {
+    if target % TARGET_ALIGNMENT == 0 {
         e
     } else {
         Effect::Trap {
-            cause: 0,
+            cause: FETCH_MISALIGNED,
             value: target,
         }
     }
@@ -49,39 +61,43 @@ fn aligned_effect(target: u32, e: Effect) -> Effect
 fn target_cause(c: Capability, target: u32) -> u32
     ensures { λ r. ⌜ r ≡ targetCause c target ⌝ }
 {
-    state::bounds_cause(state::in_bounds(c, target, 4))
+    state::bounds_cause(state::in_bounds(c, target, TARGET_BYTES))
 }
 
 // CJAL.
-fn jal(rd: u32, offset: u32, regs: &[u32]) -> Effect
-    ensures { λ r. ⌜ r ≡ jalEffect rd (wrap (pcOf (now (regs .entry)) + offset)) (now (regs .entry)) ⌝ }
+fn jal(bytes: u32, rd: u32, offset: u32, regs: &[u32]) -> Effect
+    ensures { λ r. ⌜ r ≡ jalEffect bytes rd (wrap (pcOf (now (regs .entry)) + offset)) (now (regs .entry)) ⌝ }
 {
     let pcc = state::pcc_of(regs);
     let mstatus = state::csr_at(regs, Csr::Mstatus);
     let target = wrapping_add_u32(pcc.address, offset);
     let jump = Effect::Jump {
         rd,
-        link: link_of(pcc, mstatus),
+        link: link_of(bytes, pcc, mstatus),
         target: capability::move_address(pcc, target),
         mstatus,
     };
-    state::checked_effect(32, target_cause(pcc, target), aligned_effect(target, jump))
+    state::checked_effect(
+        PCC_REGISTER,
+        target_cause(pcc, target),
+        aligned_effect(target, jump),
+    )
 }
 
 // The first check of CJALR's that fails: tag, seal, execute, bounds; else 0.
 fn first_jalr_cause(tagged: bool, shut: bool, executes: bool, bounds: u32) -> u32
-    ensures { λ r. ⌜ r ≡ cond tagged (cond shut sealCause (cond executes bounds executeCause)) tagCause ⌝ }
+    ensures { λ r. ⌜ r ≡ failIf (not tagged) tagCause (failIf shut sealCause (failIf (not executes) executeCause bounds)) ⌝ }
 {
-    if tagged {
-        if shut {
-            return 3;
-        }
-        if executes {
-            return bounds;
-        }
-        return 17;
+    if !tagged {
+        return TAG_CAUSE;
     }
-    2
+    if shut {
+        return SEAL_CAUSE;
+    }
+    if !executes {
+        return EXECUTE_CAUSE;
+    }
+    bounds
 }
 
 // Whether a sealed target may not be jumped to: no sentry, or with an offset.
@@ -101,7 +117,7 @@ fn jalr_cause(c: Capability, offset: u32, target: u32) -> u32
             capability::is_sentry(c),
             offset == 0,
         ),
-        capability::has_right(c, 8),
+        capability::has_right(c, metadata::EX),
         target_cause(c, target),
     )
 }
@@ -111,23 +127,31 @@ fn jump_status(c: Capability, mstatus: u32) -> u32
     ensures { λ r. ⌜ r ≡ jumpStatus c mstatus ⌝ }
 {
     let t = metadata::otype(c.metadata);
-    if t == 2 {
+    if t == SENTRY_DISABLING {
         return state::with_mie(mstatus, 0);
     }
-    if t == 3 {
+    if t == SENTRY_ENABLING {
         return state::with_mie(mstatus, 1);
     }
     mstatus
 }
 
 // CJALR.
-fn jalr(rd: u32, rs1: u32, offset: u32, target: u32, c: Capability, regs: &[u32]) -> Effect
-    ensures { λ r. ⌜ r ≡ jalrEffect rd rs1 offset target c (now (regs .entry)) ⌝ }
+fn jalr(
+    bytes: u32,
+    rd: u32,
+    rs1: u32,
+    offset: u32,
+    target: u32,
+    c: Capability,
+    regs: &[u32],
+) -> Effect
+    ensures { λ r. ⌜ r ≡ jalrEffect bytes rd rs1 offset target c (now (regs .entry)) ⌝ }
 {
     let mstatus = state::csr_at(regs, Csr::Mstatus);
     let jump = Effect::Jump {
         rd,
-        link: link_of(state::pcc_of(regs), mstatus),
+        link: link_of(bytes, state::pcc_of(regs), mstatus),
         target: capability::move_address(capability::with_object_type(c, 0), target),
         mstatus: jump_status(c, mstatus),
     };
@@ -139,7 +163,7 @@ fn jalr(rd: u32, rs1: u32, offset: u32, target: u32, c: Capability, regs: &[u32]
 }
 
 // Whether a branch is taken.
-fn is_taken(kind: BranchKind, a: u32, b: u32) -> bool
+pub fn is_taken(kind: BranchKind, a: u32, b: u32) -> bool
     ensures { λ r. ⌜ r ≡ taken kind a b ⌝ }
 {
     match kind {
@@ -162,7 +186,11 @@ fn take(offset: u32, regs: &[u32]) -> Effect
         capability::move_address(pcc, target),
         state::csr_at(regs, Csr::Mstatus),
     );
-    state::checked_effect(32, target_cause(pcc, target), aligned_effect(target, jump))
+    state::checked_effect(
+        PCC_REGISTER,
+        target_cause(pcc, target),
+        aligned_effect(target, jump),
+    )
 }
 
 // A jump that links no register.
@@ -171,11 +199,7 @@ fn go_to(target: Capability, mstatus: u32) -> Effect
 {
     Effect::Jump {
         rd: 0,
-        link: Capability {
-            address: 0,
-            metadata: 0,
-            tag: 0,
-        },
+        link: capability::integer(0),
         target,
         mstatus,
     }
@@ -194,24 +218,25 @@ fn branch(takes: bool, offset: u32, regs: &[u32]) -> Effect
 fn mret(regs: &[u32]) -> Effect
     ensures { λ r. ⌜ r ≡ mretEffect (now (regs .entry)) ⌝ }
 {
-    let back = state::legalize(state::capability_at(regs, 20));
+    let back = state::legalize(state::capability_at(regs, MEPCC_INDEX));
     let mstatus = state::return_status(state::csr_at(regs, Csr::Mstatus));
     state::checked_effect(
-        32,
+        PCC_REGISTER,
         state::system_access(state::pcc_of(regs)),
         go_to(back, mstatus),
     )
 }
 
-pub fn jump_effect(i: JumpInstruction, regs: &[u32]) -> Effect
-    ensures { λ r. ⌜ r ≡ jumpEffect i (now (regs .entry)) ⌝ }
+// What a jump of some bytes does.
+pub fn jump_effect(bytes: u32, i: JumpInstruction, regs: &[u32]) -> Effect
+    ensures { λ r. ⌜ r ≡ jumpEffect bytes i (now (regs .entry)) ⌝ }
 {
     match i {
-        JumpInstruction::Jal { rd, offset } => jal(rd, offset, regs),
+        JumpInstruction::Jal { rd, offset } => jal(bytes, rd, offset, regs),
         JumpInstruction::Jalr { rd, rs1, offset } => {
             let c = state::register_at(regs, rs1);
             let target = wrapping_add_u32(c.address, offset) / 2 * 2;
-            jalr(rd, rs1, offset, target, c, regs)
+            jalr(bytes, rd, rs1, offset, target, c, regs)
         }
         JumpInstruction::Branch {
             kind,

@@ -7,9 +7,10 @@ use native.Mathlib.Omega.{arith}
 use lib.Dec.{ltb, leb, eqb}
 use lib.ListN.{getD, length}
 use borrow.Author.Tests.{eqb-true, eqb-false, ltb-false, eq-eqb, ne-eqb, lt-ltb, le-ltb}
-use Rattle.commit.specs.Commit.{State, retires}
+use Rattle.state.specs.Lent.{State}
+use Rattle.commit.specs.Commit.{retires}
 use Rattle.execution.specs.Step.{effectAt, stepOf}
-use Rattle.state.specs.Registers.{registerWords, capabilityCount}
+use Rattle.state.specs.Layout.{registerWords, capabilityCount}
 use Rattle.machine.specs.Refusals.{mostSteps, goodMemory, goodTags, goodZero, refusalOf, runRefusal}
 use Rattle.machine.specs.Run.{Ran, ran, oneMore, iterate, stepAnswer, stepAfter, StepPromise, runAnswer, runAfter, RunPromise, stepNumber, stepRetired, stepTrapped, runNumber, runRetired, runTrapped}
 use Rattle.machine.specs.declared.StepAnswer.{StepAnswer}

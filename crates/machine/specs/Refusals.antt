@@ -4,8 +4,8 @@ use mathlib.Core.List.{List}
 use Prim.Native.Nat.{ℕ, zero, suc, _+_, _*_, _/_, _%_, _^_}
 use lib.Dec.{eqb, leb, ltb}
 use lib.ListN.{getD, length}
-use Rattle.state.specs.Registers.{registerWords, capabilityCount}
-use Rattle.commit.specs.Commit.{State}
+use Rattle.state.specs.Layout.{registerWords, capabilityCount}
+use Rattle.state.specs.Lent.{State}
 
 -- the least and the most memory, and what its size is a multiple of
 abbrev pub leastMemory : ℕ

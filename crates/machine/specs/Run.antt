@@ -4,7 +4,8 @@ use mathlib.Core.List.{List}
 use mathlib.Core.Path.{_≡_}
 use Prim.Native.Nat.{ℕ, zero, suc, _+_, _*_, _^_}
 use lib.Dec.{eqb}
-use Rattle.commit.specs.Commit.{State, state, retires}
+use Rattle.state.specs.Lent.{State, state}
+use Rattle.commit.specs.Commit.{retires}
 use Rattle.execution.specs.Step.{effectAt, stepOf}
 use Rattle.machine.specs.Refusals.{refusalOf, runRefusal}
 use Rattle.machine.specs.declared.StepAnswer.{StepAnswer}

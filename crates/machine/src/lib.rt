@@ -3,8 +3,8 @@ ghost use mathlib.Core.Path.{_≡_};
 ghost use mathlib.Core.Bool.{cond, _&&_};
 ghost use Prim.Native.Nat.{_-_, _/_, _≤_};
 ghost use lib.Dec.{eqb};
-ghost use Rattle.state.specs.Registers.{capabilityCount};
-ghost use Rattle.commit.specs.Commit.{state};
+ghost use Rattle.state.specs.Layout.{capabilityCount};
+ghost use Rattle.state.specs.Lent.{state};
 ghost use Rattle.machine.specs.Refusals.{goodMemory, goodTags, goodZero, refusalOf};
 ghost use Rattle.machine.specs.Run.{StepPromise, ran, iterate, RunPromise};
 

@@ -10,7 +10,8 @@ use Rattle.state.specs.Memory.{storeWidth, granuleBytes}
 use Rattle.state.specs.declared.Effect.{Effect}
 use Rattle.state.specs.declared.Effect.the-variants.{Advance, Write, Store, StoreCapability, Jump, WriteScr, WriteCsr, Trap}
 use Rattle.state.proofs.Laws.{cond-holds}
-use Rattle.commit.specs.Commit.{State, stored, retagged, storedCapability, applyEffect}
+use Rattle.state.specs.Lent.{State}
+use Rattle.commit.specs.Commit.{stored, retagged, storedCapability, applyEffect}
 use Rattle.execution.specs.Step.{effectAt, stepOf}
 
 memory-bytes : (e : Effect) (s : State) → Bytes (s .mem) → Bytes (applyEffect e s .mem)

@@ -8,8 +8,10 @@ use lib.ListN.{length}
 use Rattle.instructions.specs.Decode.{decodeOf}
 use Rattle.instructions.specs.declared.Instruction.{Instruction}
 use Rattle.instructions.specs.declared.Instruction.the-variants.{Integer, Jump, Memory, Capability, System, Illegal}
-use Rattle.state.specs.Registers.{pcOf, instructionBytes}
-use Rattle.state.specs.Memory.{Lent, placeOf, granuleBytes}
+use Rattle.state.specs.Registers.{pcOf}
+use Rattle.state.specs.Addresses.{instructionBytes}
+use Rattle.state.specs.Lent.{Lent, State}
+use Rattle.state.specs.Memory.{placeOf, granuleBytes}
 use Rattle.state.specs.Effects.{StoresWithin, GoodTags, GoodEffect}
 use Rattle.state.specs.declared.Place.{Place}
 use Rattle.state.specs.declared.Place.the-variants.{At, Misaligned, Outside}
@@ -25,7 +27,6 @@ use Rattle.memory_instructions.proofs.Laws.{memory-within, memory-good}
 use Rattle.jump_instructions.proofs.Laws.{jump-storeless, jump-good}
 use Rattle.capability_instructions.proofs.Laws.{capability-storeless, capability-good}
 use Rattle.system_instructions.proofs.Laws.{system-storeless, system-good}
-use Rattle.commit.specs.Commit.{State}
 use Rattle.execution.specs.Step.{effectOf, fetchedAt, nextEffect, seen, effectAt}
 use Rattle.machine_laws.specs.Steps.{wordAt}
 

@@ -17,8 +17,9 @@ use Rattle.instructions.specs.Decode.{decodeOf}
 use Rattle.instructions.specs.declared.Instruction.{Instruction}
 use Rattle.instructions.specs.declared.Instruction.the-variants as Instruction
 use Rattle.instructions.proofs.Range.{decoded-in-range}
-use Rattle.state.specs.Registers.{capabilityCount, scrIndex, legalized}
-use Rattle.state.specs.Memory.{Lent}
+use Rattle.state.specs.Layout.{capabilityCount, scrIndex}
+use Rattle.state.specs.Addresses.{legalized}
+use Rattle.state.specs.Lent.{Lent, State}
 use Rattle.state.specs.Effects.{GoodTags}
 use Rattle.state.specs.Fits.{FitsRegisters, FitsEffect}
 use Rattle.state.specs.declared.Place.{Place}
@@ -32,7 +33,6 @@ use Rattle.memory_instructions.proofs.Fits.{memory-fits}
 use Rattle.jump_instructions.proofs.Fits.{jump-fits}
 use Rattle.capability_instructions.proofs.Fits.{capability-fits}
 use Rattle.system_instructions.proofs.Fits.{system-fits}
-use Rattle.commit.specs.Commit.{State}
 use Rattle.execution.specs.Step.{effectOf, fetchedAt, nextEffect, seen, effectAt, stepOf}
 use Rattle.machine.specs.Refusals.{refusalOf, runRefusal}
 use Rattle.machine.specs.Run.{stepAfter, Ran, ran, oneMore, iterate, ranFrom, runAfter}

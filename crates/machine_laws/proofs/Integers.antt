@@ -13,8 +13,10 @@ use Rattle.capability.specs.declared.Capability.{Capability}
 use Rattle.instructions.specs.Decode.{decodeOf}
 use Rattle.instructions.specs.declared.Csr.{Csr}
 use Rattle.instructions.specs.declared.Instruction.{Instruction}
-use Rattle.state.specs.Registers.{registerWords, capabilityAt, registerAt, csrIndex}
-use Rattle.state.specs.Memory.{Lent, placeOf, loadWidth}
+use Rattle.state.specs.Layout.{registerWords, csrIndex}
+use Rattle.state.specs.Registers.{capabilityAt, registerAt, setCapability, writeRegister}
+use Rattle.state.specs.Lent.{Lent, State}
+use Rattle.state.specs.Memory.{placeOf, loadWidth}
 use Rattle.state.specs.declared.Effect.{Effect}
 use Rattle.state.specs.declared.Effect.the-variants as Effect
 use Rattle.state.proofs.Laws.{checked-holds}
@@ -22,7 +24,7 @@ use Rattle.integer_instructions.specs.Integer.{integerEffect}
 use Rattle.memory_instructions.specs.Access.{loadAt, loadEffect, addressOf, memoryEffect}
 use Rattle.capability_instructions.specs.Derivation.{combined, capabilityEffect}
 use Rattle.system_instructions.specs.System.{csrEffect, systemEffect}
-use Rattle.commit.specs.Commit.{State, setCapability, writeRegister, advanced, withCsr, applyEffect, retires}
+use Rattle.commit.specs.Commit.{advanced, withCsr, applyEffect, retires}
 use Rattle.execution.specs.Step.{effectOf, seen, effectAt, stepOf}
 use Rattle.machine.specs.Refusals.{refusalOf}
 use Rattle.machine_laws.specs.Steps.{wordAt}

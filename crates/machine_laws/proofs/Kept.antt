@@ -15,13 +15,16 @@ use Rattle.instructions.specs.declared.Csr.{Csr}
 use Rattle.instructions.specs.declared.Csr.the-variants.{Mstatus, Mcause, Mtval}
 use Rattle.instructions.specs.declared.Scr.{Scr}
 use Rattle.instructions.specs.declared.Scr.the-variants.{Mtcc, Mtdc, Mscratchc, Mepcc}
-use Rattle.state.specs.Registers.{capabilityCount, legalized, csrIndex, scrIndex}
+use Rattle.state.specs.Layout.{capabilityCount, csrIndex, scrIndex}
+use Rattle.state.specs.Addresses.{legalized}
 use Rattle.state.specs.Memory.{storeWidth, granuleBytes}
 use Rattle.state.specs.Effects.{GoodTag, GoodTags, GoodEffect}
 use Rattle.state.specs.declared.Effect.{Effect}
 use Rattle.state.specs.declared.Effect.the-variants.{Advance, Write, Store, StoreCapability, Jump, WriteScr, WriteCsr, Trap}
 use Rattle.state.proofs.Laws.{cond-holds, kept-good, legalized-tag}
-use Rattle.commit.specs.Commit.{State, setCapability, writeRegister, advanced, trapped, jumped, withScr, withCsr, stored, retagged, storedCapability, applyEffect}
+use Rattle.state.specs.Registers.{setCapability, writeRegister}
+use Rattle.state.specs.Lent.{State}
+use Rattle.commit.specs.Commit.{advanced, trapped, jumped, withScr, withCsr, stored, retagged, storedCapability, applyEffect}
 use Rattle.execution.specs.Step.{effectAt, stepOf}
 use Rattle.machine.specs.Refusals.{refusalOf}
 use Rattle.machine_laws.specs.Lent.{ZeroRegister, GoodState}

@@ -11,11 +11,15 @@ use Rattle.bounds.specs.Bounds.{exponentOf, lowOf, highOf, lowAt, highAt}
 use Rattle.capability.specs.Capability.{low, high, rights, sealed, tagged, covers, sameBounds, moveOf}
 use Rattle.instructions.specs.Fields.{immediateI}
 use Rattle.instructions.specs.Decode.{aluOf, opImmOf, decodeOf}
-use Rattle.state.specs.Registers.{pccIndex, capabilityAt, integerAt, trapStatus, legalized}
+use Rattle.state.specs.Layout.{pccIndex}
+use Rattle.state.specs.Registers.{capabilityAt, integerAt, setCapability, writeRegister}
+use Rattle.state.specs.Addresses.{legalized}
+use Rattle.state.specs.Status.{trapStatus}
 use Rattle.state.specs.Memory.{placeOf}
 use Rattle.state.specs.Checks.{checked, accessCause}
 use Rattle.integer_instructions.specs.Integer as Integers
-use Rattle.commit.specs.Commit.{State, setCapability, writeRegister, advanced, trapped, applyEffect}
+use Rattle.state.specs.Lent.{State}
+use Rattle.commit.specs.Commit.{advanced, trapped, applyEffect}
 use Rattle.execution.specs.Step.{effectOf, fetchedAt, nextEffect, stepOf}
 use Rattle.machine.specs.Refusals.{goodMemory, goodTags, goodZero, refusalOf}
 use Rattle.machine.specs.Run.{stepAfter}

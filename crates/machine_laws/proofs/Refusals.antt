@@ -8,8 +8,8 @@ use lib.Dec.{eqb, leb}
 use lib.ListN.{getD, length}
 use borrow.Author.Tests.{eqb-true, eqb-false, eq-eqb, ne-eqb, leb-true, leb-false, le-leb, lt-ltb, le-ltb}
 use Rattle.words.proofs.Word.{by-test}
-use Rattle.state.specs.Registers.{registerWords, capabilityCount}
-use Rattle.commit.specs.Commit.{State}
+use Rattle.state.specs.Layout.{registerWords, capabilityCount}
+use Rattle.state.specs.Lent.{State}
 use Rattle.machine.specs.Refusals.{goodMemory, goodTags, goodZero, refusalOf, runRefusal, mostMemory, leastMemory, mostSteps}
 use Rattle.machine.specs.Run.{stepAnswer, stepAfter, runAnswer, runAfter}
 use Rattle.machine.specs.declared.StepAnswer.the-variants.{Refused}

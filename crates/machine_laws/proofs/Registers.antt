@@ -11,10 +11,14 @@ use borrow.Author.Tests.{eqb-true, eqb-false, ltb-true, ltb-false}
 use Rattle.words.proofs.Word.{by-test}
 use Rattle.capability.specs.Capability.{integer, moveOf}
 use Rattle.capability.specs.declared.Capability.{Capability}
-use Rattle.state.specs.Registers.{capabilityAt, pccOf, pccIndex, mtccIndex, mepccIndex, nextAddress, mstatusOf, csrIndex, scrIndex, trapStatus, legalized}
+use Rattle.state.specs.Layout.{pccIndex, mtccIndex, mepccIndex, csrIndex, scrIndex}
+use Rattle.state.specs.Registers.{capabilityAt, pccOf, mstatusOf, setCapability, writeRegister}
+use Rattle.state.specs.Addresses.{nextAddress, legalized}
+use Rattle.state.specs.Status.{trapStatus}
 use Rattle.state.specs.declared.Effect.{Effect}
 use Rattle.state.specs.declared.Effect.the-variants.{Advance, Write, Store, StoreCapability, Jump, WriteScr, WriteCsr, Trap}
-use Rattle.commit.specs.Commit.{State, setCapability, writeRegister, advanced, trapped, jumped, withScr, withCsr, applyEffect}
+use Rattle.state.specs.Lent.{State}
+use Rattle.commit.specs.Commit.{advanced, trapped, jumped, withScr, withCsr, applyEffect}
 
 -- a rule says of a word's place and value whether it may stand there; each word of a list is so
 pub record Each (P : ℕ → ℕ → Type 0) (l : List ℕ) : Type 0 where

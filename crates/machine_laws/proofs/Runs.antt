@@ -5,7 +5,8 @@ use mathlib.Core.List.{List}
 use Prim.Native.Nat.{ℕ, zero, suc, _+_, _≤_}
 use native.Mathlib.Omega.{arith}
 use native.Mathlib.Nat.{add-assoc, zero-add}
-use Rattle.commit.specs.Commit.{State, retires}
+use Rattle.state.specs.Lent.{State}
+use Rattle.commit.specs.Commit.{retires}
 use Rattle.execution.specs.Step.{effectAt, stepOf}
 use Rattle.machine.specs.Refusals.{refusalOf, mostSteps}
 use Rattle.machine.specs.Run.{stepAnswer, stepAfter, Ran, ran, oneMore, iterate, runAnswer, runAfter, stepRetired, stepTrapped}

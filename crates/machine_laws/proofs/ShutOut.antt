@@ -11,8 +11,10 @@ use lib.ListN.{getD}
 use borrow.Author.Tests.{eqb-true, eqb-false, leb-true, leb-false}
 use Rattle.words.proofs.Word.{by-test}
 use Rattle.instructions.specs.declared.Csr.the-variants.{Mcause, Mtval}
-use Rattle.state.specs.Registers.{pccIndex, csrAt}
-use Rattle.commit.specs.Commit.{State, setCapability, retires}
+use Rattle.state.specs.Layout.{pccIndex}
+use Rattle.state.specs.Registers.{csrAt, setCapability}
+use Rattle.state.specs.Lent.{State}
+use Rattle.commit.specs.Commit.{retires}
 use Rattle.execution.specs.Step.{effectAt}
 use Rattle.machine.specs.Refusals.{refusalOf, runRefusal, mostSteps}
 use Rattle.machine.specs.Run.{stepAnswer, stepAfter, StepPromise, runAnswer, runAfter, RunPromise, stepNumber, stepRetired, runNumber, runRetired, runTrapped}

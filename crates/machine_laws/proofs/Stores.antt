@@ -19,7 +19,8 @@ use Rattle.instructions.specs.declared.Instruction.the-variants as Decoded
 use Rattle.instructions.specs.declared.MemoryInstruction.{MemoryInstruction}
 use Rattle.instructions.specs.declared.MemoryInstruction.the-variants as Access
 use Rattle.state.specs.Registers.{registerAt, integerAt}
-use Rattle.state.specs.Memory.{Lent, placeOf, loadWidth, storeWidth, granuleBytes}
+use Rattle.state.specs.Lent.{Lent, State}
+use Rattle.state.specs.Memory.{placeOf, loadWidth, storeWidth, granuleBytes}
 use Rattle.state.specs.Effects.{StoresWithin, Storeless, GoodEffect}
 use Rattle.state.specs.declared.Place.{Place}
 use Rattle.state.specs.declared.Place.the-variants.{At, Misaligned, Outside}
@@ -35,7 +36,7 @@ use Rattle.capability_instructions.specs.Derivation.{capabilityEffect}
 use Rattle.capability_instructions.proofs.Laws.{capability-storeless}
 use Rattle.system_instructions.specs.System.{systemEffect}
 use Rattle.system_instructions.proofs.Laws.{system-storeless}
-use Rattle.commit.specs.Commit.{State, stored, retagged, storedCapability, applyEffect}
+use Rattle.commit.specs.Commit.{stored, retagged, storedCapability, applyEffect}
 use Rattle.execution.specs.Step.{effectOf, seen, effectAt, stepOf}
 use Rattle.machine.specs.Refusals.{refusalOf}
 use Rattle.machine_laws.specs.Steps.{wordAt}

@@ -7,10 +7,11 @@ use native.Mathlib.Omega.{arith}
 use lib.ListN.{getD}
 use Rattle.capability.specs.Capability.{moveOf}
 use Rattle.capability.specs.declared.Capability.{Capability}
-use Rattle.state.specs.Registers.{legalized}
+use Rattle.state.specs.Addresses.{legalized}
 use Rattle.state.specs.declared.Effect.{Effect}
 use Rattle.state.specs.declared.Effect.the-variants.{Advance, Write, Store, StoreCapability, Jump, WriteScr, WriteCsr, Trap}
-use Rattle.commit.specs.Commit.{State, advanced, applyEffect, retires, trapped}
+use Rattle.state.specs.Lent.{State}
+use Rattle.commit.specs.Commit.{advanced, applyEffect, retires, trapped}
 use Rattle.execution.specs.Step.{effectAt, stepOf}
 use Rattle.machine_laws.specs.Memory.{SameMemory}
 use Rattle.machine_laws.proofs.Registers.{Holds, Rule, each-advanced, each-trapped}

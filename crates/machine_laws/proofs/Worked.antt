@@ -5,7 +5,7 @@ use Prim.Native.Nat.{ℕ, zero, suc}
 use lib.Dec.{T, eqb, eqb→eq}
 use lib.ListN.{getD}
 use Rattle.metadata.proofs.Table.{and-left, and-right}
-use Rattle.commit.specs.Commit.{State}
+use Rattle.state.specs.Lent.{State}
 use Rattle.machine.specs.declared.StepAnswer.{StepAnswer}
 use Rattle.machine.specs.Run.{stepAnswer, stepAfter, stepNumber, stepRetired}
 use Rattle.machine_laws.specs.Cases.{Word, Case, before, found, holds, all, cases, cases-hold, top-of-memory, untagged-load, environment-call}

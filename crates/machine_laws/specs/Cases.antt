@@ -15,14 +15,18 @@ use Rattle.capability.specs.Loading.{loseGlobal, loseMutable, loseTag, loadedOf
 use Rattle.capability.specs.declared.Capability.{Capability}
 use Rattle.instructions.specs.Fields.{immediateI, immediateS, immediateJ}
 use Rattle.instructions.specs.Decode.{loadOf, storeOf, aluOf, opImmOf, jalOf, wholeOf, systemOf, decodeOf}
-use Rattle.state.specs.Registers.{pccIndex, mtccIndex, capabilityAt, integerAt, trapStatus, legalized}
+use Rattle.state.specs.Layout.{pccIndex, mtccIndex}
+use Rattle.state.specs.Registers.{capabilityAt, integerAt, setCapability, writeRegister}
+use Rattle.state.specs.Addresses.{legalized}
+use Rattle.state.specs.Status.{trapStatus}
 use Rattle.state.specs.Memory.{placeOf, capabilityIn, revokedAt}
 use Rattle.state.specs.Checks.{checked, accessCause}
 use Rattle.integer_instructions.specs.Integer as Integers
 use Rattle.memory_instructions.specs.Access.{loadAt, loadEffect, storeAt, storeEffect, revokedValue, filtered, loadCapabilityAt, loadCapabilityEffect, storeCapabilityCheck, storeCapabilityAt, storeCapabilityEffect, memoryEffect}
 use Rattle.jump_instructions.specs.Jumps.{linkOf, aligned, targetCause, jalEffect, jumpEffect}
 use Rattle.system_instructions.specs.System.{systemEffect}
-use Rattle.commit.specs.Commit.{State, state, setCapability, writeRegister, advanced, trapped, jumped, stored, retagged, storedCapability, applyEffect, retires}
+use Rattle.state.specs.Lent.{State, state}
+use Rattle.commit.specs.Commit.{advanced, trapped, jumped, stored, retagged, storedCapability, applyEffect, retires}
 use Rattle.execution.specs.Step.{effectOf, fetchedAt, nextEffect, stepOf}
 use Rattle.machine.specs.Refusals.{goodMemory, goodTags, goodZero, refusalOf}
 use Rattle.machine.specs.Run.{stepAnswer, stepAfter, stepNumber, stepRetired, stepTrapped}

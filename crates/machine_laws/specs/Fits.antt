@@ -1,7 +1,7 @@
 -- What is lent, as numbers of its types. Document 01, "What is lent". Assumes nothing.
 use Rattle.words.specs.Words.{Bytes}
 use Rattle.state.specs.Fits.{Words}
-use Rattle.commit.specs.Commit.{State}
+use Rattle.state.specs.Lent.{State}
 
 -- each register word is a word, and each element of memory and of the tags is a byte
 pub record InType (s : State) : Type 0 where

@@ -3,10 +3,10 @@ use mathlib.Core.List.{List}
 use mathlib.Core.Path.{_≡_}
 use Prim.Native.Nat.{ℕ, _+_, _/_, _%_, _^_, _≤_, _<_}
 use lib.ListN.{getD, length}
-use Rattle.state.specs.Registers.{registerWords}
+use Rattle.state.specs.Layout.{registerWords}
 use Rattle.state.specs.Memory.{granuleBytes}
 use Rattle.state.specs.Effects.{GoodTags}
-use Rattle.commit.specs.Commit.{State}
+use Rattle.state.specs.Lent.{State}
 use Rattle.machine.specs.Refusals.{leastMemory, mostMemory}
 
 -- "66 words"

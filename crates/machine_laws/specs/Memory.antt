@@ -12,7 +12,7 @@ use Rattle.state.specs.Registers.{registerAt}
 use Rattle.state.specs.Memory.{storeWidth, granuleBytes}
 use Rattle.state.specs.declared.Effect.{Effect}
 use Rattle.state.specs.declared.Effect.the-variants.{Advance, Write, Store, StoreCapability, Jump, WriteScr, WriteCsr, Trap}
-use Rattle.commit.specs.Commit.{State}
+use Rattle.state.specs.Lent.{State}
 use Rattle.execution.specs.Step.{effectAt}
 use Rattle.machine_laws.specs.Steps.{wordAt}
 

@@ -2,8 +2,9 @@
 use mathlib.Core.List.{List}
 use Prim.Native.Nat.{ℕ, zero, suc, _+_, _-_}
 use Rattle.words.specs.Words.{leBytes}
-use Rattle.state.specs.Registers.{pcOf, instructionBytes}
-use Rattle.commit.specs.Commit.{State}
+use Rattle.state.specs.Registers.{pcOf}
+use Rattle.state.specs.Addresses.{instructionBytes}
+use Rattle.state.specs.Lent.{State}
 use Rattle.machine.specs.Run.{stepAnswer, stepAfter, stepRetired, stepTrapped}
 
 -- what n single steps leave

@@ -3,6 +3,7 @@ use mathlib.Core.Bool.{not}
 use mathlib.Core.List.{List}
 use Prim.Native.Nat.{ℕ}
 use native.Mathlib.Omega.{arith}
+use lib.ListN.{length}
 use Rattle.words.specs.Words.{Bytes, leBytes}
 use Rattle.words.proofs.Word.{sign-extend-word}
 use Rattle.words.proofs.Bytes.{leBytes-lt}
@@ -18,7 +19,8 @@ use Rattle.instructions.specs.declared.StoreKind.{StoreKind}
 use Rattle.instructions.specs.declared.MemoryInstruction.{MemoryInstruction}
 use Rattle.instructions.specs.declared.MemoryInstruction.the-variants as Instruction
 use Rattle.state.specs.Registers.{registerAt}
-use Rattle.state.specs.Memory.{Lent, capabilityIn}
+use Rattle.state.specs.Lent.{Lent}
+use Rattle.state.specs.Memory.{capabilityIn}
 use Rattle.state.specs.Fits.{FitsRegisters, FitsEffect}
 use Rattle.state.specs.declared.Place.{Place}
 use Rattle.state.specs.declared.Place.the-variants.{At, Misaligned, Outside}
@@ -37,34 +39,34 @@ loaded-word Lhu mem i b = omega (arith, leBytes-lt 2 mem i b)
 pub filtered-fits : (authority value : Capability) (m : Lent) → Good value → Good (filtered authority value m)
 unfolding filtered
 filtered-fits authority value m g =
-    keep-tag-good (not (revokedValue m (loadedOf authority value))) (loadedOf authority value) (loaded-good authority value g)
+    keep-tag-good (not (revokedValue (m .board) (length (m .mem)) (m .revoked) (loadedOf authority value))) (loadedOf authority value) (loaded-good authority value g)
 
 -- the address of an access is a word
 module _ (address : ℕ) (a : Word address) where
   load-fits : (p : Place) (kind : LoadKind) (rd : ℕ) (mem : List ℕ) → Bytes mem → FitsEffect (loadAt p kind rd address mem)
   unfolding loadAt
-  load-fits Misaligned kind rd mem b = (omega arith, a)
-  load-fits Outside kind rd mem b = (omega arith, a)
-  load-fits (At i) kind rd mem b = integer-good _ (loaded-word kind mem i b)
+  load-fits Misaligned kind rd mem b = (tt, (omega arith, a))
+  load-fits Outside kind rd mem b = (tt, (omega arith, a))
+  load-fits (At i) kind rd mem b = (integer-good _ (loaded-word kind mem i b), tt)
 
   load-capability-fits : (p : Place) (rd : ℕ) (authority : Capability) (m : Lent) → Bytes (m .mem) → FitsEffect (loadCapabilityAt p rd address authority m)
   unfolding loadCapabilityAt
-  load-capability-fits Misaligned rd authority m b = (omega arith, a)
-  load-capability-fits Outside rd authority m b = (omega arith, a)
+  load-capability-fits Misaligned rd authority m b = (tt, (omega arith, a))
+  load-capability-fits Outside rd authority m b = (tt, (omega arith, a))
   load-capability-fits (At i) rd authority m b =
-      filtered-fits authority (capabilityIn (m .mem) (m .tags) i) m (capability-in-fits (m .mem) (m .tags) i b)
+      (filtered-fits authority (capabilityIn (m .mem) (m .tags) i) m (capability-in-fits (m .mem) (m .tags) i b), tt)
 
   store-fits : (p : Place) (kind : StoreKind) (value : ℕ) → Word value → FitsEffect (storeAt p kind address value)
   unfolding storeAt
-  store-fits Misaligned kind value h = (omega arith, a)
-  store-fits Outside kind value h = (omega arith, a)
-  store-fits (At i) kind value h = h
+  store-fits Misaligned kind value h = (tt, (omega arith, a))
+  store-fits Outside kind value h = (tt, (omega arith, a))
+  store-fits (At i) kind value h = (tt, h)
 
   store-capability-fits : (p : Place) (value : Capability) → Good value → FitsEffect (storeCapabilityAt p address value)
   unfolding storeCapabilityAt
-  store-capability-fits Misaligned value g = (omega arith, a)
-  store-capability-fits Outside value g = (omega arith, a)
-  store-capability-fits (At i) value g = g
+  store-capability-fits Misaligned value g = (tt, (omega arith, a))
+  store-capability-fits Outside value g = (tt, (omega arith, a))
+  store-capability-fits (At i) value g = (g, tt)
 
 -- whatever the offset: an address wraps
 pub memory-fits : (i : MemoryInstruction) (regs : List ℕ) (m : Lent) → FitsRegisters regs → Bytes (m .mem) → FitsEffect (memoryEffect i regs m)

@@ -14,7 +14,8 @@ use Rattle.instructions.specs.declared.StoreKind.{StoreKind}
 use Rattle.instructions.specs.declared.MemoryInstruction.{MemoryInstruction}
 use Rattle.instructions.specs.declared.MemoryInstruction.the-variants as Instruction
 use Rattle.state.specs.Registers.{registerAt}
-use Rattle.state.specs.Memory.{Lent, placeOf, capabilityIn, storeWidth, granuleBytes}
+use Rattle.state.specs.Lent.{Lent}
+use Rattle.state.specs.Memory.{placeOf, capabilityIn, storeWidth, granuleBytes}
 use Rattle.state.specs.Effects.{StoresWithin, GoodTag, GoodTags, GoodEffect}
 use Rattle.state.specs.declared.Place.{Place}
 use Rattle.state.specs.declared.Place.the-variants.{At, Misaligned, Outside}
@@ -47,16 +48,16 @@ store-capability-within size Misaligned address value h = tt
 store-capability-within size Outside address value h = tt
 store-capability-within size (At i) address value h = h
 
-pub memory-within : (i : MemoryInstruction) (regs : List ℕ) (m : Lent) → m .start % granuleBytes ≡ 0 → StoresWithin (length (m .mem)) (memoryEffect i regs m)
+pub memory-within : (i : MemoryInstruction) (regs : List ℕ) (m : Lent) → m .board .start % granuleBytes ≡ 0 → StoresWithin (length (m .mem)) (memoryEffect i regs m)
 unfolding memoryEffect loadEffect storeEffect loadCapabilityEffect storeCapabilityEffect
 memory-within (Instruction.Load kind rd rs1 offset) regs m h =
     checked-holds (StoresWithin (length (m .mem))) _ _ _ (λ n v. tt) (load-within _ _ kind rd _ (m .mem))
 memory-within (Instruction.Store kind rs1 rs2 offset) regs m h =
-    checked-holds (StoresWithin (length (m .mem))) _ _ _ (λ n v. tt) (store-within _ _ kind _ _ (place-within (m .start) (length (m .mem)) _ (storeWidth kind) (store-width kind) h))
+    checked-holds (StoresWithin (length (m .mem))) _ _ _ (λ n v. tt) (store-within _ _ kind _ _ (place-within (m .board .start) (length (m .mem)) _ (storeWidth kind) (store-width kind) h))
 memory-within (Instruction.LoadCapability rd rs1 offset) regs m h =
     checked-holds (StoresWithin (length (m .mem))) _ _ _ (λ n v. tt) (load-capability-within _ _ rd _ _ m)
 memory-within (Instruction.StoreCapability rs1 rs2 offset) regs m h =
-    checked-holds (StoresWithin (length (m .mem))) _ _ _ (λ n v. tt) (store-capability-within _ _ _ _ (place-within (m .start) (length (m .mem)) _ granuleBytes granule-width h))
+    checked-holds (StoresWithin (length (m .mem))) _ _ _ (λ n v. tt) (store-capability-within _ _ _ _ (place-within (m .board .start) (length (m .mem)) _ granuleBytes granule-width h))
 
 -- ---- tags
 
@@ -71,7 +72,7 @@ pub filtered-tag : (authority value : Capability) (m : Lent) → GoodTag value �
 unfolding filtered
 filtered-tag authority value m h =
     let v = loadedOf authority value in
-    kept-good v (keepTagIf (not (revokedValue m v)) v) (kept (not (revokedValue m v)) (v .tag)) (kept-good value v (loaded-kept authority value) h)
+    kept-good v (keepTagIf (not (revokedValue (m .board) (length (m .mem)) (m .revoked) v)) v) (kept (not (revokedValue (m .board) (length (m .mem)) (m .revoked) v)) (v .tag)) (kept-good value v (loaded-kept authority value) h)
 
 load-capability-good : (p : Place) (rd address : ℕ) (authority : Capability) (m : Lent) → GoodEffect (loadCapabilityAt p rd address authority m)
 unfolding loadCapabilityAt

@@ -1,5 +1,5 @@
 -- Loads and stores. CHERIoT report, 7.6, 7.7, 7.8 and 9.4 (CLC, CSC); document 01, "Loading capabilities" and "Traps". Assumes nothing.
-use mathlib.Core.Bool.{Bool, cond, not, _&&_}
+use mathlib.Core.Bool.{Bool, not, _&&_}
 use mathlib.Core.List.{List}
 use Prim.Native.Nat.{ℕ, _+_}
 use lib.ListN.{length}
@@ -14,8 +14,11 @@ use Rattle.instructions.specs.declared.StoreKind.{StoreKind}
 use Rattle.instructions.specs.declared.MemoryInstruction.{MemoryInstruction}
 use Rattle.instructions.specs.declared.MemoryInstruction.the-variants as Instruction
 use Rattle.state.specs.Registers.{registerAt, integerAt}
-use Rattle.state.specs.Memory.{Lent, loadWidth, storeWidth, placeOf, capabilityIn, revokedAt, granuleBytes}
-use Rattle.state.specs.Checks.{checked, accessCause, inBounds, tagCause, sealCause, loadCause, storeCause, storeCapabilityCause, storeLocalCause, boundsCause}
+use Rattle.state.specs.Lent.{Lent}
+use Rattle.state.specs.Memory.{loadWidth, storeWidth, placeOf, capabilityIn, revokedAt, granuleBytes}
+use Rattle.state.specs.Checks.{checked, failIf, accessCause, inBounds, noCause, tagCause, sealCause, boundsCause, loadCause, storeCause, storeCapabilityCause, storeLocalCause}
+use Rattle.state.specs.Checks.{loadMisaligned, loadFault, storeMisaligned, storeFault}
+use Rattle.state.specs.declared.Board.{Board}
 use Rattle.state.specs.declared.Place.{Place}
 use Rattle.state.specs.declared.Place.the-variants.{At, Misaligned, Outside}
 use Rattle.state.specs.declared.Effect.{Effect}
@@ -29,10 +32,10 @@ loadedValue Lw mem i = leBytes 4 mem i
 loadedValue Lbu mem i = leBytes 1 mem i
 loadedValue Lhu mem i = leBytes 2 mem i
 
--- "Access outside memory is .. 5 (load), 7 (store), with the address in mtval. Misaligned is .. 4, 6, address in mtval."
+-- a place that is none traps with the address (document 01, "Traps")
 unfoldable pub loadAt : Place → LoadKind → (rd address : ℕ) → (mem : List ℕ) → Effect
-loadAt Misaligned kind rd address mem = Trap 4 address
-loadAt Outside kind rd address mem = Trap 5 address
+loadAt Misaligned kind rd address mem = Trap loadMisaligned address
+loadAt Outside kind rd address mem = Trap loadFault address
 loadAt (At i) kind rd address mem = Write rd (integer (loadedValue kind mem i))
 
 unfoldable pub loadEffect : LoadKind → (rd rs1 address : ℕ) → (authority : Capability) → (start : ℕ) → (mem : List ℕ) → Effect
@@ -41,8 +44,8 @@ loadEffect kind rd rs1 address authority start mem =
     (loadAt (placeOf start (length mem) address (loadWidth kind)) kind rd address mem)
 
 unfoldable pub storeAt : Place → StoreKind → (address value : ℕ) → Effect
-storeAt Misaligned kind address value = Trap 6 address
-storeAt Outside kind address value = Trap 7 address
+storeAt Misaligned kind address value = Trap storeMisaligned address
+storeAt Outside kind address value = Trap storeFault address
 storeAt (At i) kind address value = Store kind i value
 
 unfoldable pub storeEffect : StoreKind → (rs1 address value : ℕ) → (authority : Capability) → (start size : ℕ) → Effect
@@ -50,39 +53,40 @@ storeEffect kind rs1 address value authority start size =
     checked rs1 (accessCause authority SD storeCause address (storeWidth kind))
     (storeAt (placeOf start size address (storeWidth kind)) kind address value)
 
--- The load filter: the losses of the authority's missing rights, then revocation by the granule that holds the value's low bound.
-unfoldable pub revokedValue : Lent → Capability → Bool
-revokedValue m v = revocable v && revokedAt (m .start) (length (m .mem)) (m .revoked) (low v)
+-- the revocation test: a value that may be revoked, by the granule that holds its low bound
+unfoldable pub revokedValue : Board → (size : ℕ) → (revoked : List ℕ) → Capability → Bool
+revokedValue board size revoked v = revocable v && revokedAt board size revoked (low v)
 
+-- the load filter: the losses of the authority's missing rights, then revocation
 unfoldable pub filtered : (authority value : Capability) → Lent → Capability
-filtered authority value m = keepTagIf (not (revokedValue m (loadedOf authority value))) (loadedOf authority value)
+filtered authority value m =
+    keepTagIf (not (revokedValue (m .board) (length (m .mem)) (m .revoked) (loadedOf authority value))) (loadedOf authority value)
 
--- CLC: "checks tag, seal, PERMIT_LOAD, bounds, alignment in that order", then access
+-- CLC: the checks of a load, then the filter
 unfoldable pub loadCapabilityAt : Place → (rd address : ℕ) → (authority : Capability) → Lent → Effect
-loadCapabilityAt Misaligned rd address authority m = Trap 4 address
-loadCapabilityAt Outside rd address authority m = Trap 5 address
+loadCapabilityAt Misaligned rd address authority m = Trap loadMisaligned address
+loadCapabilityAt Outside rd address authority m = Trap loadFault address
 loadCapabilityAt (At i) rd address authority m = Write rd (filtered authority (capabilityIn (m .mem) (m .tags) i) m)
 
 unfoldable pub loadCapabilityEffect : (rd rs1 address : ℕ) → (authority : Capability) → Lent → Effect
 loadCapabilityEffect rd rs1 address authority m =
     checked rs1 (accessCause authority LD loadCause address granuleBytes)
-    (loadCapabilityAt (placeOf (m .start) (length (m .mem)) address granuleBytes) rd address authority m)
+    (loadCapabilityAt (placeOf (m .board .start) (length (m .mem)) address granuleBytes) rd address authority m)
 
 -- CSC: tag, seal, SD, then MC for a tagged value, SL for a tagged value that is not global, then bounds
 unfoldable pub storeCapabilityCheck : (authority value : Capability) → (address : ℕ) → ℕ
 storeCapabilityCheck authority value address =
-    cond (tagged authority)
-    (cond (sealed authority) sealCause
-    (cond (grants authority SD)
-    (cond (tagged value && not (grants authority MC)) storeCapabilityCause
-    (cond (tagged value && (not (grants value GL) && not (grants authority SL))) storeLocalCause
-    (cond (inBounds authority address granuleBytes) 0 boundsCause)))
-    storeCause))
-    tagCause
+    failIf (not (tagged authority)) tagCause
+    (failIf (sealed authority) sealCause
+    (failIf (not (grants authority SD)) storeCause
+    (failIf (tagged value && not (grants authority MC)) storeCapabilityCause
+    (failIf (tagged value && (not (grants value GL) && not (grants authority SL))) storeLocalCause
+    (failIf (not (inBounds authority address granuleBytes)) boundsCause
+    noCause)))))
 
 unfoldable pub storeCapabilityAt : Place → (address : ℕ) → (value : Capability) → Effect
-storeCapabilityAt Misaligned address value = Trap 6 address
-storeCapabilityAt Outside address value = Trap 7 address
+storeCapabilityAt Misaligned address value = Trap storeMisaligned address
+storeCapabilityAt Outside address value = Trap storeFault address
 storeCapabilityAt (At i) address value = StoreCapability i value
 
 unfoldable pub storeCapabilityEffect : (rs1 address : ℕ) → (value authority : Capability) → (start size : ℕ) → Effect
@@ -90,15 +94,15 @@ storeCapabilityEffect rs1 address value authority start size =
     checked rs1 (storeCapabilityCheck authority value address)
     (storeCapabilityAt (placeOf start size address granuleBytes) address value)
 
--- the address of an access: "Address sums wrap modulo 2^32"
+-- the address of an access: the sum wraps
 abbrev pub addressOf : (regs : List ℕ) → (rs1 offset : ℕ) → ℕ
 addressOf regs rs1 offset = wrap (integerAt regs rs1 + offset)
 
 unfoldable pub memoryEffect : MemoryInstruction → (regs : List ℕ) → Lent → Effect
 memoryEffect (Instruction.Load kind rd rs1 offset) regs m =
-    loadEffect kind rd rs1 (addressOf regs rs1 offset) (registerAt regs rs1) (m .start) (m .mem)
+    loadEffect kind rd rs1 (addressOf regs rs1 offset) (registerAt regs rs1) (m .board .start) (m .mem)
 memoryEffect (Instruction.Store kind rs1 rs2 offset) regs m =
-    storeEffect kind rs1 (addressOf regs rs1 offset) (integerAt regs rs2) (registerAt regs rs1) (m .start) (length (m .mem))
+    storeEffect kind rs1 (addressOf regs rs1 offset) (integerAt regs rs2) (registerAt regs rs1) (m .board .start) (length (m .mem))
 memoryEffect (Instruction.LoadCapability rd rs1 offset) regs m = loadCapabilityEffect rd rs1 (addressOf regs rs1 offset) (registerAt regs rs1) m
 memoryEffect (Instruction.StoreCapability rs1 rs2 offset) regs m =
-    storeCapabilityEffect rs1 (addressOf regs rs1 offset) (registerAt regs rs2) (registerAt regs rs1) (m .start) (length (m .mem))
+    storeCapabilityEffect rs1 (addressOf regs rs1 offset) (registerAt regs rs2) (registerAt regs rs1) (m .board .start) (length (m .mem))

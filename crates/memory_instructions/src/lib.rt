@@ -1,18 +1,36 @@
 // What loads and stores do: the checks of the authority, the place in memory, then the value or the bytes.
 ghost use mathlib.Core.Path.{_≡_};
-ghost use mathlib.Core.Bool.{cond, not, _&&_};
+ghost use mathlib.Core.Bool.{not};
 ghost use Prim.Native.Nat.{_+_};
 ghost use Rattle.words.specs.Words.{wrap};
-ghost use Rattle.state.specs.Memory.{lent};
-ghost use Rattle.state.specs.Checks.{tagCause, sealCause, storeCause, storeCapabilityCause, storeLocalCause, boundsCause};
+ghost use Rattle.state.specs.Lent.{lent};
+ghost use Rattle.state.specs.Checks.{failIf, noCause, tagCause, sealCause, boundsCause, storeCause, storeCapabilityCause, storeLocalCause};
 ghost use Rattle.capability.specs.Capability.{keepTagIf};
 ghost use Rattle.memory_instructions.specs.Access.{loadedValue, loadAt, loadEffect, storeAt, storeEffect, filtered, revokedValue, loadCapabilityAt, loadCapabilityEffect, storeCapabilityCheck, storeCapabilityAt, storeCapabilityEffect, memoryEffect};
 use capability::Capability;
 use instructions::LoadKind;
 use instructions::MemoryInstruction;
 use instructions::StoreKind;
+use metadata::GL;
+use metadata::LD;
+use metadata::MC;
+use metadata::SD;
+use metadata::SL;
+use state::Board;
 use state::Effect;
+use state::GRANULE_BYTES;
+use state::LOAD_CAUSE;
+use state::LOAD_FAULT;
+use state::LOAD_MISALIGNED;
+use state::NO_CAUSE;
 use state::Place;
+use state::SEAL_CAUSE;
+use state::STORE_CAPABILITY_CAUSE;
+use state::STORE_CAUSE;
+use state::STORE_FAULT;
+use state::STORE_LOCAL_CAUSE;
+use state::STORE_MISALIGNED;
+use state::TAG_CAUSE;
 use std::num::wrapping_add_u32;
 
 // The value of a load at a place of memory.
@@ -40,20 +58,16 @@ fn load_at(p: Place, kind: LoadKind, rd: u32, address: u32, mem: &[u8]) -> Effec
 {
     match p {
         Place::Misaligned => Effect::Trap {
-            cause: 4,
+            cause: LOAD_MISALIGNED,
             value: address,
         },
         Place::Outside => Effect::Trap {
-            cause: 5,
+            cause: LOAD_FAULT,
             value: address,
         },
         Place::At(at) => Effect::Write {
             rd,
-            value: Capability {
-                address: loaded_value(kind, mem, at as usize),
-                metadata: 0,
-                tag: 0,
-            },
+            value: capability::integer(loaded_value(kind, mem, at as usize)),
         },
     }
 }
@@ -71,7 +85,7 @@ fn load(
     ensures { λ r. ⌜ r ≡ loadEffect kind rd rs1 address authority start (now (mem .entry)) ⌝ }
 {
     let width = state::load_width(kind);
-    let cause = state::access_cause(authority, 5, 18, address, width);
+    let cause = state::access_cause(authority, LD, LOAD_CAUSE, address, width);
     let place = state::place_of(start, mem.len(), address, width);
     state::checked_effect(rs1, cause, load_at(place, kind, rd, address, mem))
 }
@@ -81,11 +95,11 @@ fn store_at(p: Place, kind: StoreKind, address: u32, value: u32) -> Effect
 {
     match p {
         Place::Misaligned => Effect::Trap {
-            cause: 6,
+            cause: STORE_MISALIGNED,
             value: address,
         },
         Place::Outside => Effect::Trap {
-            cause: 7,
+            cause: STORE_FAULT,
             value: address,
         },
         Place::At(at) => Effect::Store { kind, at, value },
@@ -105,26 +119,20 @@ fn store(
     ensures { λ r. ⌜ r ≡ storeEffect kind rs1 address value authority start size ⌝ }
 {
     let width = state::store_width(kind);
-    let cause = state::access_cause(authority, 2, 19, address, width);
+    let cause = state::access_cause(authority, SD, STORE_CAUSE, address, width);
     let place = state::place_of(start, size, address, width);
     state::checked_effect(rs1, cause, store_at(place, kind, address, value))
 }
 
-// Whether the load filter takes a value's tag: its low bound lies in a revoked granule.
-fn is_revoked(start: u32, mem: &[u8], tags: &[u8], revoked: &[u8], v: Capability) -> bool
-    ensures { λ r. ⌜ r ≡ revokedValue (lent start (now (mem .entry)) (now (tags .entry)) (now (revoked .entry))) v ⌝ }
+// Whether the revocation test takes a value's tag: its low bound lies in a revoked granule.
+pub fn is_revoked(board: Board, size: usize, revoked: &[u8], v: Capability) -> bool
+    ensures { λ r. ⌜ r ≡ revokedValue board size (now (revoked .entry)) v ⌝ }
 {
     let b = capability::bounds_of(v);
-    both(
+    choices::both(
         capability::is_revocable(v),
-        state::revoked_at(start, mem.len(), revoked, b.low),
+        state::revoked_at(board, size, revoked, b.low),
     )
-}
-
-fn both(a: bool, b: bool) -> bool
-    ensures { λ r. ⌜ r ≡ (a && b) ⌝ }
-{
-    a && b
 }
 
 // A value with its tag cleared where the test passes.
@@ -146,15 +154,15 @@ fn clear_if(clear: bool, v: Capability) -> Capability
 fn filter(
     authority: Capability,
     value: Capability,
-    start: u32,
+    board: Board,
     mem: &[u8],
     tags: &[u8],
     revoked: &[u8],
 ) -> Capability
-    ensures { λ r. ⌜ r ≡ filtered authority value (lent start (now (mem .entry)) (now (tags .entry)) (now (revoked .entry))) ⌝ }
+    ensures { λ r. ⌜ r ≡ filtered authority value (lent board (now (mem .entry)) (now (tags .entry)) (now (revoked .entry))) ⌝ }
 {
     let v = capability::loaded(authority, value);
-    clear_if(is_revoked(start, mem, tags, revoked, v), v)
+    clear_if(is_revoked(board, mem.len(), revoked, v), v)
 }
 
 fn load_capability_at(
@@ -162,20 +170,20 @@ fn load_capability_at(
     rd: u32,
     address: u32,
     authority: Capability,
-    start: u32,
+    board: Board,
     mem: &[u8],
     tags: &[u8],
     revoked: &[u8],
 ) -> Effect
-    ensures { λ r. ⌜ r ≡ loadCapabilityAt p rd address authority (lent start (now (mem .entry)) (now (tags .entry)) (now (revoked .entry))) ⌝ }
+    ensures { λ r. ⌜ r ≡ loadCapabilityAt p rd address authority (lent board (now (mem .entry)) (now (tags .entry)) (now (revoked .entry))) ⌝ }
 {
     match p {
         Place::Misaligned => Effect::Trap {
-            cause: 4,
+            cause: LOAD_MISALIGNED,
             value: address,
         },
         Place::Outside => Effect::Trap {
-            cause: 5,
+            cause: LOAD_FAULT,
             value: address,
         },
         Place::At(at) => Effect::Write {
@@ -183,7 +191,7 @@ fn load_capability_at(
             value: filter(
                 authority,
                 state::capability_in(mem, tags, at),
-                start,
+                board,
                 mem,
                 tags,
                 revoked,
@@ -198,19 +206,19 @@ fn load_capability(
     rs1: u32,
     address: u32,
     authority: Capability,
-    start: u32,
+    board: Board,
     mem: &[u8],
     tags: &[u8],
     revoked: &[u8],
 ) -> Effect
-    ensures { λ r. ⌜ r ≡ loadCapabilityEffect rd rs1 address authority (lent start (now (mem .entry)) (now (tags .entry)) (now (revoked .entry))) ⌝ }
+    ensures { λ r. ⌜ r ≡ loadCapabilityEffect rd rs1 address authority (lent board (now (mem .entry)) (now (tags .entry)) (now (revoked .entry))) ⌝ }
 {
-    let cause = state::access_cause(authority, 5, 18, address, 8);
-    let place = state::place_of(start, mem.len(), address, 8);
+    let cause = state::access_cause(authority, LD, LOAD_CAUSE, address, GRANULE_BYTES);
+    let place = state::place_of(board.start, mem.len(), address, GRANULE_BYTES);
     state::checked_effect(
         rs1,
         cause,
-        load_capability_at(place, rd, address, authority, start, mem, tags, revoked),
+        load_capability_at(place, rd, address, authority, board, mem, tags, revoked),
     )
 }
 
@@ -223,44 +231,40 @@ fn first_store_cause(
     escaping: bool,
     inside: bool,
 ) -> u32
-    ensures { λ r. ⌜ r ≡ cond tagged (cond sealed sealCause (cond stores (cond lacking storeCapabilityCause (cond escaping storeLocalCause (cond inside 0 boundsCause))) storeCause)) tagCause ⌝ }
+    ensures { λ r. ⌜ r ≡ failIf (not tagged) tagCause (failIf sealed sealCause (failIf (not stores) storeCause (failIf lacking storeCapabilityCause (failIf escaping storeLocalCause (failIf (not inside) boundsCause noCause))))) ⌝ }
 {
-    if tagged {
-        if sealed {
-            return 3;
-        }
-        if stores {
-            if lacking {
-                return 21;
-            }
-            if escaping {
-                return 22;
-            }
-            return state::bounds_cause(inside);
-        }
-        return 19;
+    if !tagged {
+        return TAG_CAUSE;
     }
-    2
+    if sealed {
+        return SEAL_CAUSE;
+    }
+    if !stores {
+        return STORE_CAUSE;
+    }
+    if lacking {
+        return STORE_CAPABILITY_CAUSE;
+    }
+    if escaping {
+        return STORE_LOCAL_CAUSE;
+    }
+    state::bounds_cause(inside)
 }
 
 // The cause for which a store of a capability traps, or 0.
 fn store_capability_cause(authority: Capability, value: Capability, address: u32) -> u32
     ensures { λ r. ⌜ r ≡ storeCapabilityCheck authority value address ⌝ }
 {
+    let rights = capability::rights_of(authority);
     let tagged = capability::is_tagged(value);
+    let global = capability::has_right(value, GL);
     first_store_cause(
         capability::is_tagged(authority),
         capability::is_sealed(authority),
-        capability::has_right(authority, 2),
-        both(tagged, !capability::has_right(authority, 6)),
-        both(
-            tagged,
-            both(
-                !capability::has_right(value, 0),
-                !capability::has_right(authority, 4),
-            ),
-        ),
-        state::in_bounds(authority, address, 8),
+        metadata::has(rights, SD),
+        choices::both(tagged, !metadata::has(rights, MC)),
+        choices::all_three(tagged, !global, !metadata::has(rights, SL)),
+        state::in_bounds(authority, address, GRANULE_BYTES),
     )
 }
 
@@ -269,11 +273,11 @@ fn store_capability_at(p: Place, address: u32, value: Capability) -> Effect
 {
     match p {
         Place::Misaligned => Effect::Trap {
-            cause: 6,
+            cause: STORE_MISALIGNED,
             value: address,
         },
         Place::Outside => Effect::Trap {
-            cause: 7,
+            cause: STORE_FAULT,
             value: address,
         },
         Place::At(at) => Effect::StoreCapability { at, value },
@@ -292,19 +296,19 @@ fn store_capability(
     ensures { λ r. ⌜ r ≡ storeCapabilityEffect rs1 address value authority start size ⌝ }
 {
     let cause = store_capability_cause(authority, value, address);
-    let place = state::place_of(start, size, address, 8);
+    let place = state::place_of(start, size, address, GRANULE_BYTES);
     state::checked_effect(rs1, cause, store_capability_at(place, address, value))
 }
 
 pub fn memory_effect(
     i: MemoryInstruction,
     regs: &[u32],
-    start: u32,
+    board: Board,
     mem: &[u8],
     tags: &[u8],
     revoked: &[u8],
 ) -> Effect
-    ensures { λ r. ⌜ r ≡ memoryEffect i (now (regs .entry)) (lent start (now (mem .entry)) (now (tags .entry)) (now (revoked .entry))) ⌝ }
+    ensures { λ r. ⌜ r ≡ memoryEffect i (now (regs .entry)) (lent board (now (mem .entry)) (now (tags .entry)) (now (revoked .entry))) ⌝ }
 {
     match i {
         MemoryInstruction::Load {
@@ -314,7 +318,7 @@ pub fn memory_effect(
             offset,
         } => {
             let c = state::register_at(regs, rs1);
-            load(kind, rd, rs1, address_of(c, offset), c, start, mem)
+            load(kind, rd, rs1, address_of(c, offset), c, board.start, mem)
         }
         MemoryInstruction::Store {
             kind,
@@ -324,16 +328,24 @@ pub fn memory_effect(
         } => {
             let c = state::register_at(regs, rs1);
             let v = state::integer_at(regs, rs2);
-            store(kind, rs1, address_of(c, offset), v, c, start, mem.len())
+            store(
+                kind,
+                rs1,
+                address_of(c, offset),
+                v,
+                c,
+                board.start,
+                mem.len(),
+            )
         }
         MemoryInstruction::LoadCapability { rd, rs1, offset } => {
             let c = state::register_at(regs, rs1);
-            load_capability(rd, rs1, address_of(c, offset), c, start, mem, tags, revoked)
+            load_capability(rd, rs1, address_of(c, offset), c, board, mem, tags, revoked)
         }
         MemoryInstruction::StoreCapability { rs1, rs2, offset } => {
             let c = state::register_at(regs, rs1);
             let v = state::register_at(regs, rs2);
-            store_capability(rs1, address_of(c, offset), v, c, start, mem.len())
+            store_capability(rs1, address_of(c, offset), v, c, board.start, mem.len())
         }
     }
 }

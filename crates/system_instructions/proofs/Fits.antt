@@ -16,7 +16,8 @@ use Rattle.instructions.specs.declared.Scr.{Scr}
 use Rattle.instructions.specs.declared.Scr.the-variants.{Mtcc, Mtdc, Mscratchc, Mepcc}
 use Rattle.instructions.specs.declared.SystemInstruction.{SystemInstruction}
 use Rattle.instructions.specs.declared.SystemInstruction.the-variants.{Fence, Wfi, Ecall, Ebreak, CsrRegister, CsrImmediate, SpecialRw}
-use Rattle.state.specs.Registers.{capabilityAt, registerAt, csrAt, scrIndex}
+use Rattle.state.specs.Layout.{generalCount, scrIndex}
+use Rattle.state.specs.Registers.{capabilityAt, registerAt, csrAt}
 use Rattle.state.specs.Fits.{FitsRegisters, FitsEffect}
 use Rattle.state.specs.declared.Effect.the-variants.{Write, WriteScr}
 use Rattle.state.proofs.Laws.{cond-holds}
@@ -44,7 +45,7 @@ scr-fits Mepcc c g = legalized-fits c g
 
 write-fits : (scr : Scr) (rd rs1 : ℕ) (old value : Capability) → Good old → Good value → FitsEffect (specialWrite scr rd rs1 old value)
 unfolding specialWrite
-write-fits scr rd rs1 old value g h = cond-holds FitsEffect (eqb (rs1 % 16) 0) (Write rd old) (WriteScr rd old scr value) g (g, h)
+write-fits scr rd rs1 old value g h = cond-holds FitsEffect (eqb (rs1 % generalCount) 0) (Write rd old) (WriteScr rd old scr value) (g, tt) ((g, h), tt)
 
 module _ (regs : List ℕ) (h : FitsRegisters regs) where
   special-fits : (scr : Scr) → Good (capabilityAt regs (scrIndex scr))
@@ -54,14 +55,14 @@ module _ (regs : List ℕ) (h : FitsRegisters regs) where
   unfolding csrEffect
   effect-fits kind csr rd operand k =
       let old = csr-fits regs h csr in
-      checked-fits _ _ _ (old, written-fits csr (csrAt regs csr) _ old (asked-fits kind (csrAt regs csr) operand old k))
+      checked-fits _ _ _ (tt, (old, written-fits csr (csrAt regs csr) _ old (asked-fits kind (csrAt regs csr) operand old k)))
 
   pub system-fits : (i : SystemInstruction) → SystemInRange i → FitsEffect (systemEffect i regs)
   unfolding systemEffect specialEffect
-  system-fits Fence r = tt
-  system-fits Wfi r = tt
-  system-fits Ecall r = (omega arith, omega arith)
-  system-fits Ebreak r = (omega arith, omega arith)
+  system-fits Fence r = (tt, tt)
+  system-fits Wfi r = (tt, tt)
+  system-fits Ecall r = (tt, (omega arith, omega arith))
+  system-fits Ebreak r = (tt, (omega arith, omega arith))
   system-fits (CsrRegister kind csr rd rs1) r = effect-fits kind csr rd _ (integer-fits regs h rs1)
   system-fits (CsrImmediate kind csr rd value) r = effect-fits kind csr rd value (omega (arith, r .1))
   system-fits (SpecialRw scr rd rs1) r =

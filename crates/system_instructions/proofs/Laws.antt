@@ -9,7 +9,8 @@ use Rattle.instructions.specs.declared.Scr.{Scr}
 use Rattle.instructions.specs.declared.Scr.the-variants.{Mtcc, Mtdc, Mscratchc, Mepcc}
 use Rattle.instructions.specs.declared.SystemInstruction.{SystemInstruction}
 use Rattle.instructions.specs.declared.SystemInstruction.the-variants.{Fence, Wfi, Ecall, Ebreak, CsrRegister, CsrImmediate, SpecialRw}
-use Rattle.state.specs.Registers.{capabilityAt, capabilityCount, registerAt, scrIndex}
+use Rattle.state.specs.Layout.{generalCount, capabilityCount, scrIndex}
+use Rattle.state.specs.Registers.{capabilityAt, registerAt}
 use Rattle.state.specs.Effects.{Storeless, GoodTag, GoodTags, GoodEffect}
 use Rattle.state.specs.declared.Effect.the-variants.{Write, WriteScr}
 use Rattle.state.proofs.Laws.{cond-holds, checked-holds, capability-tag, register-tag, legalized-tag}
@@ -17,7 +18,7 @@ use Rattle.system_instructions.specs.System.{csrEffect, scrValue, specia
 
 write-storeless : (scr : Scr) (rd rs1 : ℕ) (old value : Capability) → Storeless (specialWrite scr rd rs1 old value)
 unfolding specialWrite
-write-storeless scr rd rs1 old value = cond-holds Storeless (eqb (rs1 % 16) 0) (Write rd old) (WriteScr rd old scr value) tt tt
+write-storeless scr rd rs1 old value = cond-holds Storeless (eqb (rs1 % generalCount) 0) (Write rd old) (WriteScr rd old scr value) tt tt
 
 pub system-storeless : (i : SystemInstruction) (regs : List ℕ) → Storeless (systemEffect i regs)
 unfolding systemEffect csrEffect specialEffect
@@ -44,7 +45,7 @@ scr-tag Mepcc c h = legalized-tag c h
 
 write-good : (scr : Scr) (rd rs1 : ℕ) (old value : Capability) → GoodTag old → GoodTag value → GoodEffect (specialWrite scr rd rs1 old value)
 unfolding specialWrite
-write-good scr rd rs1 old value h k = cond-holds GoodEffect (eqb (rs1 % 16) 0) (Write rd old) (WriteScr rd old scr value) h (h, k)
+write-good scr rd rs1 old value h k = cond-holds GoodEffect (eqb (rs1 % generalCount) 0) (Write rd old) (WriteScr rd old scr value) h (h, k)
 
 pub system-good : (i : SystemInstruction) (regs : List ℕ) → GoodTags regs → GoodEffect (systemEffect i regs)
 unfolding systemEffect csrEffect specialEffect

@@ -13,8 +13,11 @@ use Rattle.instructions.specs.declared.Scr.{Scr}
 use Rattle.instructions.specs.declared.Scr.the-variants.{Mtcc, Mtdc, Mscratchc, Mepcc}
 use Rattle.instructions.specs.declared.SystemInstruction.{SystemInstruction}
 use Rattle.instructions.specs.declared.SystemInstruction.the-variants.{Fence, Wfi, Ecall, Ebreak, CsrRegister, CsrImmediate, SpecialRw}
-use Rattle.state.specs.Registers.{registerAt, integerAt, capabilityAt, pccOf, csrAt, scrIndex, scrNumber, writtenStatus, legalized}
-use Rattle.state.specs.Checks.{checked, systemAccess, pccRegister}
+use Rattle.state.specs.Layout.{generalCount, scrIndex, scrNumber}
+use Rattle.state.specs.Registers.{registerAt, integerAt, capabilityAt, pccOf, csrAt}
+use Rattle.state.specs.Addresses.{legalized}
+use Rattle.state.specs.Status.{writtenStatus}
+use Rattle.state.specs.Checks.{checked, systemAccess, pccRegister, breakpoint, environmentCall}
 use Rattle.state.specs.declared.Effect.{Effect}
 use Rattle.state.specs.declared.Effect.the-variants.{Advance, Write, WriteScr, WriteCsr, Trap}
 
@@ -25,7 +28,7 @@ csrAsked Csrrw old operand = operand
 csrAsked Csrrs old operand = bitOr old operand
 csrAsked Csrrc old operand = bitAnd old (2 ^ 32 - 1 - operand)
 
--- what is written: "mcause and mtval hold any word written", mstatus its two bits alone
+-- what is written: all of it to mcause and mtval, to mstatus its two bits alone
 unfoldable pub csrWritten : Csr → (old asked : ℕ) → ℕ
 csrWritten Mstatus old asked = writtenStatus old asked
 csrWritten Mcause old asked = asked
@@ -44,21 +47,21 @@ scrValue Mtdc c = c
 scrValue Mscratchc c = c
 scrValue Mepcc c = legalized c
 
--- CSpecialRW: cd is set to the special register, "and scr is set equal to capability register cs1 if cs1 is not C0"
+-- CSpecialRW: cd takes the special register's value, and the special register cs1's where cs1 is not c0
 unfoldable pub specialWrite : Scr → (rd rs1 : ℕ) → (old value : Capability) → Effect
-specialWrite scr rd rs1 old value = cond (eqb (rs1 % 16) 0) (Write rd old) (WriteScr rd old scr value)
+specialWrite scr rd rs1 old value = cond (eqb (rs1 % generalCount) 0) (Write rd old) (WriteScr rd old scr value)
 
 unfoldable pub specialEffect : Scr → (rd rs1 : ℕ) → (regs : List ℕ) → Effect
 specialEffect scr rd rs1 regs =
     checked (pccRegister + scrNumber scr) (systemAccess (pccOf regs))
     (specialWrite scr rd rs1 (scrValue scr (capabilityAt regs (scrIndex scr))) (scrValue scr (registerAt regs rs1)))
 
--- "FENCE and WFI retire and do nothing else"; "Breakpoint is 3 and ecall 11, both with mtval 0"
+-- FENCE and WFI only retire; both traps have mtval 0
 unfoldable pub systemEffect : SystemInstruction → (regs : List ℕ) → Effect
 systemEffect Fence regs = Advance
 systemEffect Wfi regs = Advance
-systemEffect Ecall regs = Trap 11 0
-systemEffect Ebreak regs = Trap 3 0
+systemEffect Ecall regs = Trap environmentCall 0
+systemEffect Ebreak regs = Trap breakpoint 0
 systemEffect (CsrRegister kind csr rd rs1) regs = csrEffect kind csr rd (integerAt regs rs1) regs
 systemEffect (CsrImmediate kind csr rd value) regs = csrEffect kind csr rd value regs
 systemEffect (SpecialRw scr rd rs1) regs = specialEffect scr rd rs1 regs

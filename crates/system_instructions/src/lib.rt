@@ -6,7 +6,11 @@ use instructions::Csr;
 use instructions::CsrKind;
 use instructions::Scr;
 use instructions::SystemInstruction;
+use state::BREAKPOINT;
+use state::ENVIRONMENT_CALL;
 use state::Effect;
+use state::GENERAL_COUNT;
+use state::PCC_REGISTER;
 
 // What a CSR instruction asks to write.
 fn csr_asked(kind: CsrKind, old: u32, operand: u32) -> u32
@@ -37,7 +41,7 @@ fn csr_effect(kind: CsrKind, csr: Csr, rd: u32, operand: u32, regs: &[u32]) -> E
     let value = csr_written(csr, old, csr_asked(kind, old, operand));
     let access = state::system_access(state::pcc_of(regs));
     state::checked_effect(
-        32,
+        PCC_REGISTER,
         access,
         Effect::WriteCsr {
             rd,
@@ -64,7 +68,7 @@ fn scr_value(scr: Scr, c: Capability) -> Capability
 fn special_write(scr: Scr, rd: u32, rs1: u32, old: Capability, value: Capability) -> Effect
     ensures { λ r. ⌜ r ≡ specialWrite scr rd rs1 old value ⌝ }
 {
-    if rs1 % 16 == 0 {
+    if rs1 % GENERAL_COUNT == 0 {
         Effect::Write { rd, value: old }
     } else {
         Effect::WriteScr {
@@ -84,7 +88,7 @@ fn special(scr: Scr, rd: u32, rs1: u32, regs: &[u32]) -> Effect
     let value = scr_value(scr, state::register_at(regs, rs1));
     let access = state::system_access(state::pcc_of(regs));
     state::checked_effect(
-        32 + state::scr_number(scr),
+        PCC_REGISTER + state::scr_number(scr),
         access,
         special_write(scr, rd, rs1, old, value),
     )
@@ -97,10 +101,13 @@ pub fn system_effect(i: SystemInstruction, regs: &[u32]) -> Effect
         SystemInstruction::Fence => Effect::Advance,
         SystemInstruction::Wfi => Effect::Advance,
         SystemInstruction::Ecall => Effect::Trap {
-            cause: 11,
+            cause: ENVIRONMENT_CALL,
             value: 0,
         },
-        SystemInstruction::Ebreak => Effect::Trap { cause: 3, value: 0 },
+        SystemInstruction::Ebreak => Effect::Trap {
+            cause: BREAKPOINT,
+            value: 0,
+        },
         SystemInstruction::CsrRegister { kind, csr, rd, rs1 } => {
             csr_effect(kind, csr, rd, state::integer_at(regs, rs1), regs)
         }

@@ -29,7 +29,7 @@ returns-6 c = simp (c .write6 .ensures, c .before .clear-tag .ensures, c .before
 
 returns-7 : tie.Need-returns-7
 unfolding capabilityEffect
-returns-7 c = simp (c .write7 .ensures, c .before .integer-of .ensures, c .before .before .inspect .ensures, c .before .before .before .register-at6 .ensures, c .before .before .before .before .before .i7 .given .1)
+returns-7 c = simp (c .write7 .ensures, c .before .integer .ensures, c .before .before .inspect .ensures, c .before .before .before .register-at6 .ensures, c .before .before .before .before .before .i7 .given .1)
 
 returns-8 : tie.Need-returns-8
 unfolding capabilityEffect

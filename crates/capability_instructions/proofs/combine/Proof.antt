@@ -36,7 +36,7 @@ returns-7 c = simp (c .moved-by .ensures, c .before .enum-told7 .given .1)
 
 returns-8 : tie.Need-returns-8
 unfolding combined
-returns-8 c = simp (c .integer-of .ensures, c .before .before .enum-told8 .given .1)
+returns-8 c = simp (c .integer .ensures, c .before .before .enum-told8 .given .1)
     (ap integer (omega (arith, c .before .wrapping-sub-u32 .ensures)))
 
 returns-9 : tie.Need-returns-9

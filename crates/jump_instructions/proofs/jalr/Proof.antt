@@ -5,7 +5,20 @@ use Rattle.jump_instructions.proofs.jalr.Tie as tie
 
 returns : tie.Need-returns
 unfolding jalrEffect
-returns c = simp (c .checked-effect .ensures, c .before .aligned-effect .ensures, c .before .before .jalr-cause .ensures, c .before .before .before .jump-status .ensures, c .before .before .before .before .move-address .ensures, c .before .before .before .before .before .with-object-type .ensures, c .before .before .before .before .before .before .link-of .ensures, c .before .before .before .before .before .before .before .pcc-of .ensures, c .before .before .before .before .before .before .before .before .csr-at .ensures)
+returns c =
+    let c3 = c .before .before .before in
+    let c6 = c3 .before .before .before in
+    simp (
+      c .checked-effect .ensures,
+      c .before .aligned-effect .ensures,
+      c .before .before .jalr-cause .ensures,
+      c3 .jump-status .ensures,
+      c3 .before .move-address .ensures,
+      c3 .before .before .with-object-type .ensures,
+      c6 .link-of .ensures,
+      c6 .before .pcc-of .ensures,
+      c6 .before .before .csr-at .ensures,
+    )
 
 pub jalr-spec : {M : Type 1} → statement M
 jalr-spec =

@@ -5,7 +5,9 @@ use Rattle.jump_instructions.proofs.link_of.Tie as tie
 
 returns : tie.Need-returns
 unfolding linkOf
-returns c = simp (c .with-object-type .ensures, c .before .link-type .ensures, c .before .before .move-address .ensures, c .before .before .before .wrapping-add-u32 .ensures)
+returns c =
+    let c3 = c .before .before .before in
+    simp (c .with-object-type .ensures, c .before .link-type .ensures, c .before .before .move-address .ensures, c3 .wrapping-add-u32 .ensures)
 
 pub link-of-spec : {M : Type 1} → statement M
 link-of-spec =

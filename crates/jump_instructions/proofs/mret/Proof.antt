@@ -5,7 +5,19 @@ use Rattle.jump_instructions.proofs.mret.Tie as tie
 
 returns : tie.Need-returns
 unfolding mretEffect
-returns c = simp (c .checked-effect .ensures, c .before .go-to .ensures, c .before .before .system-access .ensures, c .before .before .before .pcc-of .ensures, c .before .before .before .before .return-status .ensures, c .before .before .before .before .before .csr-at .ensures, c .before .before .before .before .before .before .legalize .ensures, c .before .before .before .before .before .before .before .capability-at .ensures)
+returns c =
+    let c3 = c .before .before .before in
+    let c6 = c3 .before .before .before in
+    simp (
+      c .checked-effect .ensures,
+      c .before .go-to .ensures,
+      c .before .before .system-access .ensures,
+      c3 .pcc-of .ensures,
+      c3 .before .return-status .ensures,
+      c3 .before .before .csr-at .ensures,
+      c6 .legalize .ensures,
+      c6 .before .capability-at .ensures,
+    )
 
 pub mret-spec : {M : Type 1} → statement M
 mret-spec =

@@ -4,7 +4,7 @@ use mathlib.Core.Path.{_≡_, ap, _∙_}
 use mathlib.Core.Bool.{cond}
 use native.Mathlib.Omega.{arith}
 use lib.ListN.{length}
-use Rattle.commit.specs.Commit.{state}
+use Rattle.state.specs.Lent.{state}
 use Rattle.machine.specs.Run.{ran, iterate}
 use Rattle.machine.proofs.Laws as laws
 use Rattle.machine.proofs.take_steps.Statement.{statement}
