@@ -7,7 +7,9 @@ use borrow.Author.Tests.{ltb-true}
 use Rattle.words.proofs.Word.{by-test, sign-extend-word}
 use Rattle.instructions.specs.Range.{InRange, Register, Word}
 use Rattle.instructions.specs.Fields.{opcode, rdOf, funct7, upper12, immediateI, immediateS, immediateB, immediateU, immediateJ, offsetAui}
-use Rattle.instructions.specs.Decode.{namingOf, loadOf, storeOf, fenceOf, shiftLeftOf, shiftRightOf, opImmOf, op32Of, opByOf, opOf, luiOf, auipccOf, auicgpOf, jalOf, branchOf, jalrOf, csrRegisterOf, csrImmediateOf, csrOf, wholeOf, systemOf, specialOf, sourceDestOf, combineOf, twoSourceOf, capabilityOf, decodeOf}
+use Rattle.instructions.specs.Decode.{namingOf, loadOf, storeOf, fenceOf, shiftLeftOf, shiftRightOf, opImmOf, op32Of, opByOf, opOf, luiOf, auipccOf}
+use Rattle.instructions.specs.Decode.{auicgpOf, jalOf, branchOf, jalrOf, csrRegisterOf, csrImmediateOf, csrOf, wholeOf, systemOf, specialOf}
+use Rattle.instructions.specs.Decode.{sourceDestOf, combineOf, twoSourceOf, capabilityOf, decodeOf}
 use Rattle.instructions.specs.declared.CsrKind.{CsrKind}
 use Rattle.instructions.specs.declared.Csr.{Csr}
 use Rattle.instructions.specs.declared.Combination.{Combination}

@@ -1,11 +1,13 @@
--- Words and what they mean, in one table with one statement: every row of the tables in chapter 8 of the CHERIoT report ("report"), each RV32E and
--- system instruction ("standard"), and words that are none. The words were assembled field by field; registers are c10 to c15, or c0 and c1.
+-- Words and what they mean, in one table with one statement: every row of the tables in chapter 8 of the CHERIoT report, each RV32E and
+-- system instruction of the standard, and words that are none. The words were assembled field by field; registers are c10 to c15, or c0 and c1.
 use Prim.Native.Nat.{ℕ}
 use mathlib.Core.Path.{_≡_, refl}
 use mathlib.Core.List.{List, [], _∷_, map}
 use Rattle.words.specs.Words.{signExtend}
 use Rattle.instructions.specs.Fields.{immediateI, immediateS, immediateB, immediateU, immediateJ, offsetAui}
-use Rattle.instructions.specs.Decode.{loadOf, storeOf, fenceOf, aluOf, shiftLeftOf, shiftRightOf, opImmOf, op32Of, opByOf, opOf, luiOf, auipccOf, auicgpOf, jalOf, branchOf, jalrOf, csrRegisterOf, csrImmediateOf, csrOf, wholeOf, systemOf, specialOf, sourceDestOf, combineOf, twoSourceOf, capabilityOf, decodeOf}
+use Rattle.instructions.specs.Decode.{loadOf, storeOf, fenceOf, aluOf, shiftLeftOf, shiftRightOf, opImmOf, op32Of, opByOf, opOf, luiOf, auipccOf}
+use Rattle.instructions.specs.Decode.{auicgpOf, jalOf, branchOf, jalrOf, csrRegisterOf, csrImmediateOf, csrOf, wholeOf, systemOf, specialOf}
+use Rattle.instructions.specs.Decode.{sourceDestOf, combineOf, twoSourceOf, capabilityOf, decodeOf}
 use Rattle.instructions.specs.declared.Alu.the-variants.{Add, Sub, Sll, Slt, Sltu, Xor, Srl, Sra, Or, And}
 use Rattle.instructions.specs.declared.BranchKind.the-variants.{Beq, Bne, Blt, Bge, Bltu, Bgeu}
 use Rattle.instructions.specs.declared.LoadKind.the-variants.{Lb, Lh, Lw, Lbu, Lhu}
@@ -13,8 +15,10 @@ use Rattle.instructions.specs.declared.StoreKind.the-variants.{Sb, Sh, S
 use Rattle.instructions.specs.declared.CsrKind.the-variants.{Csrrw, Csrrs, Csrrc}
 use Rattle.instructions.specs.declared.Csr.the-variants.{Mstatus, Mcause, Mtval}
 use Rattle.instructions.specs.declared.Scr.the-variants.{Mtcc, Mtdc, Mscratchc, Mepcc}
-use Rattle.instructions.specs.declared.Inspection.the-variants.{GetPerm, GetType, GetBase, GetLen, GetTag, RoundLength, AlignmentMask, GetAddr, GetHigh, GetTop}
-use Rattle.instructions.specs.declared.Combination.the-variants.{SetBounds, SetBoundsExact, Seal, Unseal, AndPerm, SetAddr, IncAddr, SubAddr, SetHigh, TestSubset, SetEqualExact}
+use Rattle.instructions.specs.declared.Inspection.the-variants.{GetPerm, GetType, GetBase, GetLen, GetTag, RoundLength, AlignmentMask, GetAddr, GetHigh}
+use Rattle.instructions.specs.declared.Inspection.the-variants.{GetTop}
+use Rattle.instructions.specs.declared.Combination.the-variants.{SetBounds, SetBoundsExact, Seal, Unseal, AndPerm, SetAddr, IncAddr, SubAddr, SetHigh}
+use Rattle.instructions.specs.declared.Combination.the-variants.{TestSubset, SetEqualExact}
 use Rattle.instructions.specs.declared.IntegerInstruction.the-variants.{Lui, OpImm, Op}
 use Rattle.instructions.specs.declared.JumpInstruction.the-variants.{Jal, Jalr, Branch, Mret}
 use Rattle.instructions.specs.declared.MemoryInstruction.the-variants.{Load, Store, LoadCapability, StoreCapability}
@@ -144,7 +148,8 @@ table =
     (0x0005985b is Illegal) ∷
     (0x30081573 is Illegal) ∷
     (0x30005873 is Illegal) ∷
-    -- illegal: all zeros, all ones, a multiplication, SRLI and SLLI with another funct7, FENCE.I, LWU, SD with funct3 4, a branch with funct3 2, JALR with funct3 1
+    -- illegal: all zeros, all ones, a multiplication, SRLI and SLLI with another funct7, FENCE.I, LWU, SD with funct3 4,
+    -- a branch with funct3 2, JALR with funct3 1
     (0x00000000 is Illegal) ∷
     (0xffffffff is Illegal) ∷
     (0x023100b3 is Illegal) ∷
@@ -173,5 +178,7 @@ table =
     []
 
 pub table-decodes : map (λ (r : Row). decodeOf (r .word)) table ≡ map (λ (r : Row). r .means) table
-unfolding signExtend immediateI immediateS immediateB immediateU immediateJ offsetAui loadOf storeOf fenceOf aluOf shiftLeftOf shiftRightOf opImmOf op32Of opByOf opOf luiOf auipccOf auicgpOf jalOf branchOf jalrOf csrRegisterOf csrImmediateOf csrOf wholeOf systemOf specialOf sourceDestOf combineOf twoSourceOf capabilityOf decodeOf
+unfolding signExtend immediateI immediateS immediateB immediateU immediateJ offsetAui loadOf storeOf fenceOf aluOf shiftLeftOf shiftRightOf opImmOf
+    op32Of opByOf opOf luiOf auipccOf auicgpOf jalOf branchOf jalrOf csrRegisterOf csrImmediateOf csrOf wholeOf systemOf specialOf sourceDestOf
+    combineOf twoSourceOf capabilityOf decodeOf
 table-decodes = refl

@@ -1,8 +1,9 @@
--- What a word means: trees of tests in the order of the tables. "Report" is the CHERIoT report, "standard" the RISC-V unprivileged standard (RV32E, Zicsr).
+-- What a word means: trees of tests in the order of the tables. The report is CHERIoT's, the standard RISC-V's unprivileged one (RV32E, Zicsr).
 use Prim.Native.Nat.{ℕ}
 use mathlib.Core.Bool.{cond}
 use lib.Dec.{ltb, eqb}
-use Rattle.instructions.specs.Fields.{opcode, rdOf, funct3, rs1Of, rs2Of, funct7, upper12, immediateI, immediateS, immediateB, immediateU, immediateJ, offsetAui}
+use Rattle.instructions.specs.Fields.{opcode, rdOf, funct3, rs1Of, rs2Of, funct7, upper12, immediateI, immediateS, immediateB, immediateU, immediateJ}
+use Rattle.instructions.specs.Fields.{offsetAui}
 use Rattle.instructions.specs.declared.Alu.{Alu}
 use Rattle.instructions.specs.declared.Alu.the-variants.{Add, Sub, Sll, Slt, Sltu, Xor, Srl, Sra, Or, And}
 use Rattle.instructions.specs.declared.BranchKind.the-variants.{Beq, Bne, Blt, Bge, Bltu, Bgeu}
@@ -13,9 +14,11 @@ use Rattle.instructions.specs.declared.CsrKind.the-variants.{Csrrw, Csrr
 use Rattle.instructions.specs.declared.Csr.{Csr}
 use Rattle.instructions.specs.declared.Csr.the-variants.{Mstatus, Mcause, Mtval}
 use Rattle.instructions.specs.declared.Scr.the-variants.{Mtcc, Mtdc, Mscratchc, Mepcc}
-use Rattle.instructions.specs.declared.Inspection.the-variants.{GetPerm, GetType, GetBase, GetLen, GetTag, RoundLength, AlignmentMask, GetAddr, GetHigh, GetTop}
+use Rattle.instructions.specs.declared.Inspection.the-variants.{GetPerm, GetType, GetBase, GetLen, GetTag, RoundLength, AlignmentMask, GetAddr, GetHigh}
+use Rattle.instructions.specs.declared.Inspection.the-variants.{GetTop}
 use Rattle.instructions.specs.declared.Combination.{Combination}
-use Rattle.instructions.specs.declared.Combination.the-variants.{SetBounds, SetBoundsExact, Seal, Unseal, AndPerm, SetAddr, IncAddr, SubAddr, SetHigh, TestSubset, SetEqualExact}
+use Rattle.instructions.specs.declared.Combination.the-variants.{SetBounds, SetBoundsExact, Seal, Unseal, AndPerm, SetAddr, IncAddr, SubAddr, SetHigh}
+use Rattle.instructions.specs.declared.Combination.the-variants.{TestSubset, SetEqualExact}
 use Rattle.instructions.specs.declared.IntegerInstruction.the-variants.{Lui, OpImm, Op}
 use Rattle.instructions.specs.declared.JumpInstruction.the-variants.{Jal, Jalr, Branch, Mret}
 use Rattle.instructions.specs.declared.MemoryInstruction.the-variants.{Load, Store, LoadCapability, StoreCapability}
@@ -24,7 +27,7 @@ use Rattle.instructions.specs.declared.SystemInstruction.the-variants.{F
 use Rattle.instructions.specs.declared.Instruction.{Instruction}
 use Rattle.instructions.specs.declared.Instruction.the-variants.{Integer, Jump, Memory, Capability, System, Illegal}
 
--- an instruction that names register n: there are sixteen (document 01, "Traps")
+-- an instruction that names register n: there are sixteen (document 01, Traps)
 abbrev pub namingOf : ℕ → Instruction → Instruction
 namingOf n i = cond (ltb n 16) i Illegal
 
@@ -156,7 +159,7 @@ wholeOf w =
     (cond (eqb w 0x30200073) (Jump Mret)
     Illegal)))
 
--- standard, SYSTEM; the CSRs that there are: document 01, "In and out"
+-- standard, SYSTEM; the CSRs that there are: document 01, In and out
 unfoldable pub systemOf : ℕ → ℕ → ℕ → ℕ → ℕ → Instruction
 systemOf w f3 number rd rs1 =
     cond (eqb f3 0) (wholeOf w)
@@ -174,7 +177,7 @@ specialOf scr rd rs1 =
     (cond (eqb scr 31) (System (SpecialRw Mepcc rd rs1))
     Illegal)))
 
--- "Source & Dest", by the rs2 field: report, 8.1.1 to 8.1.3, 8.1.6 and 8.3
+-- two registers, by the rs2 field: report, 8.1.1 to 8.1.3, 8.1.6 and 8.3
 unfoldable pub sourceDestOf : ℕ → ℕ → ℕ → Instruction
 sourceDestOf func rd rs1 =
     cond (eqb func 0x00) (Capability (Inspect GetPerm rd rs1))
@@ -194,7 +197,7 @@ sourceDestOf func rd rs1 =
 unfoldable pub combineOf : Combination → ℕ → ℕ → ℕ → Instruction
 combineOf what rd rs1 rs2 = namingOf rs2 (Capability (Combine what rd rs1 rs2))
 
--- "Two Source & Dest", by funct7: report, 8.1.2 to 8.1.5 and 8.3
+-- three registers, by funct7: report, 8.1.2 to 8.1.5 and 8.3
 unfoldable pub twoSourceOf : ℕ → ℕ → ℕ → ℕ → Instruction
 twoSourceOf f7 rd rs1 rs2 =
     cond (eqb f7 0x01) (specialOf rs2 rd rs1)
@@ -221,7 +224,7 @@ capabilityOf f3 f7 rd rs1 rs2 offset length =
     (cond (eqb f3 2) (Capability (SetBoundsImm rd rs1 length))
     Illegal))))
 
--- the instruction that a word is: by opcode (standard, "RV32/64G Instruction Set Listings"; report, chapter 8)
+-- the instruction that a word is: by opcode (standard, the listings of RV32G; report, chapter 8)
 unfoldable pub decodeOf : ℕ → Instruction
 decodeOf w =
     let rd = rdOf w in

@@ -1,4 +1,4 @@
--- The fields of an instruction word, and its immediates by format (RISC-V unprivileged standard, "Base Instruction Formats" and "Immediate Encoding Variants").
+-- The fields of an instruction word, and its immediates by format (RISC-V unprivileged standard, RV32I, base formats and immediate encodings).
 use Prim.Native.Nat.{ℕ, _+_, _*_, _/_, _%_, _^_}
 use Rattle.words.specs.Words.{signExtend, wrap}
 
