@@ -11,7 +11,8 @@ use Rattle.state.specs.Registers.{pccOf, pcOf}
 use Rattle.state.specs.Addresses.{instructionBytes}
 use Rattle.state.specs.Lent.{Lent, lent, State}
 use Rattle.state.specs.Memory.{placeOf}
-use Rattle.state.specs.Checks.{checked, accessCause, pccRegister, executeCause}
+use Rattle.state.specs.Checks.{checked, accessCause, pccRegister, executeCause, illegalInstruction, fetchMisaligned, fetchFault}
+use Rattle.state.specs.declared.Board.{Board}
 use Rattle.state.specs.declared.Place.{Place}
 use Rattle.state.specs.declared.Place.the-variants.{At, Misaligned, Outside}
 use Rattle.state.specs.declared.Effect.{Effect}
@@ -23,35 +24,35 @@ use Rattle.capability_instructions.specs.Derivation.{capabilityEffect}
 use Rattle.system_instructions.specs.System.{systemEffect}
 use Rattle.commit.specs.Commit.{applyEffect}
 
--- what an instruction does: "illegal instruction is mcause 2 with the word in mtval"
-unfoldable pub effectOf : Instruction → (word : ℕ) → (regs : List ℕ) → Lent → Effect
-effectOf (Integer i) word regs m = integerEffect i regs
-effectOf (Jump i) word regs m = jumpEffect i regs
-effectOf (Memory i) word regs m = memoryEffect i regs m
-effectOf (Capability i) word regs m = capabilityEffect i regs
-effectOf (System i) word regs m = systemEffect i regs
-effectOf Illegal word regs m = Trap 2 word
+-- what an instruction of some bytes does; a word that is none traps with the word
+unfoldable pub effectOf : (bytes : ℕ) → Instruction → (word : ℕ) → (regs : List ℕ) → Lent → Effect
+effectOf bytes (Integer i) word regs m = integerEffect i regs
+effectOf bytes (Jump i) word regs m = jumpEffect bytes i regs
+effectOf bytes (Memory i) word regs m = memoryEffect i regs m
+effectOf bytes (Capability i) word regs m = capabilityEffect i regs
+effectOf bytes (System i) word regs m = systemEffect i regs
+effectOf bytes Illegal word regs m = Trap illegalInstruction word
 
--- "A fetch checks PCC's tag, seal, execute right and four bytes in bounds, then alignment, then access."
+-- the fetch after the checks of PCC: alignment, then access
 unfoldable pub fetchedAt : Place → (regs : List ℕ) → Lent → Effect
-fetchedAt Misaligned regs m = Trap 0 (pcOf regs)
-fetchedAt Outside regs m = Trap 1 (pcOf regs)
-fetchedAt (At i) regs m = effectOf (decodeOf (leBytes 4 (m .mem) i)) (leBytes 4 (m .mem) i) regs m
+fetchedAt Misaligned regs m = Trap fetchMisaligned (pcOf regs)
+fetchedAt Outside regs m = Trap fetchFault (pcOf regs)
+fetchedAt (At i) regs m = effectOf instructionBytes (decodeOf (leBytes instructionBytes (m .mem) i)) (leBytes instructionBytes (m .mem) i) regs m
 
 -- where the check of PCC gave that cause, or 0
 abbrev pub fetched : (cause pc : ℕ) → (regs : List ℕ) → Lent → Effect
-fetched cause pc regs m = checked pccRegister cause (fetchedAt (placeOf (m .start) (length (m .mem)) pc instructionBytes) regs m)
+fetched cause pc regs m = checked pccRegister cause (fetchedAt (placeOf (m .board .start) (length (m .mem)) pc instructionBytes) regs m)
 
--- what the next step does
+-- what the next step does: PCC's tag, seal, execute right and bounds come first
 unfoldable pub nextEffect : (regs : List ℕ) → Lent → Effect
 nextEffect regs m = fetched (accessCause (pccOf regs) EX executeCause (pcOf regs) instructionBytes) (pcOf regs) regs m
 
 -- the memory, its tags and what is only read, as an effect sees them
-abbrev pub seen : (start : ℕ) → (revoked : List ℕ) → State → Lent
-seen start revoked s = lent start (s .mem) (s .tags) revoked
+abbrev pub seen : Board → (revoked : List ℕ) → State → Lent
+seen board revoked s = lent board (s .mem) (s .tags) revoked
 
-abbrev pub effectAt : (start : ℕ) → (revoked : List ℕ) → State → Effect
-effectAt start revoked s = nextEffect (s .regs) (seen start revoked s)
+abbrev pub effectAt : Board → (revoked : List ℕ) → State → Effect
+effectAt board revoked s = nextEffect (s .regs) (seen board revoked s)
 
-unfoldable pub stepOf : (start : ℕ) → (revoked : List ℕ) → State → State
-stepOf start revoked s = applyEffect (effectAt start revoked s) s
+unfoldable pub stepOf : Board → (revoked : List ℕ) → State → State
+stepOf board revoked s = applyEffect instructionBytes (effectAt board revoked s) s

@@ -5,50 +5,67 @@ ghost use Rattle.state.specs.Lent.{lent, state};
 ghost use Rattle.commit.specs.Commit.{retires};
 ghost use Rattle.execution.specs.Step.{effectOf, fetchedAt, fetched, nextEffect, effectAt, stepOf};
 use instructions::Instruction;
+use state::Board;
+use state::EXECUTE_CAUSE;
 use state::Effect;
+use state::FETCH_FAULT;
+use state::FETCH_MISALIGNED;
+use state::ILLEGAL_INSTRUCTION;
+use state::INSTRUCTION_BYTES;
+use state::NO_CAUSE;
+use state::PCC_REGISTER;
 use state::Place;
 
-// What an instruction does.
+// What an instruction of some bytes does.
 fn execute(
+    bytes: u32,
     i: Instruction,
     word: u32,
     regs: &[u32],
-    start: u32,
+    board: Board,
     mem: &[u8],
     tags: &[u8],
     revoked: &[u8],
 ) -> Effect
-    ensures { λ r. ⌜ r ≡ effectOf i word (now (regs .entry)) (lent start (now (mem .entry)) (now (tags .entry)) (now (revoked .entry))) ⌝ }
+    ensures { λ r. ⌜ r ≡ effectOf bytes i word (now (regs .entry)) (lent board (now (mem .entry)) (now (tags .entry)) (now (revoked .entry))) ⌝ }
 {
     match i {
         Instruction::Integer(x) => integer_instructions::integer_effect(x, regs),
-        Instruction::Jump(x) => jump_instructions::jump_effect(x, regs),
+        Instruction::Jump(x) => jump_instructions::jump_effect(bytes, x, regs),
         Instruction::Memory(x) => {
-            memory_instructions::memory_effect(x, regs, start, mem, tags, revoked)
+            memory_instructions::memory_effect(x, regs, board, mem, tags, revoked)
         }
         Instruction::Capability(x) => capability_instructions::capability_effect(x, regs),
         Instruction::System(x) => system_instructions::system_effect(x, regs),
         Instruction::Illegal => Effect::Trap {
-            cause: 2,
+            cause: ILLEGAL_INSTRUCTION,
             value: word,
         },
     }
 }
 
 // What the instruction at a place does.
-fn fetched_at(p: Place, regs: &[u32], start: u32, mem: &[u8], tags: &[u8], revoked: &[u8]) -> Effect
-    ensures { λ r. ⌜ r ≡ fetchedAt p (now (regs .entry)) (lent start (now (mem .entry)) (now (tags .entry)) (now (revoked .entry))) ⌝ }
+fn fetched_at(
+    p: Place,
+    regs: &[u32],
+    board: Board,
+    mem: &[u8],
+    tags: &[u8],
+    revoked: &[u8],
+) -> Effect
+    ensures { λ r. ⌜ r ≡ fetchedAt p (now (regs .entry)) (lent board (now (mem .entry)) (now (tags .entry)) (now (revoked .entry))) ⌝ }
 {
     match p {
-        Place::Misaligned => fetch_trap(0, regs),
-        Place::Outside => fetch_trap(1, regs),
+        Place::Misaligned => fetch_trap(FETCH_MISALIGNED, regs),
+        Place::Outside => fetch_trap(FETCH_FAULT, regs),
         Place::At(at) => {
             let word = words::load32(mem, at as usize);
             execute(
+                INSTRUCTION_BYTES,
                 instructions::decode(word),
                 word,
                 regs,
-                start,
+                board,
                 mem,
                 tags,
                 revoked,
@@ -73,40 +90,46 @@ fn fetch(
     cause: u32,
     pc: u32,
     regs: &[u32],
-    start: u32,
+    board: Board,
     mem: &[u8],
     tags: &[u8],
     revoked: &[u8],
 ) -> Effect
-    ensures { λ r. ⌜ r ≡ fetched cause pc (now (regs .entry)) (lent start (now (mem .entry)) (now (tags .entry)) (now (revoked .entry))) ⌝ }
+    ensures { λ r. ⌜ r ≡ fetched cause pc (now (regs .entry)) (lent board (now (mem .entry)) (now (tags .entry)) (now (revoked .entry))) ⌝ }
 {
-    if cause == 0 {
-        let place = state::place_of(start, mem.len(), pc, 4);
-        fetched_at(place, regs, start, mem, tags, revoked)
+    if cause == NO_CAUSE {
+        let place = state::place_of(board.start, mem.len(), pc, INSTRUCTION_BYTES);
+        fetched_at(place, regs, board, mem, tags, revoked)
     } else {
-        state::capability_trap(32, cause)
+        state::capability_trap(PCC_REGISTER, cause)
     }
 }
 
 // What the next step does.
-fn next_effect(regs: &[u32], start: u32, mem: &[u8], tags: &[u8], revoked: &[u8]) -> Effect
-    ensures { λ r. ⌜ r ≡ nextEffect (now (regs .entry)) (lent start (now (mem .entry)) (now (tags .entry)) (now (revoked .entry))) ⌝ }
+fn next_effect(regs: &[u32], board: Board, mem: &[u8], tags: &[u8], revoked: &[u8]) -> Effect
+    ensures { λ r. ⌜ r ≡ nextEffect (now (regs .entry)) (lent board (now (mem .entry)) (now (tags .entry)) (now (revoked .entry))) ⌝ }
 {
     let pcc = state::pcc_of(regs);
-    let cause = state::access_cause(pcc, 8, 17, pcc.address, 4);
-    fetch(cause, pcc.address, regs, start, mem, tags, revoked)
+    let cause = state::access_cause(
+        pcc,
+        metadata::EX,
+        EXECUTE_CAUSE,
+        pcc.address,
+        INSTRUCTION_BYTES,
+    );
+    fetch(cause, pcc.address, regs, board, mem, tags, revoked)
 }
 
 // One step. Nothing is refused: what lies outside a buffer reads as 0 and is not written. Answers whether the instruction retires.
 pub fn take_step(
     regs: &mut [u32],
-    start: u32,
+    board: Board,
     mem: &mut [u8],
     tags: &mut [u8],
     revoked: &[u8],
 ) -> bool
-    ensures { λ r. ⌜ (r ≡ retires (effectAt start (now (revoked .entry)) (state (now (regs .entry)) (now (mem .entry)) (now (tags .entry))))) × (state (now (regs .exit)) (now (mem .exit)) (now (tags .exit)) ≡ stepOf start (now (revoked .entry)) (state (now (regs .entry)) (now (mem .entry)) (now (tags .entry)))) ⌝ }
+    ensures { λ r. ⌜ (r ≡ retires (effectAt board (now (revoked .entry)) (state (now (regs .entry)) (now (mem .entry)) (now (tags .entry))))) × (state (now (regs .exit)) (now (mem .exit)) (now (tags .exit)) ≡ stepOf board (now (revoked .entry)) (state (now (regs .entry)) (now (mem .entry)) (now (tags .entry)))) ⌝ }
 {
-    let e = next_effect(regs, start, mem, tags, revoked);
-    commit::commit_effect(regs, mem, tags, e)
+    let e = next_effect(regs, board, mem, tags, revoked);
+    commit::commit_effect(regs, mem, tags, INSTRUCTION_BYTES, e)
 }

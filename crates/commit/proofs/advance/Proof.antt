@@ -5,7 +5,15 @@ use Rattle.commit.proofs.advance.Tie as tie
 
 returns : tie.Need-returns
 unfolding advanced
-returns c = simp (c .before .before .set-capability .ensures, c .before .before .before .before .move-address .ensures, c .before .before .before .before .before .wrapping-add-u32 .ensures, c .before .before .before .before .before .before .pcc-of .ensures)
+returns c =
+    let c3 = c .before .before .before in
+    let c6 = c3 .before .before .before in
+    simp (
+      c .before .before .set-capability .ensures,
+      c3 .before .move-address .ensures,
+      c3 .before .before .wrapping-add-u32 .ensures,
+      c6 .pcc-of .ensures,
+    )
 
 pub advance-spec : {M : Type 1} → statement M
 advance-spec =

@@ -5,7 +5,16 @@ use Rattle.commit.proofs.write_scr.Tie as tie
 
 returns : tie.Need-returns
 unfolding withScr
-returns c = simp (c .before .before .advance .ensures, c .before .before .before .before .before .before .set-capability .ensures, c .before .before .before .before .before .before .before .scr-index .ensures, c .before .before .before .before .before .before .before .before .before .before .before .write-register .ensures)
+returns c =
+    let c3 = c .before .before .before in
+    let c6 = c3 .before .before .before in
+    let c9 = c6 .before .before .before in
+    simp (
+      c .before .before .advance .ensures,
+      c6 .set-capability .ensures,
+      c6 .before .scr-index .ensures,
+      c9 .before .before .write-register .ensures,
+    )
 
 pub write-scr-spec : {M : Type 1} → statement M
 write-scr-spec =
