@@ -1,15 +1,18 @@
--- The refusals of a step and a run. Document 01, "Answers": the lowest number wins. Assumes nothing.
-use mathlib.Core.Bool.{Bool, true, false, cond, _&&_}
+-- The refusals of a step and a run, in the order of their numbers: the lowest wins. Document 01, "What is lent" and "Answers". Assumes nothing.
+use mathlib.Core.Bool.{Bool, true, not, _&&_}
 use mathlib.Core.List.{List}
 use Prim.Native.Nat.{ℕ, zero, suc, _+_, _*_, _/_, _%_, _^_}
 use lib.Dec.{eqb, leb, ltb}
 use lib.ListN.{getD, length}
-use Rattle.state.specs.Layout.{registerWords, capabilityCount}
+use Rattle.state.specs.Layout.{registerWords, capabilityCount, capabilityWords}
 use Rattle.state.specs.Lent.{State}
+use Rattle.state.specs.Memory.{granuleBytes}
+use Rattle.state.specs.Checks.{failIf}
+use Rattle.state.specs.declared.Board.{Board}
 
--- the least and the most memory, and what its size is a multiple of
-abbrev pub leastMemory : ℕ
-leastMemory = 64
+-- the bytes of memory that one byte of tags is for: the least memory, and what its size is a multiple of
+abbrev pub blockBytes : ℕ
+blockBytes = granuleBytes * 8
 
 abbrev pub mostMemory : ℕ
 mostMemory = 65536
@@ -18,31 +21,34 @@ mostMemory = 65536
 abbrev pub mostSteps : ℕ
 mostSteps = 1000000
 
--- "Size 64 to 65,536, a multiple of 64; start a multiple of 8; start plus size at most 2^32."
-unfoldable pub goodMemory : (start size : ℕ) → Bool
-goodMemory start size = leb leastMemory size && (leb size mostMemory && (eqb (size % 64) 0 && (eqb (start % 8) 0 && leb (start + size) (2 ^ 32))))
+-- memory's size and start
+unfoldable pub goodMemory : Board → (size : ℕ) → Bool
+goodMemory board size =
+    leb blockBytes size
+    && (leb size mostMemory && (eqb (size % blockBytes) 0 && (eqb (board .start % granuleBytes) 0 && leb (board .start + size) (2 ^ 32))))
+
+-- a bit of tags and a revocation bit for each granule
+unfoldable pub goodBits : (revoked : List ℕ) → State → Bool
+goodBits revoked s = eqb (length (s .tags)) (length (s .mem) / blockBytes) && eqb (length revoked) (length (s .mem) / blockBytes)
 
 -- the tag words of n capabilities from capability i on are 0 or 1
 unfoldable pub goodTags : (n : ℕ) → (regs : List ℕ) → (i : ℕ) → Bool
 goodTags zero regs i = true
-goodTags (suc n) regs i = leb (getD regs (i * 3 + 2) 0) 1 && goodTags n regs (i + 1)
+goodTags (suc n) regs i = leb (getD regs (i * capabilityWords + 2) 0) 1 && goodTags n regs (i + 1)
 
 -- each word of c0 is 0
 unfoldable pub goodZero : (regs : List ℕ) → Bool
 goodZero regs = eqb (getD regs 0 0) 0 && (eqb (getD regs 1 0) 0 && eqb (getD regs 2 0) 0)
 
--- 1: "register file is not 66 words"; 2: "memory start or size breaks the limits"; 3: "tag or revocation buffer is not size/64 bytes";
--- 4: "a tag word is not 0 or 1, or a word of c0 is not 0"; else 0
-unfoldable pub refusalOf : (start : ℕ) → (revoked : List ℕ) → State → ℕ
-refusalOf start revoked s =
-    cond (eqb (length (s .regs)) registerWords)
-    (cond (goodMemory start (length (s .mem)))
-    (cond (eqb (length (s .tags)) (length (s .mem) / 64) && eqb (length revoked) (length (s .mem) / 64))
-    (cond (goodTags capabilityCount (s .regs) 0 && goodZero (s .regs)) 0 4)
-    3)
-    2)
-    1
+unfoldable pub goodWords : (regs : List ℕ) → Bool
+goodWords regs = goodTags capabilityCount regs 0 && goodZero regs
 
--- 5: "a run asks more than 1,000,000 steps"
-unfoldable pub runRefusal : (n start : ℕ) → (revoked : List ℕ) → State → ℕ
-runRefusal n start revoked s = cond (eqb (refusalOf start revoked s) 0) (cond (ltb mostSteps n) 5 0) (refusalOf start revoked s)
+-- the number for a call that asks n steps, where a single step asks one; 0 where nothing is refused
+unfoldable pub refusalOf : (n : ℕ) → Board → (revoked : List ℕ) → State → ℕ
+refusalOf n board revoked s =
+    failIf (not (eqb (length (s .regs)) registerWords)) 1
+    (failIf (not (goodMemory board (length (s .mem)))) 2
+    (failIf (not (goodBits revoked s)) 3
+    (failIf (not (goodWords (s .regs))) 4
+    (failIf (ltb mostSteps n) 5
+    0))))

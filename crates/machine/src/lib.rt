@@ -1,11 +1,17 @@
 // The machine over lent buffers: a step, and a run of steps.
+use state::Board;
+use state::CAPABILITY_COUNT;
+use state::CAPABILITY_WORDS;
+use state::GRANULE_BYTES;
+use state::REGISTER_WORDS;
 ghost use mathlib.Core.Path.{_≡_};
-ghost use mathlib.Core.Bool.{cond, _&&_};
-ghost use Prim.Native.Nat.{_-_, _/_, _≤_};
+ghost use mathlib.Core.Bool.{not, _&&_};
+ghost use Prim.Native.Nat.{_/_};
 ghost use lib.Dec.{eqb};
 ghost use Rattle.state.specs.Layout.{capabilityCount};
 ghost use Rattle.state.specs.Lent.{state};
-ghost use Rattle.machine.specs.Refusals.{goodMemory, goodTags, goodZero, refusalOf};
+ghost use Rattle.state.specs.Checks.{failIf};
+ghost use Rattle.machine.specs.Refusals.{blockBytes, goodMemory, goodTags, goodZero, goodWords, refusalOf};
 ghost use Rattle.machine.specs.Run.{StepPromise, ran, iterate, RunPromise};
 
 // The answer to a step.
@@ -21,25 +27,46 @@ pub enum RunAnswer {
     Refused(u32),
 }
 
+// The bytes of memory that one byte of tags is for, the most memory, and the most steps of a run.
+pub const BLOCK_BYTES: usize = 64;
+
+pub const MOST_MEMORY: usize = 65536;
+
+pub const MOST_STEPS: u32 = 1000000;
+
+// The end of the address space.
+const SPACE: usize = 0x1_0000_0000;
+
 // ---- the refusals
 
 // The limits of memory's start and size.
-fn good_memory(start: u32, size: usize) -> bool
-    ensures { λ r. ⌜ r ≡ goodMemory start size ⌝ }
+fn good_memory(board: Board, size: usize) -> bool
+    ensures { λ r. ⌜ r ≡ goodMemory board size ⌝ }
 {
-    if size < 64 {
+    let start = board.start;
+    if size < BLOCK_BYTES {
         return false;
     }
-    if 65536 < size {
+    if MOST_MEMORY < size {
         return false;
     }
-    if size % 64 != 0 {
+    if size % BLOCK_BYTES != 0 {
         return false;
     }
-    if start % 8 != 0 {
+    if start % GRANULE_BYTES != 0 {
         return false;
     }
-    start as usize + size <= 0x1_0000_0000
+    start as usize + size <= SPACE
+}
+
+// Whether the tag and revocation buffers are as long as memory asks.
+fn good_lengths(size: usize, tags: usize, revoked: usize) -> bool
+    ensures { λ r. ⌜ r ≡ (eqb tags (size / blockBytes) && eqb revoked (size / blockBytes)) ⌝ }
+{
+    if tags != size / BLOCK_BYTES {
+        return false;
+    }
+    revoked == size / BLOCK_BYTES
 }
 
 // Whether each tag word of the register file is 0 or 1.
@@ -47,8 +74,8 @@ fn good_tags(regs: &[u32]) -> bool
     ensures { λ r. ⌜ r ≡ goodTags capabilityCount (now (regs .entry)) 0 ⌝ }
 {
     let mut i = 0;
-    while i < 21 {
-        if 1 < words::word_at(regs, i * 3 + 2) {
+    while i < CAPABILITY_COUNT {
+        if 1 < words::word_at(regs, i * CAPABILITY_WORDS + 2) {
             return false;
         }
         i += 1;
@@ -69,19 +96,9 @@ fn good_zero(regs: &[u32]) -> bool
     words::word_at(regs, 2) == 0
 }
 
-// Whether the tag and revocation buffers are as long as memory asks.
-fn good_lengths(size: usize, tags: usize, revoked: usize) -> bool
-    ensures { λ r. ⌜ r ≡ (eqb tags (size / 64) && eqb revoked (size / 64)) ⌝ }
-{
-    if tags != size / 64 {
-        return false;
-    }
-    revoked == size / 64
-}
-
 // Whether the register file's words are as they must be.
 fn good_words(regs: &[u32]) -> bool
-    ensures { λ r. ⌜ r ≡ (goodTags capabilityCount (now (regs .entry)) 0 && goodZero (now (regs .entry))) ⌝ }
+    ensures { λ r. ⌜ r ≡ goodWords (now (regs .entry)) ⌝ }
 {
     if good_tags(regs) {
         good_zero(regs)
@@ -90,27 +107,39 @@ fn good_words(regs: &[u32]) -> bool
     }
 }
 
-// The number of the first refusal that applies, or 0.
-fn refusal(regs: &[u32], start: u32, mem: &[u8], tags: &[u8], revoked: &[u8]) -> u32
-    ensures { λ r. ⌜ r ≡ refusalOf start (now (revoked .entry)) (state (now (regs .entry)) (now (mem .entry)) (now (tags .entry))) ⌝ }
+// The number of the first test that fails, or 0.
+fn first_refusal(registers: bool, memory: bool, bits: bool, held: bool, many: bool) -> u32
+    ensures { λ r. ⌜ r ≡ failIf (not registers) 1 (failIf (not memory) 2 (failIf (not bits) 3 (failIf (not held) 4 (failIf many 5 0)))) ⌝ }
 {
-    if regs.len() != 66 {
+    if !registers {
         return 1;
     }
-    if good_memory(start, mem.len()) {
-        if good_lengths(mem.len(), tags.len(), revoked.len()) {
-            return word_refusal(good_words(regs));
-        }
+    if !memory {
+        return 2;
+    }
+    if !bits {
         return 3;
     }
-    2
+    if !held {
+        return 4;
+    }
+    if many {
+        return 5;
+    }
+    0
 }
 
-// Refusal 4 where the register file's words are not as they must be.
-fn word_refusal(sound: bool) -> u32
-    ensures { λ r. ⌜ r ≡ cond sound 0 4 ⌝ }
+// The number of the first refusal that applies to a call of n steps, or 0.
+pub fn refusal(n: u32, regs: &[u32], board: Board, mem: &[u8], tags: &[u8], revoked: &[u8]) -> u32
+    ensures { λ r. ⌜ r ≡ refusalOf n board (now (revoked .entry)) (state (now (regs .entry)) (now (mem .entry)) (now (tags .entry))) ⌝ }
 {
-    if sound { 0 } else { 4 }
+    first_refusal(
+        regs.len() == REGISTER_WORDS,
+        good_memory(board, mem.len()),
+        good_lengths(mem.len(), tags.len(), revoked.len()),
+        good_words(regs),
+        MOST_STEPS < n,
+    )
 }
 
 // ---- a step and a run
@@ -118,18 +147,18 @@ fn word_refusal(sound: bool) -> u32
 // One step. A refusal changes nothing.
 pub fn step(
     regs: &mut [u32],
-    start: u32,
+    board: Board,
     mem: &mut [u8],
     tags: &mut [u8],
     revoked: &[u8],
 ) -> StepAnswer
-    ensures { λ r. ⌜ StepPromise start (now (revoked .entry)) (state (now (regs .entry)) (now (mem .entry)) (now (tags .entry))) (state (now (regs .exit)) (now (mem .exit)) (now (tags .exit))) r ⌝ }
+    ensures { λ r. ⌜ StepPromise board (now (revoked .entry)) (state (now (regs .entry)) (now (mem .entry)) (now (tags .entry))) (state (now (regs .exit)) (now (mem .exit)) (now (tags .exit))) r ⌝ }
 {
-    let no = refusal(regs, start, mem, tags, revoked);
+    let no = refusal(1, regs, board, mem, tags, revoked);
     if no != 0 {
         return StepAnswer::Refused(no);
     }
-    if execution::take_step(regs, start, mem, tags, revoked) {
+    if execution::take_step(regs, board, mem, tags, revoked) {
         StepAnswer::Retired
     } else {
         StepAnswer::Trapped
@@ -142,29 +171,22 @@ struct Counts {
     trapped: u32,
 }
 
-// 1 where a step retires, else 0.
-fn one_if(b: bool) -> u32
-    ensures { λ r. ⌜ (r ≡ cond b 1 0) × (1 - r ≡ cond b 0 1) × (r ≤ 1) ⌝ }
-{
-    if b { 1 } else { 0 }
-}
-
 // n steps. Nothing is refused.
 fn take_steps(
     regs: &mut [u32],
-    start: u32,
+    board: Board,
     mem: &mut [u8],
     tags: &mut [u8],
     revoked: &[u8],
     n: u32,
 ) -> Counts
-    ensures { λ r. ⌜ ran (state (now (regs .exit)) (now (mem .exit)) (now (tags .exit))) (r .retired) (r .trapped) ≡ iterate n start (now (revoked .entry)) (ran (state (now (regs .entry)) (now (mem .entry)) (now (tags .entry))) 0 0) ⌝ }
+    ensures { λ r. ⌜ ran (state (now (regs .exit)) (now (mem .exit)) (now (tags .exit))) (r .retired) (r .trapped) ≡ iterate n board (now (revoked .entry)) (ran (state (now (regs .entry)) (now (mem .entry)) (now (tags .entry))) 0 0) ⌝ }
 {
     let mut retired: u32 = 0;
     let mut trapped: u32 = 0;
     let mut k: u32 = 0;
     while k < n {
-        let one = one_if(execution::take_step(regs, start, mem, tags, revoked));
+        let one = choices::one_if(execution::take_step(regs, board, mem, tags, revoked));
         retired += one;
         trapped += 1 - one;
         k += 1;
@@ -175,22 +197,19 @@ fn take_steps(
 // n steps, and how many of them retired and trapped. A refusal changes nothing.
 pub fn run(
     regs: &mut [u32],
-    start: u32,
+    board: Board,
     mem: &mut [u8],
     tags: &mut [u8],
     revoked: &[u8],
     n: u32,
 ) -> RunAnswer
-    ensures { λ r. ⌜ RunPromise n start (now (revoked .entry)) (state (now (regs .entry)) (now (mem .entry)) (now (tags .entry))) (state (now (regs .exit)) (now (mem .exit)) (now (tags .exit))) r ⌝ }
+    ensures { λ r. ⌜ RunPromise n board (now (revoked .entry)) (state (now (regs .entry)) (now (mem .entry)) (now (tags .entry))) (state (now (regs .exit)) (now (mem .exit)) (now (tags .exit))) r ⌝ }
 {
-    let no = refusal(regs, start, mem, tags, revoked);
+    let no = refusal(n, regs, board, mem, tags, revoked);
     if no != 0 {
         return RunAnswer::Refused(no);
     }
-    if 1000000 < n {
-        return RunAnswer::Refused(5);
-    }
-    let counts = take_steps(regs, start, mem, tags, revoked, n);
+    let counts = take_steps(regs, board, mem, tags, revoked, n);
     RunAnswer::Ran {
         retired: counts.retired,
         trapped: counts.trapped,

@@ -1,7 +1,9 @@
 // Where the special registers and the control words stand in the register file.
 use crate::CONTROL_START;
 use crate::MEPCC_INDEX;
+use crate::MSCRATCHC_INDEX;
 use crate::MTCC_INDEX;
+use crate::MTDC_INDEX;
 use instructions::Csr;
 use instructions::Scr;
 ghost use mathlib.Core.Path.{_≡_};
@@ -14,8 +16,8 @@ pub fn scr_index(scr: Scr) -> u32
 {
     match scr {
         Scr::Mtcc => MTCC_INDEX,
-        Scr::Mtdc => MTCC_INDEX + 1,
-        Scr::Mscratchc => MTCC_INDEX + 2,
+        Scr::Mtdc => MTDC_INDEX,
+        Scr::Mscratchc => MSCRATCHC_INDEX,
         Scr::Mepcc => MEPCC_INDEX,
     }
 }

@@ -40,22 +40,28 @@ pub use status::with_mie;
 pub use status::written_status;
 
 // The words of a capability in the register file, how many capabilities and control words it holds, and so how many words it has.
-pub const CAPABILITY_WORDS: u32 = 3;
+pub const CAPABILITY_WORDS: usize = 3;
 
 pub const GENERAL_COUNT: u32 = 16;
 
-pub const CAPABILITY_COUNT: u32 = 21;
+pub const CAPABILITY_COUNT: usize = 21;
 
-pub const CONTROL_START: usize = 63;
+pub const CONTROL_COUNT: usize = 3;
 
-pub const REGISTER_WORDS: usize = 66;
+pub const CONTROL_START: usize = CAPABILITY_COUNT * CAPABILITY_WORDS;
 
-// The places of PCC, MTCC and MEPCC among the capabilities.
-pub const PCC_INDEX: u32 = 16;
+pub const REGISTER_WORDS: usize = CONTROL_START + CONTROL_COUNT;
 
-pub const MTCC_INDEX: u32 = 17;
+// The places of PCC and the special registers among the capabilities.
+pub const PCC_INDEX: u32 = GENERAL_COUNT;
 
-pub const MEPCC_INDEX: u32 = 20;
+pub const MTCC_INDEX: u32 = GENERAL_COUNT + 1;
+
+pub const MTDC_INDEX: u32 = GENERAL_COUNT + 2;
+
+pub const MSCRATCHC_INDEX: u32 = GENERAL_COUNT + 3;
+
+pub const MEPCC_INDEX: u32 = GENERAL_COUNT + 4;
 
 // The bytes of an instruction, those that a jump's target must have in bounds, and what its address is a multiple of.
 pub const INSTRUCTION_BYTES: u32 = 4;

@@ -1,4 +1,5 @@
 // The register file, read and written. Outside the lent words a read gives 0 and a write changes nothing.
+use crate::CAPABILITY_WORDS;
 use crate::GENERAL_COUNT;
 use crate::PCC_INDEX;
 use crate::layout::csr_index;
@@ -13,8 +14,8 @@ ghost use Rattle.state.specs.Registers.{capabilityAt, setCapability, reg
 pub fn capability_at(regs: &[u32], i: u32) -> Capability
     ensures { λ r. ⌜ r ≡ capabilityAt (now (regs .entry)) i ⌝ }
 {
-    let at = i as usize * 3;
-    if at + 3 <= regs.len() {
+    let at = i as usize * CAPABILITY_WORDS;
+    if at + CAPABILITY_WORDS <= regs.len() {
         Capability {
             address: regs[at],
             metadata: regs[at + 1],
@@ -33,8 +34,8 @@ pub fn capability_at(regs: &[u32], i: u32) -> Capability
 pub fn set_capability(regs: &mut [u32], i: u32, c: Capability)
     ensures { λ _. ⌜ now (regs .exit) ≡ setCapability (now (regs .entry)) i c ⌝ }
 {
-    let at = i as usize * 3;
-    if at + 3 <= regs.len() {
+    let at = i as usize * CAPABILITY_WORDS;
+    if at + CAPABILITY_WORDS <= regs.len() {
         regs[at] = c.address;
         regs[at + 1] = c.metadata;
         regs[at + 2] = c.tag;
@@ -65,7 +66,7 @@ pub fn write_register(regs: &mut [u32], rd: u32, c: Capability)
 pub fn integer_at(regs: &[u32], r: u32) -> u32
     ensures { λ x. ⌜ x ≡ integerAt (now (regs .entry)) r ⌝ }
 {
-    words::word_at(regs, (r % GENERAL_COUNT * 3) as usize)
+    words::word_at(regs, (r % GENERAL_COUNT) as usize * CAPABILITY_WORDS)
 }
 
 pub fn pcc_of(regs: &[u32]) -> Capability

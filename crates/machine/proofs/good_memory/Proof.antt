@@ -25,4 +25,4 @@ unfolding goodMemory
 returns-5 c = search tests
 
 pub good-memory-spec : {M : Type 1} → statement M
-good-memory-spec = tie.close (tie.spec returns returns-2 returns-3 returns-4 (λ c. search needs) returns-5)
+good-memory-spec = tie.close (tie.spec returns returns-2 returns-3 returns-4 (λ c. search needs) (λ c. search needs) returns-5)

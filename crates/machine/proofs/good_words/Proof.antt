@@ -1,11 +1,14 @@
+use Rattle.machine.specs.Refusals.{goodWords}
 use borrow.Author.Needs.{needs}
 use Rattle.machine.proofs.good_words.Statement.{statement}
 use Rattle.machine.proofs.good_words.Tie as tie
 
 returns : tie.Need-returns
+unfolding goodWords
 returns c = simp (← (c .before .before .good-tags .ensures), c .before .if1 .taken) (c .good-zero .ensures)
 
 returns-2 : tie.Need-returns-2
+unfolding goodWords
 returns-2 c = simp (← (c .before .good-tags .ensures), c .if1 .left)
 
 pub good-words-spec : {M : Type 1} → statement M

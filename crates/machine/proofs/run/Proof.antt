@@ -1,3 +1,4 @@
+-- Refused; or not refused, and the loop's steps are the definition's.
 use mathlib.Core.Path.{sym, _∙_}
 use Rattle.machine.proofs.Laws as laws
 use borrow.Author.Needs.{needs}
@@ -8,10 +9,10 @@ returns : tie.Need-returns
 returns c = laws.run-refused _ _ _ _ _ (c .before .refusal .ensures) (c .if1 .taken)
 
 returns-2 : tie.Need-returns-2
-returns-2 c = laws.run-too-long _ _ _ _ (sym (c .before .if1 .left) ∙ c .before .before .refusal .ensures) (c .if2 .taken)
-
-returns-3 : tie.Need-returns-3
-returns-3 c = laws.run-done _ _ _ _ _ _ _ (sym (c .before .before .before .before .before .before .before .before .before .before .before .if1 .left) ∙ c .before .before .before .before .before .before .before .before .before .before .before .before .refusal .ensures) (c .before .before .before .before .before .before .before .before .before .before .if2 .left) (c .before .before .before .before .before .before .take-steps .ensures)
+returns-2 c =
+    let stepped = c .before .before .before .before .before .before in
+    let judged = stepped .before .before .before .before in
+    laws.run-done _ _ _ _ _ _ _ (sym (judged .if1 .left) ∙ judged .before .refusal .ensures) (stepped .take-steps .ensures)
 
 pub run-spec : {M : Type 1} → statement M
 run-spec =
@@ -22,12 +23,8 @@ run-spec =
     (λ c. search needs)
     (λ c. search needs)
     returns
-    (λ c. search needs)
-    (λ c. search needs)
-    (λ c. search needs)
-    returns-2
     (λ c κs. search needs)
     (λ c. search needs)
     (λ c. search needs)
     (λ c. search needs)
-    returns-3)
+    returns-2)

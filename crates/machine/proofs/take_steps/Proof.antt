@@ -1,3 +1,4 @@
+-- The loop keeps: what the steps that are left make of the buffers and counts is what all n make of the start.
 use borrow.Author.Needs.{needs}
 use Prim.Native.Nat.{_-_, _≤_}
 use mathlib.Core.Path.{_≡_, ap, _∙_}
@@ -11,16 +12,18 @@ use Rattle.machine.proofs.take_steps.Statement.{statement}
 use Rattle.machine.proofs.take_steps.Tie as tie
 
 abbrev Inv-loop : tie.InvT-loop
-Inv-loop regs₀ start mem₀ tags₀ revoked n retired₀ trapped₀ k₀ regs mem tags retired trapped k =
+Inv-loop regs₀ board mem₀ tags₀ revoked n retired₀ trapped₀ k₀ regs mem tags retired trapped k =
     (k ≤ n) × (retired ≤ k) × (trapped ≤ k) × (length regs ≡ length regs₀) × (length mem ≡ length mem₀) × (length tags ≡ length tags₀)
-    × (iterate (n - k) start revoked (ran (state regs mem tags) retired trapped) ≡ iterate n start revoked (ran (state regs₀ mem₀ tags₀) 0 0))
+    × (iterate (n - k) board revoked (ran (state regs mem tags) retired trapped) ≡ iterate n board revoked (ran (state regs₀ mem₀ tags₀) 0 0))
 
 abbrev μ-loop : tie.MeasureT-loop
-μ-loop regs₀ start mem₀ tags₀ revoked n retired₀ trapped₀ k₀ regs mem tags retired trapped k = n - k
+μ-loop regs₀ board mem₀ tags₀ revoked n retired₀ trapped₀ k₀ regs mem tags retired trapped k = n - k
 
 loop-holds : tie.Need-loop-holds Inv-loop μ-loop
 unfolding iterate
-loop-holds c = (omega arith, omega arith, omega arith, omega arith, omega arith, omega arith, let e : c .before .before .before .before .args .n - 0 ≡ c .before .before .before .before .args .n = omega arith in rw e)
+loop-holds c =
+    let n = c .before .before .before .before .args .n in
+    (omega arith, omega arith, omega arith, omega arith, omega arith, omega arith, let e : n - 0 ≡ n = omega arith in rw e)
 
 take-step-requires : tie.Need-take-step-requires Inv-loop μ-loop
 take-step-requires c κs = search needs
@@ -44,7 +47,13 @@ loop-less : tie.Need-loop-less Inv-loop μ-loop
 loop-less c = omega arith
 
 loop-again : tie.Need-loop-again Inv-loop μ-loop
-loop-again c = (omega arith, omega arith, omega arith, omega arith, omega arith, omega arith, laws.run-turn _ _ _ _ _ _ _ _ _ (c .before .before .before .before .before .before .before .before .before .before .before .loop-test .taken) (c .before .before .before .before .before .before .before .take-step .ensures .1) (c .one-if .ensures .0 ∙ ap (λ b. cond b 1 0) (c .before .before .before .before .before .before .before .take-step .ensures .0)) (c .one-if .ensures .1 ∙ ap (λ b. cond b 0 1) (c .before .before .before .before .before .before .before .take-step .ensures .0)) ∙ c .before .before .before .before .before .before .before .before .before .before .before .before .loop .inv .6)
+loop-again c =
+    let stepped = c .before .before .before .before .before .before .before in
+    let at-test = stepped .before .before .before .before in
+    let taken = stepped .take-step .ensures in
+    let one = c .one-if .ensures in
+    let turn = laws.run-turn _ _ _ _ _ _ _ _ _ (at-test .loop-test .taken) (taken .1) (one .0 ∙ ap (λ b. cond b 1 0) (taken .0)) (one .1 ∙ ap (λ b. cond b 0 1) (taken .0)) in
+    (omega arith, omega arith, omega arith, omega arith, omega arith, omega arith, turn ∙ at-test .before .loop .inv .6)
 
 same-length : tie.Need-same-length Inv-loop μ-loop
 same-length c = search needs
@@ -57,7 +66,10 @@ same-length-3 c = search needs
 
 returns : tie.Need-returns Inv-loop μ-loop
 unfolding iterate
-returns c = let e : c .before .before .before .before .before .before .args .n - c .before .loop .k ≡ 0 = omega arith in rw e at (c .before .loop .inv .6)
+returns c =
+    let n = c .before .before .before .before .before .before .args .n in
+    let e : n - c .before .loop .k ≡ 0 = omega arith in
+    rw e at (c .before .loop .inv .6)
 
 pub take-steps-spec : {M : Type 1} → statement M
 take-steps-spec =
