@@ -3,30 +3,34 @@ use mathlib.Core.List.{List}
 use mathlib.Core.Path.{_≡_}
 use Prim.Native.Nat.{ℕ, _+_, _*_, _^_}
 use Rattle.state.specs.Lent.{State}
-use Rattle.machine.specs.Run.{stepAnswer, stepAfter, stepNumber, stepRetired, stepTrapped, runAnswer, runAfter, runNumber, runRetired, runTrapped}
+use Rattle.machine.specs.Refusals.{refusalOf}
+use Rattle.machine.specs.Run.{stepRefusal, stepAfter, retiredOf, trappedOf, runAfter, retiredBy, trappedBy}
+use Rattle.state.specs.declared.Board.{Board}
 
 -- number * 2^48 + trapped * 2^24 + retired
 abbrev pub packed : (number trapped retired : ℕ) → ℕ
 packed number trapped retired = number * 2 ^ 48 + trapped * 2 ^ 24 + retired
 
-abbrev pub packedStep : (start : ℕ) → (revoked : List ℕ) → State → ℕ
-packedStep start revoked s =
-    packed (stepNumber (stepAnswer start revoked s)) (stepTrapped (stepAnswer start revoked s)) (stepRetired (stepAnswer start revoked s))
+abbrev pub packedStep : Board → (revoked : List ℕ) → State → ℕ
+packedStep board revoked s = packed (stepRefusal board revoked s) (trappedOf board revoked s) (retiredOf board revoked s)
 
-abbrev pub packedRun : (n start : ℕ) → (revoked : List ℕ) → State → ℕ
-packedRun n start revoked s =
-    packed (runNumber (runAnswer n start revoked s)) (runTrapped (runAnswer n start revoked s)) (runRetired (runAnswer n start revoked s))
+abbrev pub packedRun : (n : ℕ) → Board → (revoked : List ℕ) → State → ℕ
+packedRun n board revoked s = packed (refusalOf n board revoked s) (trappedBy n board revoked s) (retiredBy n board revoked s)
 
 -- what oddersnow_step promises: its answer, and all that was lent as it leaves it
-pub record StepPacked (start : ℕ) (revoked : List ℕ) (before after : State) (answer : ℕ) : Type 0 where
-  pub answer-is : answer ≡ packedStep start revoked before
-  pub registers-are : after .regs ≡ stepAfter start revoked before .regs
-  pub memory-is : after .mem ≡ stepAfter start revoked before .mem
-  pub tags-are : after .tags ≡ stepAfter start revoked before .tags
+pub record StepPacked (board : Board) (revoked : List ℕ) (before after : State) (answer : ℕ) : Type 0 where
+  pub answer-is : answer ≡ packedStep board revoked before
+  pub registers-are : after .regs ≡ stepAfter board revoked before .regs
+  pub memory-is : after .mem ≡ stepAfter board revoked before .mem
+  pub tags-are : after .tags ≡ stepAfter board revoked before .tags
 
 -- and oddersnow_run
-pub record RunPacked (n start : ℕ) (revoked : List ℕ) (before after : State) (answer : ℕ) : Type 0 where
-  pub answer-is : answer ≡ packedRun n start revoked before
-  pub registers-are : after .regs ≡ runAfter n start revoked before .regs
-  pub memory-is : after .mem ≡ runAfter n start revoked before .mem
-  pub tags-are : after .tags ≡ runAfter n start revoked before .tags
+pub record RunPacked (n : ℕ) (board : Board) (revoked : List ℕ) (before after : State) (answer : ℕ) : Type 0 where
+  pub answer-is : answer ≡ packedRun n board revoked before
+  pub registers-are : after .regs ≡ runAfter n board revoked before .regs
+  pub memory-is : after .mem ≡ runAfter n board revoked before .mem
+  pub tags-are : after .tags ≡ runAfter n board revoked before .tags
+
+-- the board of plain numbers
+abbrev pub boardOf : (start : ℕ) → Board
+boardOf start = record { start = start }

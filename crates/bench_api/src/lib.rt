@@ -3,16 +3,22 @@ ghost use mathlib.Core.Path.{_≡_};
 ghost use Prim.Native.Nat.{_<_, _≤_, _^_};
 ghost use Rattle.state.specs.Lent.{state};
 ghost use Rattle.machine.specs.Run.{stepNumber, stepRetired, stepTrapped, runNumber, runRetired, runTrapped};
-ghost use Rattle.bench_api.specs.Packing.{packed, StepPacked, RunPacked};
+ghost use Rattle.bench_api.specs.Packing.{packed, boardOf, StepPacked, RunPacked};
 use machine::RunAnswer;
 use machine::StepAnswer;
+use state::Board;
+
+// The places of a number, 2^48, and of the trapped steps, 2^24, in an answer.
+pub const NUMBER_PLACE: u64 = 0x1_0000_0000_0000;
+
+pub const TRAPPED_PLACE: u64 = 0x100_0000;
 
 // number * 2^48 + trapped * 2^24 + retired.
 fn pack(number: u32, trapped: u32, retired: u32) -> u64
     requires { ⌜ (number < 2 ^ 15) × (trapped < 2 ^ 24) × (retired < 2 ^ 24) ⌝ }
     ensures { λ r. ⌜ r ≡ packed number trapped retired ⌝ }
 {
-    number as u64 * 0x1_0000_0000_0000 + trapped as u64 * 0x100_0000 + retired as u64
+    number as u64 * NUMBER_PLACE + trapped as u64 * TRAPPED_PLACE + retired as u64
 }
 
 fn step_number(a: StepAnswer) -> u32
@@ -90,9 +96,10 @@ pub extern "C" fn oddersnow_step(
     tags: &mut [u8],
     revoked: &[u8],
 ) -> u64
-    ensures { λ r. ⌜ StepPacked start (now (revoked .entry)) (state (now (regs .entry)) (now (mem .entry)) (now (tags .entry))) (state (now (regs .exit)) (now (mem .exit)) (now (tags .exit))) r ⌝ }
+    ensures { λ r. ⌜ StepPacked (boardOf start) (now (revoked .entry)) (state (now (regs .entry)) (now (mem .entry)) (now (tags .entry))) (state (now (regs .exit)) (now (mem .exit)) (now (tags .exit))) r ⌝ }
 {
-    let a = machine::step(regs, start, mem, tags, revoked);
+    let board = Board { start };
+    let a = machine::step(regs, board, mem, tags, revoked);
     pack(step_number(a), step_trapped(a), step_retired(a))
 }
 
@@ -106,8 +113,9 @@ pub extern "C" fn oddersnow_run(
     revoked: &[u8],
     steps: u32,
 ) -> u64
-    ensures { λ r. ⌜ RunPacked steps start (now (revoked .entry)) (state (now (regs .entry)) (now (mem .entry)) (now (tags .entry))) (state (now (regs .exit)) (now (mem .exit)) (now (tags .exit))) r ⌝ }
+    ensures { λ r. ⌜ RunPacked steps (boardOf start) (now (revoked .entry)) (state (now (regs .entry)) (now (mem .entry)) (now (tags .entry))) (state (now (regs .exit)) (now (mem .exit)) (now (tags .exit))) r ⌝ }
 {
-    let a = machine::run(regs, start, mem, tags, revoked, steps);
+    let board = Board { start };
+    let a = machine::run(regs, board, mem, tags, revoked, steps);
     pack(run_number(a), run_trapped(a), run_retired(a))
 }

@@ -1,15 +1,30 @@
+-- The answer is packed from the number and counts that the machine promises.
 use Rattle.machine.proofs.Laws as laws
 use borrow.Author.Needs.{needs}
 use Rattle.bench_api.proofs.oddersnow_run.Statement.{statement}
 use Rattle.bench_api.proofs.oddersnow_run.Tie as tie
 
 pack-requires : tie.Need-pack-requires
-pack-requires c κs = rw (c .before .before .run-number .ensures, c .before .run-trapped .ensures, c .run-retired .ensures) (laws.run-small _ _ _ _ _ (c .before .before .before .before .before .before .before .before .before .run .ensures .answer-is))
+pack-requires c κs =
+    let numbered = c .before .before in
+    let called = numbered .before .before .before .before .before .before .before in
+    rw (numbered .run-number .ensures, c .before .run-trapped .ensures, c .run-retired .ensures)
+    (laws.run-small _ _ _ _ _ _ (called .run .ensures))
 
 returns : tie.Need-returns
-returns c = let p = c .before .before .before .before .before .before .before .before .before .before .run .ensures in
+returns c =
+    let numbered = c .before .before .before in
+    let p = numbered .before .before .before .before .before .before .before .run .ensures in
     record {
-      answer-is = simp (c .pack .ensures, c .before .before .before .run-number .ensures, c .before .before .run-trapped .ensures, c .before .run-retired .ensures, p .answer-is);
+      answer-is = simp (
+        c .pack .ensures,
+        numbered .run-number .ensures,
+        c .before .before .run-trapped .ensures,
+        c .before .run-retired .ensures,
+        p .number-is,
+        p .trapped-is,
+        p .retired-is,
+      );
       registers-are = p .registers-are;
       memory-is = p .memory-is;
       tags-are = p .tags-are;
