@@ -17,8 +17,10 @@ use Rattle.instructions.specs.Decode.{decodeOf}
 use Rattle.instructions.specs.declared.Instruction.{Instruction}
 use Rattle.instructions.specs.declared.Instruction.the-variants as Instruction
 use Rattle.instructions.proofs.Range.{decoded-in-range}
-use Rattle.state.specs.Layout.{capabilityCount, scrIndex}
-use Rattle.state.specs.Addresses.{legalized}
+use Rattle.state.specs.Layout.{capabilityWords, generalCount, capabilityCount, controlStart, pccIndex, mtccIndex, mepccIndex, csrIndex, scrIndex}
+use Rattle.instructions.specs.declared.Csr.the-variants.{Mstatus, Mcause, Mtval}
+use Rattle.state.specs.declared.Board.{Board}
+use Rattle.state.specs.Addresses.{instructionBytes, legalized}
 use Rattle.state.specs.Lent.{Lent, State}
 use Rattle.state.specs.Effects.{GoodTags}
 use Rattle.state.specs.Fits.{FitsRegisters, FitsEffect}
@@ -34,10 +36,11 @@ use Rattle.jump_instructions.proofs.Fits.{jump-fits}
 use Rattle.capability_instructions.proofs.Fits.{capability-fits}
 use Rattle.system_instructions.proofs.Fits.{system-fits}
 use Rattle.execution.specs.Step.{effectOf, fetchedAt, nextEffect, seen, effectAt, stepOf}
-use Rattle.machine.specs.Refusals.{refusalOf, runRefusal}
-use Rattle.machine.specs.Run.{stepAfter, Ran, ran, oneMore, iterate, ranFrom, runAfter}
+use Rattle.machine.specs.Refusals.{refusalOf}
+use Rattle.machine.specs.Run.{stepRefusal, stepAfter, Ran, ran, oneMore, iterate, ranFrom, runAfter}
 use Rattle.machine_laws.specs.Fits.{InType}
-use Rattle.machine_laws.proofs.Registers.{Holds, Rule, Keeps, each-applied}
+use Rattle.commit.specs.Commit.{applyEffect}
+use Rattle.commit.proofs.Registers.{Holds, Rule, Keeps, each-applied}
 use Rattle.machine_laws.proofs.Refusals.{good-of, refused-alike, refused-run}
 use Rattle.machine_laws.proofs.Kept.{Tag, csr-place, tags-stay}
 use Rattle.machine_laws.proofs.Bytes.{bytes-stay}
@@ -45,27 +48,27 @@ use Rattle.machine_laws.proofs.Bytes.{bytes-stay}
 -- ---- the next effect
 
 module _ (regs : List ℕ) (m : Lent) (h : FitsRegisters regs) (b : Bytes (m .mem)) where
-  effect-fits : (i : Instruction) (word : ℕ) → InRange i → Word word → FitsEffect (effectOf i word regs m)
+  effect-fits : (n : ℕ) (i : Instruction) (word : ℕ) → InRange i → Word word → FitsEffect (effectOf n i word regs m)
   unfolding effectOf
-  effect-fits (Instruction.Integer i) word r w = integer-fits i regs r h
-  effect-fits (Instruction.Jump i) word r w = jump-fits regs h i
-  effect-fits (Instruction.Memory i) word r w = memory-fits i regs m h b
-  effect-fits (Instruction.Capability i) word r w = capability-fits i regs h
-  effect-fits (Instruction.System i) word r w = system-fits regs h i r
-  effect-fits Instruction.Illegal word r w = (omega arith, w)
+  effect-fits n (Instruction.Integer i) word r w = integer-fits i regs r h
+  effect-fits n (Instruction.Jump i) word r w = jump-fits n regs h i
+  effect-fits n (Instruction.Memory i) word r w = memory-fits i regs m h b
+  effect-fits n (Instruction.Capability i) word r w = capability-fits i regs h
+  effect-fits n (Instruction.System i) word r w = system-fits regs h i r
+  effect-fits n Instruction.Illegal word r w = (tt, (omega arith, w))
 
   fetched-fits : (p : Place) → FitsEffect (fetchedAt p regs m)
   unfolding fetchedAt
-  fetched-fits Misaligned = (omega arith, pcc-fits regs h .address-fits)
-  fetched-fits Outside = (omega arith, pcc-fits regs h .address-fits)
+  fetched-fits Misaligned = (tt, (omega arith, pcc-fits regs h .address-fits))
+  fetched-fits Outside = (tt, (omega arith, pcc-fits regs h .address-fits))
   fetched-fits (At i) =
-      let w = leBytes 4 (m .mem) i in
-      effect-fits (decodeOf w) w (decoded-in-range w) (leBytes-lt 4 (m .mem) i b)
+      let w = leBytes instructionBytes (m .mem) i in
+      effect-fits instructionBytes (decodeOf w) w (decoded-in-range w) (leBytes-lt instructionBytes (m .mem) i b)
 
 -- every capability that a step writes is good, and every word is a word
-pub next-fits : (start : ℕ) (revoked : List ℕ) (s : State) → FitsRegisters (s .regs) → Bytes (s .mem) → FitsEffect (effectAt start revoked s)
+pub next-fits : (board : Board) (revoked : List ℕ) (s : State) → FitsRegisters (s .regs) → Bytes (s .mem) → FitsEffect (effectAt board revoked s)
 unfolding nextEffect
-next-fits start revoked s h b = checked-fits _ _ _ (fetched-fits (s .regs) (seen start revoked s) h b _)
+next-fits board revoked s h b = checked-fits _ _ _ (fetched-fits (s .regs) (seen board revoked s) h b _)
 
 -- ---- the register file
 
@@ -86,75 +89,77 @@ good-at i c b h =
     record { address-fits = h .address-holds .0; metadata-fits = h .metadata-holds .0; tag-fits = omega (arith, h .tag-holds .1 i b refl) }
 
 -- a word above the capabilities
-fit-above : (i v : ℕ) → capabilityCount * 3 ≤ i → Word v → Fit i v
+fit-above : (i v : ℕ) → controlStart ≤ i → Word v → Fit i v
 fit-above i v l w = (w, λ k b e. absurd (omega arith))
 
 fit-rule : Rule Fit
 fit-rule =
     record {
-      moved = λ c a b h. fit 16 (moveOf c a) (move-good c a (good-at 16 c (omega arith) h) b);
-      saved = λ c h. fit 20 (legalized c) (legalized-fits c (good-at 16 c (omega arith) h));
-      entered = λ c h. fit 16 (legalized c) (legalized-fits c (good-at 17 c (omega arith) h));
-      status = λ m h. fit-above 63 _ (omega arith) (trap-status-fits m (h .0));
+      moved = λ c a b h. fit pccIndex (moveOf c a) (move-good c a (good-at pccIndex c (omega arith) h) b);
+      saved = λ c h. fit mepccIndex (legalized c) (legalized-fits c (good-at pccIndex c (omega arith) h));
+      entered = λ c h. fit pccIndex (legalized c) (legalized-fits c (good-at mtccIndex c (omega arith) h));
+      status = λ m h. fit-above (csrIndex Mstatus) _ (omega arith) (trap-status-fits m (h .0));
     }
 
 fit-kept : (e : Effect) → FitsEffect e → Keeps Fit e
 fit-kept Advance h = tt
-fit-kept (Write rd value) h = λ b. fit (rd % 16) value h
+fit-kept (Write rd value) h = λ b. fit (rd % generalCount) value (h .0)
 fit-kept (Store kind i value) h = tt
 fit-kept (StoreCapability i value) h = tt
-fit-kept (Jump rd link target mstatus) h = (λ b. fit (rd % 16) link (h .0), fit 16 target (h .1), fit-above 63 mstatus (omega arith) (h .2))
-fit-kept (WriteScr rd old scr value) h = (λ b. fit (rd % 16) old (h .0), fit (scrIndex scr) value (h .1))
+fit-kept (Jump rd link target mstatus) h =
+    (λ b. fit (rd % generalCount) link (h .0 .0), fit pccIndex target (h .0 .1), fit-above (csrIndex Mstatus) mstatus (omega arith) (h .1))
+fit-kept (WriteScr rd old scr value) h = (λ b. fit (rd % generalCount) old (h .0 .0), fit (scrIndex scr) value (h .0 .1))
 fit-kept (WriteCsr rd old csr value) h =
-    (λ b. fit (rd % 16) (integer old) (integer-good old (h .0)), fit-above _ value (omega (arith, csr-place csr)) (h .1))
-fit-kept (Trap cause value) h = (fit-above 64 cause (omega arith) (h .0), fit-above 65 value (omega arith) (h .1))
+    (λ b. fit (rd % generalCount) (integer old) (integer-good old (h .1 .0)), fit-above _ value (omega (arith, csr-place csr)) (h .1 .1))
+fit-kept (Trap cause value) h =
+    (fit-above (csrIndex Mcause) cause (omega arith) (h .1 .0), fit-above (csrIndex Mtval) value (omega arith) (h .1 .1))
 
 -- a register file of words and good tags is one after a step
-pub words-stay : (start : ℕ) (revoked : List ℕ) (s : State) → FitsRegisters (s .regs) → Bytes (s .mem) → FitsRegisters (stepOf start revoked s .regs)
-unfolding stepOf
-words-stay start revoked s h b =
-    let e = each-applied Fit fit-rule (effectAt start revoked s) s (fit-kept (effectAt start revoked s) (next-fits start revoked s h b))
+pub words-stay : (board : Board) (revoked : List ℕ) (s : State) → FitsRegisters (s .regs) → Bytes (s .mem) → FitsRegisters (stepOf board revoked s .regs)
+unfolding stepOf applyEffect
+words-stay board revoked s h b =
+    let e = each-applied Fit fit-rule instructionBytes (effectAt board revoked s) (s .regs) (fit-kept (effectAt board revoked s) (next-fits board revoked s h b))
     (record { word = λ i. (h .words i, λ k l q. rw q (h .tags k l)) }) in
-    record { words = λ i. e .word i .0; tags = λ k l. e .word (k * 3 + 2) .1 k l refl }
+    record { words = λ i. e .word i .0; tags = λ k l. e .word (k * capabilityWords + 2) .1 k l refl }
 
 -- ---- all that is lent
 
-module _ (start : ℕ) (revoked : List ℕ) where
-  pub in-type-stays : (s : State) → GoodTags (s .regs) → InType s → InType (stepOf start revoked s)
+module _ (board : Board) (revoked : List ℕ) where
+  pub in-type-stays : (s : State) → GoodTags (s .regs) → InType s → InType (stepOf board revoked s)
   in-type-stays s g t =
-      let b = bytes-stay start revoked s (t .memory-in) (t .tags-in) in
+      let b = bytes-stay board revoked s (t .memory-in) (t .tags-in) in
       record {
-        registers-in = words-stay start revoked s (record { words = t .registers-in; tags = g }) (t .memory-in) .words;
+        registers-in = words-stay board revoked s (record { words = t .registers-in; tags = g }) (t .memory-in) .words;
         memory-in = b .0;
         tags-in = b .1;
       }
 
   -- after any number of steps
-  pub iterate-in-type : (n : ℕ) (r : Ran) → GoodTags (r .at .regs) → InType (r .at) → InType (iterate n start revoked r .at)
+  pub iterate-in-type : (n : ℕ) (r : Ran) → GoodTags (r .at .regs) → InType (r .at) → InType (iterate n board revoked r .at)
   unfolding iterate oneMore
   iterate-in-type zero r g t = t
   iterate-in-type (suc n) r g t =
-      iterate-in-type n (oneMore start revoked r) (tags-stay start revoked (r .at) g) (in-type-stays (r .at) g t)
+      iterate-in-type n (oneMore board revoked r) (tags-stay board revoked (r .at) g) (in-type-stays (r .at) g t)
 
   module _ (s : State) (t : InType s) where
-    good-tags : eqb (refusalOf start revoked s) 0 ≡ true → GoodTags (s .regs)
-    good-tags e = good-of start revoked s (eqb-true (refusalOf start revoked s) 0 e) .words .tag-words
+    good-tags : eqb (stepRefusal board revoked s) 0 ≡ true → GoodTags (s .regs)
+    good-tags e = good-of board revoked s (eqb-true (stepRefusal board revoked s) 0 e) .words .tag-words
 
     -- the public step and run ask nothing more: a tag that is not 0 or 1 is refused, and a refused call changes nothing
-    pub step-in-type : InType (stepAfter start revoked s)
+    pub step-in-type : InType (stepAfter board revoked s)
     unfolding stepAfter
-    step-in-type = go (eqb (refusalOf start revoked s) 0) refl
+    step-in-type = go (eqb (stepRefusal board revoked s) 0) refl
       where
-        go : (b : Bool) → eqb (refusalOf start revoked s) 0 ≡ b → InType (cond b (stepOf start revoked s) s)
+        go : (b : Bool) → eqb (stepRefusal board revoked s) 0 ≡ b → InType (cond b (stepOf board revoked s) s)
         go true e = in-type-stays s (good-tags e) t
         go false e = t
 
-    good-run : (n : ℕ) → GoodTags (s .regs) → InType (runAfter n start revoked s)
+    good-run : (n : ℕ) → GoodTags (s .regs) → InType (runAfter n board revoked s)
     unfolding runAfter
-    good-run n g = cond-holds InType (eqb (runRefusal n start revoked s) 0) (ranFrom n start revoked s .at) s (iterate-in-type n (ran s 0 0) g t) t
+    good-run n g = cond-holds InType (eqb (refusalOf n board revoked s) 0) (ranFrom n board revoked s .at) s (iterate-in-type n (ran s 0 0) g t) t
 
-    pub run-in-type : (n : ℕ) → InType (runAfter n start revoked s)
+    pub run-in-type : (n : ℕ) → InType (runAfter n board revoked s)
     run-in-type n =
-        by-test (eqb (refusalOf start revoked s) 0) (λ e. good-run n (good-tags e))
-        (λ e. let r = eqb-false (refusalOf start revoked s) 0 e in
-        rw (refused-run start revoked s n (rw (refused-alike start revoked s r n) r)) t)
+        by-test (eqb (stepRefusal board revoked s) 0) (λ e. good-run n (good-tags e))
+        (λ e. let r = eqb-false (stepRefusal board revoked s) 0 e in
+        rw (refused-run board revoked s n (rw (refused-alike board revoked s r n) r)) t)

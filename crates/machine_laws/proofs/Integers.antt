@@ -13,26 +13,27 @@ use Rattle.capability.specs.declared.Capability.{Capability}
 use Rattle.instructions.specs.Decode.{decodeOf}
 use Rattle.instructions.specs.declared.Csr.{Csr}
 use Rattle.instructions.specs.declared.Instruction.{Instruction}
-use Rattle.state.specs.Layout.{registerWords, csrIndex}
+use Rattle.state.specs.Layout.{capabilityWords, generalCount, registerWords, csrIndex}
 use Rattle.state.specs.Registers.{capabilityAt, registerAt, setCapability, writeRegister}
 use Rattle.state.specs.Lent.{Lent, State}
 use Rattle.state.specs.Memory.{placeOf, loadWidth}
 use Rattle.state.specs.declared.Effect.{Effect}
 use Rattle.state.specs.declared.Effect.the-variants as Effect
-use Rattle.state.proofs.Laws.{checked-holds}
+use Rattle.state.proofs.Laws.{checked-holds, placed}
+use Rattle.state.specs.Addresses.{instructionBytes}
+use Rattle.state.specs.declared.Board.{Board}
 use Rattle.integer_instructions.specs.Integer.{integerEffect}
 use Rattle.memory_instructions.specs.Access.{loadAt, loadEffect, addressOf, memoryEffect}
 use Rattle.capability_instructions.specs.Derivation.{combined, capabilityEffect}
 use Rattle.system_instructions.specs.System.{csrEffect, systemEffect}
 use Rattle.commit.specs.Commit.{advanced, withCsr, applyEffect, retires}
 use Rattle.execution.specs.Step.{effectOf, seen, effectAt, stepOf}
-use Rattle.machine.specs.Refusals.{refusalOf}
+use Rattle.machine.specs.Run.{stepRefusal}
 use Rattle.machine_laws.specs.Steps.{wordAt}
 use Rattle.machine_laws.specs.Integers.{WritesInteger, IsInteger, by-lui, by-op-imm, by-op, by-load, by-inspection, by-difference, by-subset, by-equality, by-csr, by-csr-immediate}
 use Rattle.machine_laws.proofs.Fetch.{fetched-holds}
 use Rattle.machine_laws.proofs.Refusals.{good-of}
 use Rattle.machine_laws.proofs.Kept.{csr-place}
-use Rattle.machine_laws.proofs.Stores.{placed}
 use Rattle.machine_laws.proofs.Traps.{advanced-same}
 
 -- the effect writes an integer to register rd, or it is a trap
@@ -49,79 +50,79 @@ ToInteger rd (Effect.Trap cause value) = Unit {0}
 plain : (x : ℕ) → IsInteger (integer x)
 plain x = record { no-metadata = refl; no-tag = refl }
 
-effect-integer : (i : Instruction) (rd word : ℕ) (regs : List ℕ) (m : Lent) → WritesInteger i rd → ToInteger rd (effectOf i word regs m)
+effect-integer : (n : ℕ) (i : Instruction) (rd word : ℕ) (regs : List ℕ) (m : Lent) → WritesInteger i rd → ToInteger rd (effectOf n i word regs m)
 unfolding effectOf integerEffect memoryEffect loadEffect loadAt capabilityEffect combined systemEffect csrEffect
-effect-integer i rd word regs m by-lui = (refl, plain _)
-effect-integer i rd word regs m by-op-imm = (refl, plain _)
-effect-integer i rd word regs m by-op = (refl, plain _)
-effect-integer i rd word regs m (by-load {kind} {rs1} {offset}) =
+effect-integer n i rd word regs m by-lui = (refl, plain _)
+effect-integer n i rd word regs m by-op-imm = (refl, plain _)
+effect-integer n i rd word regs m by-op = (refl, plain _)
+effect-integer n i rd word regs m (by-load {kind} {rs1} {offset}) =
     let a : ℕ = addressOf regs rs1 offset in
     checked-holds (ToInteger rd) _ _ _ (λ n v. tt)
-    (placed (ToInteger rd) (λ p. loadAt p kind rd a (m .mem)) tt tt (λ j. (refl, plain _)) (placeOf (m .start) (length (m .mem)) a (loadWidth kind)))
-effect-integer i rd word regs m by-inspection = (refl, plain _)
-effect-integer i rd word regs m by-difference = (refl, plain _)
-effect-integer i rd word regs m by-subset = (refl, plain _)
-effect-integer i rd word regs m by-equality = (refl, plain _)
-effect-integer i rd word regs m by-csr = checked-holds (ToInteger rd) _ _ _ (λ n v. tt) refl
-effect-integer i rd word regs m by-csr-immediate = checked-holds (ToInteger rd) _ _ _ (λ n v. tt) refl
+    (placed (ToInteger rd) (λ p. loadAt p kind rd a (m .mem)) tt tt (λ j. (refl, plain _)) (placeOf (m .board .start) (length (m .mem)) a (loadWidth kind)))
+effect-integer n i rd word regs m by-inspection = (refl, plain _)
+effect-integer n i rd word regs m by-difference = (refl, plain _)
+effect-integer n i rd word regs m by-subset = (refl, plain _)
+effect-integer n i rd word regs m by-equality = (refl, plain _)
+effect-integer n i rd word regs m by-csr = checked-holds (ToInteger rd) _ _ _ (λ n v. tt) refl
+effect-integer n i rd word regs m by-csr-immediate = checked-holds (ToInteger rd) _ _ _ (λ n v. tt) refl
 
 -- ---- what the register then holds
 
 -- words 1 and 2 of register r are 0
 abbrev Cleared : (r : ℕ) → List ℕ → Type 0
-Cleared r l = (getD l (r * 3 + 1) 0 ≡ 0) × (getD l (r * 3 + 2) 0 ≡ 0)
+Cleared r l = (getD l (r * capabilityWords + 1) 0 ≡ 0) × (getD l (r * capabilityWords + 2) 0 ≡ 0)
 
-set-cleared : (l : List ℕ) (r : ℕ) (c : Capability) → r * 3 + 2 < length l → IsInteger c → Cleared r (setCapability l r c)
+set-cleared : (l : List ℕ) (r : ℕ) (c : Capability) → r * capabilityWords + 2 < length l → IsInteger c → Cleared r (setCapability l r c)
 unfolding setCapability
 set-cleared l r c h k = (
-  getD-set-other (set (set l (r * 3) (c .address)) (r * 3 + 1) (c .metadata)) (r * 3 + 2) (r * 3 + 1) (c .tag) 0 (λ e. absurd (omega arith))
-      ∙ getD-set-same (set l (r * 3) (c .address)) (r * 3 + 1) (c .metadata) 0 (simp length-set (omega arith))
+  getD-set-other (set (set l (r * capabilityWords) (c .address)) (r * capabilityWords + 1) (c .metadata)) (r * capabilityWords + 2) (r * capabilityWords + 1) (c .tag) 0 (λ e. absurd (omega arith))
+      ∙ getD-set-same (set l (r * capabilityWords) (c .address)) (r * capabilityWords + 1) (c .metadata) 0 (simp length-set (omega arith))
       ∙ k .no-metadata,
-  getD-set-same (set (set l (r * 3) (c .address)) (r * 3 + 1) (c .metadata)) (r * 3 + 2) (c .tag) 0 (simp length-set (omega arith)) ∙ k .no-tag,
+  getD-set-same (set (set l (r * capabilityWords) (c .address)) (r * capabilityWords + 1) (c .metadata)) (r * capabilityWords + 2) (c .tag) 0 (simp length-set (omega arith)) ∙ k .no-tag,
 )
 
 -- c0 stays NULL, another register takes the integer
-write-cleared : (l : List ℕ) (rd : ℕ) (c : Capability) → length l ≡ registerWords → Cleared 0 l → IsInteger c → Cleared (rd % 16) (writeRegister l rd c)
+write-cleared : (l : List ℕ) (rd : ℕ) (c : Capability) → length l ≡ registerWords → Cleared 0 l → IsInteger c → Cleared (rd % generalCount) (writeRegister l rd c)
 unfolding writeRegister
-write-cleared l rd c h z k = go (eqb (rd % 16) 0) refl
+write-cleared l rd c h z k = go (eqb (rd % generalCount) 0) refl
   where
-    go : (t : Bool) → eqb (rd % 16) 0 ≡ t → Cleared (rd % 16) (cond t l (setCapability l (rd % 16) c))
-    go true e = rw (eqb-true (rd % 16) 0 e) z
-    go false e = set-cleared l (rd % 16) c (omega arith) k
+    go : (t : Bool) → eqb (rd % generalCount) 0 ≡ t → Cleared (rd % generalCount) (cond t l (setCapability l (rd % generalCount) c))
+    go true e = rw (eqb-true (rd % generalCount) 0 e) z
+    go false e = set-cleared l (rd % generalCount) c (omega arith) k
 
-advanced-cleared : (l : List ℕ) (r : ℕ) → r < 16 → Cleared r l → Cleared r (advanced l)
-advanced-cleared l r h k = (advanced-same l (r * 3 + 1) (omega arith) ∙ k .0, advanced-same l (r * 3 + 2) (omega arith) ∙ k .1)
+advanced-cleared : (n : ℕ) (l : List ℕ) (r : ℕ) → r < generalCount → Cleared r l → Cleared r (advanced n l)
+advanced-cleared n l r h k = (advanced-same n l (r * capabilityWords + 1) (omega arith) ∙ k .0, advanced-same n l (r * capabilityWords + 2) (omega arith) ∙ k .1)
 
-csr-cleared : (l : List ℕ) (csr : Csr) (r v : ℕ) → r < 16 → Cleared r l → Cleared r (set l (csrIndex csr) v)
+csr-cleared : (l : List ℕ) (csr : Csr) (r v : ℕ) → r < generalCount → Cleared r l → Cleared r (set l (csrIndex csr) v)
 csr-cleared l csr r v h k =
     let b = csr-place csr in (
-      getD-set-other l (csrIndex csr) (r * 3 + 1) v 0 (λ e. absurd (omega arith)) ∙ k .0,
-      getD-set-other l (csrIndex csr) (r * 3 + 2) v 0 (λ e. absurd (omega arith)) ∙ k .1,
+      getD-set-other l (csrIndex csr) (r * capabilityWords + 1) v 0 (λ e. absurd (omega arith)) ∙ k .0,
+      getD-set-other l (csrIndex csr) (r * capabilityWords + 2) v 0 (λ e. absurd (omega arith)) ∙ k .1,
     )
 
-applied : (rd : ℕ) (e : Effect) (s : State) → ToInteger rd e → retires e ≡ true → length (s .regs) ≡ registerWords → Cleared 0 (s .regs)
-    → Cleared (rd % 16) (applyEffect e s .regs)
+applied : (n rd : ℕ) (e : Effect) (s : State) → ToInteger rd e → retires e ≡ true → length (s .regs) ≡ registerWords → Cleared 0 (s .regs)
+    → Cleared (rd % generalCount) (applyEffect n e s .regs)
 unfolding retires applyEffect withCsr
-applied rd Effect.Advance s i h l z = absurd i
-applied rd (Effect.Write r value) s i h l z =
-    rw (sym (i .0)) (advanced-cleared (writeRegister (s .regs) r value) (r % 16) (omega arith) (write-cleared (s .regs) r value l z (i .1)))
-applied rd (Effect.Store kind j value) s i h l z = absurd i
-applied rd (Effect.StoreCapability j value) s i h l z = absurd i
-applied rd (Effect.Jump r link target mstatus) s i h l z = absurd i
-applied rd (Effect.WriteScr r old scr value) s i h l z = absurd i
-applied rd (Effect.WriteCsr r old csr value) s i h l z =
-    rw (sym i) (advanced-cleared (set (writeRegister (s .regs) r (integer old)) (csrIndex csr) value) (r % 16) (omega arith)
-    (csr-cleared (writeRegister (s .regs) r (integer old)) csr (r % 16) value (omega arith) (write-cleared (s .regs) r (integer old) l z (plain old))))
-applied rd (Effect.Trap cause value) s i h l z = absurd (true≢false (sym h))
+applied n rd Effect.Advance s i h l z = absurd i
+applied n rd (Effect.Write r value) s i h l z =
+    rw (sym (i .0)) (advanced-cleared n (writeRegister (s .regs) r value) (r % generalCount) (omega arith) (write-cleared (s .regs) r value l z (i .1)))
+applied n rd (Effect.Store kind j value) s i h l z = absurd i
+applied n rd (Effect.StoreCapability j value) s i h l z = absurd i
+applied n rd (Effect.Jump r link target mstatus) s i h l z = absurd i
+applied n rd (Effect.WriteScr r old scr value) s i h l z = absurd i
+applied n rd (Effect.WriteCsr r old csr value) s i h l z =
+    rw (sym i) (advanced-cleared n (set (writeRegister (s .regs) r (integer old)) (csrIndex csr) value) (r % generalCount) (omega arith)
+    (csr-cleared (writeRegister (s .regs) r (integer old)) csr (r % generalCount) value (omega arith) (write-cleared (s .regs) r (integer old) l z (plain old))))
+applied n rd (Effect.Trap cause value) s i h l z = absurd (true≢false (sym h))
 
 -- an integer result leaves no metadata and no tag
-pub integer-results : (start : ℕ) (revoked : List ℕ) (s : State) → refusalOf start revoked s ≡ 0
-    → (rd : ℕ) → WritesInteger (decodeOf (wordAt start s)) rd → retires (effectAt start revoked s) ≡ true
-    → IsInteger (registerAt (stepOf start revoked s .regs) rd)
+pub integer-results : (board : Board) (revoked : List ℕ) (s : State) → stepRefusal board revoked s ≡ 0
+    → (rd : ℕ) → WritesInteger (decodeOf (wordAt board s)) rd → retires (effectAt board revoked s) ≡ true
+    → IsInteger (registerAt (stepOf board revoked s .regs) rd)
 unfolding stepOf capabilityAt
-integer-results start revoked s good rd i h =
-    let g = good-of start revoked s good in
-    let e = fetched-holds (ToInteger rd) start revoked s (λ n v. tt)
-    (effect-integer (decodeOf (wordAt start s)) rd (wordAt start s) (s .regs) (seen start revoked s) i) in
-    let k = applied rd (effectAt start revoked s) s e h (g .registers) (g .words .c0-words 1 (omega arith), g .words .c0-words 2 (omega arith)) in
+integer-results board revoked s good rd i h =
+    let g = good-of board revoked s good in
+    let e = fetched-holds (ToInteger rd) board revoked s (λ n v. tt)
+    (effect-integer instructionBytes (decodeOf (wordAt board s)) rd (wordAt board s) (s .regs) (seen board revoked s) i) in
+    let k = applied instructionBytes rd (effectAt board revoked s) s e h (g .registers) (g .words .c0-words 1 (omega arith), g .words .c0-words 2 (omega arith)) in
     record { no-metadata = k .0; no-tag = k .1 }

@@ -21,13 +21,13 @@ use Rattle.integer_instructions.specs.Integer as Integers
 use Rattle.state.specs.Lent.{State}
 use Rattle.commit.specs.Commit.{advanced, trapped, applyEffect}
 use Rattle.execution.specs.Step.{effectOf, fetchedAt, nextEffect, stepOf}
-use Rattle.machine.specs.Refusals.{goodMemory, goodTags, goodZero, refusalOf}
+use Rattle.machine.specs.Refusals.{goodMemory, goodTags, goodZero, goodWords, goodBits, refusalOf}
 use Rattle.machine.specs.Run.{stepAfter}
-use Rattle.machine_laws.specs.Cases.{before, top-of-memory}
+use Rattle.machine_laws.specs.Cases.{boardIn, before, top-of-memory}
 use Rattle.machine_laws.specs.Steps.{stepsAfter}
 
 abbrev next : State → State
-next s = stepAfter (top-of-memory .start) (top-of-memory .revoked ∷ []) s
+next s = stepAfter (boardIn top-of-memory) (top-of-memory .revoked ∷ []) s
 
 abbrev third : State
 third = next (next (next (before top-of-memory)))
@@ -39,16 +39,16 @@ record Computed : Type 0 where
   third-stays : next third ≡ third
 
 computed : Computed
-unfolding before top-of-memory stepAfter refusalOf goodMemory goodTags goodZero stepOf nextEffect fetchedAt effectOf applyEffect setCapability writeRegister advanced trapped Integers.aluOf Integers.integerEffect checked accessCause placeOf capabilityAt integerAt trapStatus legalized aluOf opImmOf decodeOf immediateI low high rights sealed tagged covers sameBounds moveOf exponentOf lowOf highOf lowAt highAt rightsOf permissionsOf typeOf scaleOf topOf baseOf signExtend leBytes setBytes withBit
+unfolding before top-of-memory stepAfter refusalOf goodMemory goodTags goodZero goodWords goodBits stepOf nextEffect fetchedAt effectOf applyEffect setCapability writeRegister advanced trapped Integers.aluOf Integers.integerEffect checked accessCause placeOf capabilityAt integerAt trapStatus legalized aluOf opImmOf decodeOf immediateI low high rights sealed tagged covers sameBounds moveOf exponentOf lowOf highOf lowAt highAt rightsOf permissionsOf typeOf scaleOf topOf baseOf signExtend leBytes setBytes withBit
 computed = record { second-pcc = refl; third-pcc = refl; third-stays = refl }
 
-later-stays : (n : ℕ) → stepsAfter n (top-of-memory .start) (top-of-memory .revoked ∷ []) third ≡ third
+later-stays : (n : ℕ) → stepsAfter n (boardIn top-of-memory) (top-of-memory .revoked ∷ []) third ≡ third
 unfolding stepsAfter
 later-stays zero = refl
-later-stays (suc n) = ap (stepsAfter n (top-of-memory .start) (top-of-memory .revoked ∷ [])) (computed .third-stays) ∙ later-stays n
+later-stays (suc n) = ap (stepsAfter n (boardIn top-of-memory) (top-of-memory .revoked ∷ [])) (computed .third-stays) ∙ later-stays n
 
 -- after two steps and more PCC is at the handler
-pub later-pcc : (n : ℕ) → getD (stepsAfter (suc (suc n)) (top-of-memory .start) (top-of-memory .revoked ∷ []) (before top-of-memory) .regs) (pccIndex * 3) 0 ≡ 0x20000020
+pub later-pcc : (n : ℕ) → getD (stepsAfter (suc (suc n)) (boardIn top-of-memory) (top-of-memory .revoked ∷ []) (before top-of-memory) .regs) (pccIndex * 3) 0 ≡ 0x20000020
 unfolding stepsAfter
 later-pcc zero = computed .second-pcc
 later-pcc (suc n) = ap (λ (s : State). getD (s .regs) (pccIndex * 3) 0) (later-stays n) ∙ computed .third-pcc

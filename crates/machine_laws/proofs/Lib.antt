@@ -1,8 +1,7 @@
 -- Which lent buffers are refused: Refusals. What a step keeps, and that a run is its single steps: Kept, Runs, Bytes, Fits. What a trap changes: Traps.
 -- What a step changes in memory, and where a tag comes from: Stores. Integer results: Integers. Which wrong programs
--- the promises of a step and a run shut out: ShutOut. The others serve them; worked cases are in specs/Cases.
+-- the promises of a step and a run shut out: ShutOut. The others serve them; the worked cases of specs/Cases hold: Cases.
 pub mod Fetch
-pub mod Registers
 pub mod Refusals
 pub mod Kept
 pub mod Runs
@@ -10,6 +9,7 @@ pub mod Bytes
 pub mod Traps
 pub mod Stores
 pub mod Integers
+pub mod Cases
 pub mod Worked
 pub mod Later
 pub mod ShutOut

@@ -1,6 +1,5 @@
--- What the promises of a step and of a run shut out. Document 01, "Promises that pin the answer": "Show that each promise shuts out: a machine that refuses
--- everything; .. a step that changes nothing, or always reports the same trap; a run that does all its steps when asked for one; counts not equal to the
--- retired and trapped steps of the definition." Each law names an answer, or buffers, with which no program keeps the promise. Assumes nothing.
+-- What the promises of a step and of a run shut out: the wrong machines that document 01 lists under "Promises that pin the answer". Each law names an answer,
+-- or buffers, with which no program keeps the promise. Assumes nothing.
 use mathlib.Core.Path.{_≡_, refl, sym, ap, _∙_}
 use mathlib.Core.Bool.{Bool, true, false, cond, true≢false}
 use mathlib.Core.List.{List, [], _∷_}
@@ -16,20 +15,21 @@ use Rattle.state.specs.Registers.{csrAt, setCapability}
 use Rattle.state.specs.Lent.{State}
 use Rattle.commit.specs.Commit.{retires}
 use Rattle.execution.specs.Step.{effectAt}
-use Rattle.machine.specs.Refusals.{refusalOf, runRefusal, mostSteps}
-use Rattle.machine.specs.Run.{stepAnswer, stepAfter, StepPromise, runAnswer, runAfter, RunPromise, stepNumber, stepRetired, runNumber, runRetired, runTrapped}
+use Rattle.state.specs.declared.Board.{Board}
+use Rattle.machine.specs.Refusals.{refusalOf, mostSteps}
+use Rattle.machine.specs.Run.{stepRefusal, retiredOf, trappedOf, stepTrapped, stepAnswer, stepAfter, StepPromise, runAnswer, runAfter, RunPromise, stepNumber, stepRetired, runNumber, runRetired, runTrapped}
 use Rattle.machine.specs.declared.StepAnswer.{StepAnswer}
 use Rattle.machine.specs.declared.StepAnswer.the-variants.{Retired, Trapped, Refused}
 use Rattle.machine.specs.declared.RunAnswer.{RunAnswer}
 use Rattle.machine.specs.declared.RunAnswer.the-variants as RunAnswer
-use Rattle.machine_laws.specs.Cases.{Case, before, top-of-memory, untagged-load, environment-call}
+use Rattle.machine_laws.specs.Cases.{Case, boardIn, before, top-of-memory, untagged-load, environment-call}
 use Rattle.machine_laws.specs.Steps.{stepsAfter, retiredIn, trappedIn}
 use Rattle.machine_laws.proofs.Refusals.{refused-step, refused-alike, refused-run, too-many}
 use Rattle.machine_laws.proofs.Runs.{answers-counted, run-after, run-answer, run-of-none}
 use Rattle.machine_laws.proofs.Worked.{Worked, word-at, top-worked, load-worked, call-worked}
 use Rattle.machine_laws.proofs.Later.{later-pcc}
 
--- ---- "a machine that refuses everything"
+-- ---- a machine that refuses all calls
 
 abbrev isRefused : StepAnswer → Bool
 isRefused Retired = false
@@ -40,61 +40,70 @@ abbrev isRefusedRun : RunAnswer → Bool
 isRefusedRun (RunAnswer.Ran r t) = false
 isRefusedRun (RunAnswer.Refused n) = true
 
-module _ (start : ℕ) (revoked : List ℕ) (s : State) where
-  answer-number : stepNumber (stepAnswer start revoked s) ≡ refusalOf start revoked s
+module _ (board : Board) (revoked : List ℕ) (s : State) where
+  answer-number : stepNumber (stepAnswer board revoked s) ≡ stepRefusal board revoked s
   unfolding stepAnswer
-  answer-number = go (eqb (refusalOf start revoked s) 0) refl (retires (effectAt start revoked s))
+  answer-number = go (eqb (stepRefusal board revoked s) 0) refl (retires (effectAt board revoked s))
     where
-      go : (t : Bool) → eqb (refusalOf start revoked s) 0 ≡ t → (r : Bool)
-          → stepNumber (cond t (cond r Retired Trapped) (Refused (refusalOf start revoked s))) ≡ refusalOf start revoked s
-      go true q true = sym (eqb-true (refusalOf start revoked s) 0 q)
-      go true q false = sym (eqb-true (refusalOf start revoked s) 0 q)
+      go : (t : Bool) → eqb (stepRefusal board revoked s) 0 ≡ t → (r : Bool)
+          → stepNumber (cond t (cond r Retired Trapped) (Refused (stepRefusal board revoked s))) ≡ stepRefusal board revoked s
+      go true q true = sym (eqb-true (stepRefusal board revoked s) 0 q)
+      go true q false = sym (eqb-true (stepRefusal board revoked s) 0 q)
       go false q r = refl
 
-  answer-good : refusalOf start revoked s ≡ 0 → isRefused (stepAnswer start revoked s) ≡ false
+  answer-retired : stepRetired (stepAnswer board revoked s) ≡ retiredOf board revoked s
   unfolding stepAnswer
-  answer-good good = rw good (go (retires (effectAt start revoked s)))
+  answer-retired = go (eqb (stepRefusal board revoked s) 0) (retires (effectAt board revoked s))
+    where
+      go : (t r : Bool) → stepRetired (cond t (cond r Retired Trapped) (Refused (stepRefusal board revoked s))) ≡ cond t (cond r 1 0) 0
+      go true true = refl
+      go true false = refl
+      go false r = refl
+
+  answer-trapped : stepTrapped (stepAnswer board revoked s) ≡ trappedOf board revoked s
+  unfolding stepAnswer
+  answer-trapped = go (eqb (stepRefusal board revoked s) 0) (retires (effectAt board revoked s))
+    where
+      go : (t r : Bool) → stepTrapped (cond t (cond r Retired Trapped) (Refused (stepRefusal board revoked s))) ≡ cond t (cond r 0 1) 0
+      go true true = refl
+      go true false = refl
+      go false r = refl
+
+  answer-good : stepRefusal board revoked s ≡ 0 → isRefused (stepAnswer board revoked s) ≡ false
+  unfolding stepAnswer
+  answer-good good = rw good (go (retires (effectAt board revoked s)))
     where
       go : (r : Bool) → isRefused (cond r Retired Trapped) ≡ false
       go true = refl
       go false = refl
 
-  run-number-is : (n : ℕ) → runNumber (runAnswer n start revoked s) ≡ runRefusal n start revoked s
-  unfolding runAnswer
-  run-number-is n = go (eqb (runRefusal n start revoked s) 0) refl _ _
-    where
-      go : (t : Bool) → eqb (runRefusal n start revoked s) 0 ≡ t → (r c : ℕ)
-          → runNumber (cond t (RunAnswer.Ran r c) (RunAnswer.Refused (runRefusal n start revoked s))) ≡ runRefusal n start revoked s
-      go true q r c = sym (eqb-true (runRefusal n start revoked s) 0 q)
-      go false q r c = refl
-
-module _ (start : ℕ) (revoked : List ℕ) (from after : State) where
+module _ (board : Board) (revoked : List ℕ) (from after : State) where
   -- of every start state: the number answered is that of the refusal that applies, and 0 where none does
-  pub step-number : (a : StepAnswer) → StepPromise start revoked from after a → stepNumber a ≡ refusalOf start revoked from
-  step-number a p = ap stepNumber (p .answer-is) ∙ answer-number start revoked from
+  pub step-number : (a : StepAnswer) → StepPromise board revoked from after a → stepNumber a ≡ stepRefusal board revoked from
+  step-number a p = p .number-is
 
-  pub run-number : (n : ℕ) (a : RunAnswer) → RunPromise n start revoked from after a → runNumber a ≡ runRefusal n start revoked from
-  run-number n a p = ap runNumber (p .answer-is) ∙ run-number-is start revoked from n
+  pub run-number : (n : ℕ) (a : RunAnswer) → RunPromise n board revoked from after a → runNumber a ≡ refusalOf n board revoked from
+  run-number n a p = p .number-is
 
   -- so no good start state is refused, by any number
-  module _ (good : refusalOf start revoked from ≡ 0) where
-    pub good-step-not-refused : (k : ℕ) → StepPromise start revoked from after (Refused k) → ⊥
-    good-step-not-refused k p = true≢false (ap isRefused (p .answer-is) ∙ answer-good start revoked from good)
+  module _ (good : stepRefusal board revoked from ≡ 0) where
+    pub good-step-not-refused : (k : ℕ) → StepPromise board revoked from after (Refused k) → ⊥
+    good-step-not-refused k p = true≢false (ap isRefused (p .answer-is) ∙ answer-good board revoked from good)
 
-    pub good-run-not-refused : (n k : ℕ) → n ≤ mostSteps → RunPromise n start revoked from after (RunAnswer.Refused k) → ⊥
-    good-run-not-refused n k few p = true≢false (ap isRefusedRun (p .answer-is ∙ run-answer start revoked n from good few))
+    pub good-run-not-refused : (n k : ℕ) → n ≤ mostSteps → RunPromise n board revoked from after (RunAnswer.Refused k) → ⊥
+    good-run-not-refused n k few p = true≢false (ap isRefusedRun (p .answer-is ∙ run-answer board revoked n from good few))
 
 -- the promises at the start state of a worked case
 abbrev pub StepFrom : Case → (after : State) → StepAnswer → Type 0
-StepFrom c after a = StepPromise (c .start) (c .revoked ∷ []) (before c) after a
+StepFrom c after a = StepPromise (boardIn c) (c .revoked ∷ []) (before c) after a
 
 abbrev pub RunFrom : (n : ℕ) → Case → (after : State) → RunAnswer → Type 0
-RunFrom n c after a = RunPromise n (c .start) (c .revoked ∷ []) (before c) after a
+RunFrom n c after a = RunPromise n (boardIn c) (c .revoked ∷ []) (before c) after a
 
-worked-good : (c : Case) → Worked c → refusalOf (c .start) (c .revoked ∷ []) (before c) ≡ 0
-worked-good c w = sym (answer-number (c .start) (c .revoked ∷ []) (before c)) ∙ w .number-is
+worked-good : (c : Case) → Worked c → stepRefusal (boardIn c) (c .revoked ∷ []) (before c) ≡ 0
+worked-good c w = sym (answer-number (boardIn c) (c .revoked ∷ []) (before c)) ∙ w .number-is
 
-top-good : refusalOf (top-of-memory .start) (top-of-memory .revoked ∷ []) (before top-of-memory) ≡ 0
+top-good : stepRefusal (boardIn top-of-memory) (top-of-memory .revoked ∷ []) (before top-of-memory) ≡ 0
 top-good = worked-good top-of-memory top-worked
 
 -- there is a start state that no step and no run of one refuses
@@ -104,7 +113,7 @@ refusing-step-shut-out after k p = good-step-not-refused _ _ (before top-of-memo
 pub refusing-run-shut-out : (after : State) (k : ℕ) → RunFrom 1 top-of-memory after (RunAnswer.Refused k) → ⊥
 refusing-run-shut-out after k p = good-run-not-refused _ _ (before top-of-memory) after top-good 1 k (omega arith) p
 
--- ---- "a step that changes nothing"
+-- ---- a step that leaves everything as it was
 
 -- PCC's address: after the first worked case's step, and before it
 abbrev pccIn : State → ℕ
@@ -121,7 +130,7 @@ pcc-before = refl
 pub unchanging-step-shut-out : (a : StepAnswer) → StepFrom top-of-memory (before top-of-memory) a → ⊥
 unchanging-step-shut-out a p = omega (arith, pcc-before, pcc-after (before top-of-memory) a p)
 
--- ---- a step that "always reports the same trap"
+-- ---- a step with one trap for all
 
 -- one step does not trap, and one does not retire
 pub trapping-step-shut-out : (after : State) → StepFrom top-of-memory after Trapped → ⊥
@@ -157,54 +166,57 @@ one-value-shut-out x y a b p q e =
       word-at (environment-call .after) 8 _ (call-worked .words-are),
     )
 
--- ---- "a run that does all its steps when asked for one"; "counts not equal to the retired and trapped steps of the definition"
+-- ---- a run of more steps than asked, and wrong counts
 
-module _ (start : ℕ) (revoked : List ℕ) (from after : State) where
-  one-step : runAfter 1 start revoked from ≡ stepAfter start revoked from
+module _ (board : Board) (revoked : List ℕ) (from after : State) where
+  one-step : runAfter 1 board revoked from ≡ stepAfter board revoked from
   unfolding stepsAfter
   one-step =
-      by-test (eqb (refusalOf start revoked from) 0)
-      (λ t. run-after start revoked 1 from (eqb-true (refusalOf start revoked from) 0 t) (omega arith))
-      (λ t. let h = eqb-false (refusalOf start revoked from) 0 t in
-      refused-run start revoked from 1 (λ e. h (sym (refused-alike start revoked from h 1) ∙ e)) ∙ sym (refused-step start revoked from h))
+      by-test (eqb (stepRefusal board revoked from) 0)
+      (λ t. run-after board revoked 1 from (eqb-true (stepRefusal board revoked from) 0 t) (omega arith))
+      (λ t. let h = eqb-false (stepRefusal board revoked from) 0 t in
+      refused-run board revoked from 1 (λ e. h (sym (refused-alike board revoked from h 1) ∙ e)) ∙ sym (refused-step board revoked from h))
 
   -- of every start state: a run of one leaves what the promise of a step says
-  pub run-of-one : (a : RunAnswer) → RunPromise 1 start revoked from after a → StepPromise start revoked from after (stepAnswer start revoked from)
+  pub run-of-one : (a : RunAnswer) → RunPromise 1 board revoked from after a → StepPromise board revoked from after (stepAnswer board revoked from)
   run-of-one a p =
       record {
         answer-is = refl;
+        number-is = answer-number board revoked from;
+        retired-is = answer-retired board revoked from;
+        trapped-is = answer-trapped board revoked from;
         registers-are = p .registers-are ∙ ap (λ (s : State). s .regs) one-step;
         memory-is = p .memory-is ∙ ap (λ (s : State). s .mem) one-step;
         tags-are = p .tags-are ∙ ap (λ (s : State). s .tags) one-step;
       }
 
-  module _ (n retired trapped : ℕ) (p : RunPromise n start revoked from after (RunAnswer.Ran retired trapped)) where
-    not-refused : runRefusal n start revoked from ≡ 0
-    not-refused = sym (run-number start revoked from after n (RunAnswer.Ran retired trapped) p)
+  module _ (n retired trapped : ℕ) (p : RunPromise n board revoked from after (RunAnswer.Ran retired trapped)) where
+    not-refused : refusalOf n board revoked from ≡ 0
+    not-refused = sym (run-number board revoked from after n (RunAnswer.Ran retired trapped) p)
 
-    ran-good : refusalOf start revoked from ≡ 0
+    ran-good : stepRefusal board revoked from ≡ 0
     ran-good =
-        by-test (eqb (refusalOf start revoked from) 0) (eqb-true (refusalOf start revoked from) 0)
-        (λ t. let h = eqb-false (refusalOf start revoked from) 0 t in absurd (h (sym (refused-alike start revoked from h n) ∙ not-refused)))
+        by-test (eqb (stepRefusal board revoked from) 0) (eqb-true (stepRefusal board revoked from) 0)
+        (λ t. let h = eqb-false (stepRefusal board revoked from) 0 t in absurd (h (sym (refused-alike board revoked from h n) ∙ not-refused)))
 
     ran-few : n ≤ mostSteps
     ran-few =
         by-test (leb n mostSteps) (leb-true n mostSteps)
-        (λ t. absurd (omega (arith, not-refused, too-many start revoked from ran-good n (leb-false n mostSteps t))))
+        (λ t. absurd (omega (arith, not-refused, too-many board revoked from ran-good n (leb-false n mostSteps t))))
 
     -- of every start state: the counts are those of the single steps, each with its own answer
-    pub counts-are : (retired ≡ retiredIn n start revoked from) × (trapped ≡ trappedIn n start revoked from)
+    pub counts-are : (retired ≡ retiredIn n board revoked from) × (trapped ≡ trappedIn n board revoked from)
     counts-are =
-        let e = p .answer-is ∙ run-answer start revoked n from ran-good ran-few in
+        let e = p .answer-is ∙ run-answer board revoked n from ran-good ran-few in
         (ap runRetired e, ap runTrapped e)
 
     -- and they make up the steps that were asked for: 1 where one was
     pub counts-sum : retired + trapped ≡ n
-    counts-sum = omega (arith, counts-are .0, counts-are .1, answers-counted start revoked n from ran-good)
+    counts-sum = omega (arith, counts-are .0, counts-are .1, answers-counted board revoked n from ran-good)
 
 -- where a run of n steps from the first worked case's start leaves PCC: at 0 only after one step
 abbrev ranTo : (n : ℕ) → State
-ranTo n = runAfter n (top-of-memory .start) (top-of-memory .revoked ∷ []) (before top-of-memory)
+ranTo n = runAfter n (boardIn top-of-memory) (top-of-memory .revoked ∷ []) (before top-of-memory)
 
 pcc-of-one : (n : ℕ) → pccIn (ranTo n) ≡ 0 → n ≡ 1
 pcc-of-one zero h = absurd (omega (arith, h, ap pccIn (run-of-none _ _ (before top-of-memory) top-good .0), pcc-before))
@@ -216,8 +228,8 @@ pcc-of-one (suc (suc m)) h =
   where
     past : leb (suc (suc m)) mostSteps ≡ false → ranTo (suc (suc m)) ≡ before top-of-memory
     past t =
-        let r = too-many (top-of-memory .start) (top-of-memory .revoked ∷ []) (before top-of-memory) top-good (suc (suc m)) (leb-false (suc (suc m)) mostSteps t) in
-        refused-run (top-of-memory .start) (top-of-memory .revoked ∷ []) (before top-of-memory) (suc (suc m)) (λ z. omega (arith, r, z))
+        let r = too-many (boardIn top-of-memory) (top-of-memory .revoked ∷ []) (before top-of-memory) top-good (suc (suc m)) (leb-false (suc (suc m)) mostSteps t) in
+        refused-run (boardIn top-of-memory) (top-of-memory .revoked ∷ []) (before top-of-memory) (suc (suc m)) (λ z. omega (arith, r, z))
 
 -- there is a start state from which no other number of steps leaves what one step leaves
 pub more-steps-shut-out : (n : ℕ) (after : State) (a b : RunAnswer) → RunFrom 1 top-of-memory after a → RunFrom n top-of-memory after b → n ≡ 1

@@ -8,15 +8,16 @@ use Rattle.metadata.proofs.Table.{and-left, and-right}
 use Rattle.state.specs.Lent.{State}
 use Rattle.machine.specs.declared.StepAnswer.{StepAnswer}
 use Rattle.machine.specs.Run.{stepAnswer, stepAfter, stepNumber, stepRetired}
-use Rattle.machine_laws.specs.Cases.{Word, Case, before, found, holds, all, cases, cases-hold, top-of-memory, untagged-load, environment-call}
+use Rattle.machine_laws.proofs.Cases.{cases-hold}
+use Rattle.machine_laws.specs.Cases.{Word, Case, boardIn, before, found, holds, all, cases, top-of-memory, untagged-load, environment-call}
 
 -- ---- what a case answers and leaves
 
 abbrev pub answerIn : Case → StepAnswer
-answerIn c = stepAnswer (c .start) (c .revoked ∷ []) (before c)
+answerIn c = stepAnswer (boardIn c) (c .revoked ∷ []) (before c)
 
 abbrev pub afterIn : Case → State
-afterIn c = stepAfter (c .start) (c .revoked ∷ []) (before c)
+afterIn c = stepAfter (boardIn c) (c .revoked ∷ []) (before c)
 
 pub record Worked (c : Case) : Type 0 where
   pub number-is : stepNumber (answerIn c) ≡ 0

@@ -3,32 +3,16 @@
 use mathlib.Core.Bool.{Bool, true, _&&_}
 use mathlib.Core.List.{List, [], _∷_}
 use Prim.Native.Nat.{ℕ, _+_, _-_, _*_}
-use lib.Dec.{T, eqb}
+use lib.Dec.{eqb}
 use lib.ListN.{getD, set, replicate}
-use Rattle.words.specs.Words.{set32, signExtend, leBytes, setBytes, bitAt, withBit, putBit}
-use Rattle.metadata.specs.Word.{permissionsOf, typeOf, scaleOf, topOf, baseOf, withType}
-use Rattle.metadata.specs.Rights.{rightsOf}
-use Rattle.bounds.specs.Bounds.{exponentOf, lowOf, highOf, lowAt, highAt}
-use Rattle.capability.specs.Capability.{capability, integer, low, high, rights, sealed, tagged, covers, sameBounds, moveOf}
-use Rattle.capability.specs.Sealing.{withObjectType}
-use Rattle.capability.specs.Loading.{loseGlobal, loseMutable, loseTag, loadedOf, revocable}
+use Rattle.words.specs.Words.{set32}
+use Rattle.capability.specs.Capability.{capability, integer}
 use Rattle.capability.specs.declared.Capability.{Capability}
-use Rattle.instructions.specs.Fields.{immediateI, immediateS, immediateJ}
-use Rattle.instructions.specs.Decode.{loadOf, storeOf, aluOf, opImmOf, jalOf, wholeOf, systemOf, decodeOf}
-use Rattle.state.specs.Layout.{pccIndex, mtccIndex}
-use Rattle.state.specs.Registers.{capabilityAt, integerAt, setCapability, writeRegister}
-use Rattle.state.specs.Addresses.{legalized}
-use Rattle.state.specs.Status.{trapStatus}
-use Rattle.state.specs.Memory.{placeOf, capabilityIn, revokedAt}
-use Rattle.state.specs.Checks.{checked, accessCause}
-use Rattle.integer_instructions.specs.Integer as Integers
-use Rattle.memory_instructions.specs.Access.{loadAt, loadEffect, storeAt, storeEffect, revokedValue, filtered, loadCapabilityAt, loadCapabilityEffect, storeCapabilityCheck, storeCapabilityAt, storeCapabilityEffect, memoryEffect}
-use Rattle.jump_instructions.specs.Jumps.{linkOf, aligned, targetCause, jalEffect, jumpEffect}
-use Rattle.system_instructions.specs.System.{systemEffect}
+use Rattle.state.specs.Layout.{capabilityWords, registerWords, pccIndex, mtccIndex, mepccIndex, csrIndex}
+use Rattle.instructions.specs.declared.Csr.the-variants.{Mstatus, Mcause, Mtval}
+use Rattle.state.specs.declared.Board.{Board}
+use Rattle.state.specs.Registers.{setCapability}
 use Rattle.state.specs.Lent.{State, state}
-use Rattle.commit.specs.Commit.{advanced, trapped, jumped, stored, retagged, storedCapability, applyEffect, retires}
-use Rattle.execution.specs.Step.{effectOf, fetchedAt, nextEffect, stepOf}
-use Rattle.machine.specs.Refusals.{goodMemory, goodTags, goodZero, refusalOf}
 use Rattle.machine.specs.Run.{stepAnswer, stepAfter, stepNumber, stepRetired, stepTrapped}
 
 -- word `place` of the register file has a value
@@ -42,7 +26,7 @@ p is v = record { place = p; value = v }
 
 -- the three words of capability i
 abbrev pub register : (i : ℕ) → Capability → List Word → List Word
-register i c ws = (i * 3 is c .address) ∷ (i * 3 + 1 is c .metadata) ∷ (i * 3 + 2 is c .tag) ∷ ws
+register i c ws = (i * capabilityWords is c .address) ∷ (i * capabilityWords + 1 is c .metadata) ∷ (i * capabilityWords + 2 is c .tag) ∷ ws
 
 -- a machine before a step, MTCC at the handler and its other words and bytes 0, and what the step leaves
 pub record Case : Type 0 where
@@ -72,10 +56,13 @@ data-at a = capability a 0x7E3E0000 1
 abbrev pub handler : Capability
 handler = execute 0x20000020
 
+abbrev pub boardIn : Case → Board
+boardIn c = record { start = c .start }
+
 unfoldable pub before : Case → State
 before c =
     state
-    (setCapability (setCapability (setCapability (set (replicate 66 0) 63 (c .mstatus)) 1 (c .c1)) pccIndex (c .pcc)) mtccIndex handler)
+    (setCapability (setCapability (setCapability (set (replicate registerWords 0) (csrIndex Mstatus) (c .mstatus)) 1 (c .c1)) pccIndex (c .pcc)) mtccIndex handler)
     (set32 (set32 (set32 (replicate 64 0) 8 (c .held .address)) 12 (c .held .metadata)) (c .pcc .address - c .start) (c .instruction))
     (c .tags ∷ [])
 
@@ -85,11 +72,11 @@ found (w ∷ ws) regs = eqb (getD regs (w .place) 0) (w .value) && found ws regs
 
 unfoldable pub holds : Case → Bool
 holds c =
-    eqb (stepNumber (stepAnswer (c .start) (c .revoked ∷ []) (before c))) 0
-    && (eqb (stepRetired (stepAnswer (c .start) (c .revoked ∷ []) (before c))) (c .retired)
-    && (eqb (stepTrapped (stepAnswer (c .start) (c .revoked ∷ []) (before c))) (1 - c .retired)
-    && (found (c .after) (stepAfter (c .start) (c .revoked ∷ []) (before c) .regs)
-    && eqb (getD (stepAfter (c .start) (c .revoked ∷ []) (before c) .tags) 0 0) (c .tagsAfter))))
+    eqb (stepNumber (stepAnswer (boardIn c) (c .revoked ∷ []) (before c))) 0
+    && (eqb (stepRetired (stepAnswer (boardIn c) (c .revoked ∷ []) (before c))) (c .retired)
+    && (eqb (stepTrapped (stepAnswer (boardIn c) (c .revoked ∷ []) (before c))) (1 - c .retired)
+    && (found (c .after) (stepAfter (boardIn c) (c .revoked ∷ []) (before c) .regs)
+    && eqb (getD (stepAfter (boardIn c) (c .revoked ∷ []) (before c) .tags) 0 0) (c .tagsAfter))))
 
 unfoldable pub all : List Case → Bool
 all [] = true
@@ -114,9 +101,9 @@ plain c1 held tags revoked instruction retired after tagsAfter =
 
 -- the words of a trap: MEPCC, PCC at the handler, MPIE := MIE and MIE := 0, mcause and mtval
 abbrev trap : (mepcc : Capability) → (cause value : ℕ) → List Word
-trap mepcc cause value = register 20 mepcc (register 16 handler ((63 is 0x80) ∷ (64 is cause) ∷ (65 is value) ∷ []))
+trap mepcc cause value = register mepccIndex mepcc (register pccIndex handler ((csrIndex Mstatus is 0x80) ∷ (csrIndex Mcause is cause) ∷ (csrIndex Mtval is value) ∷ []))
 
--- "A PCC of [0xFFFFF000, 2^32) with its address at 0xFFFFFFFC retires a no-op; the next PCC is untagged at 0."
+-- a no-op in the last word of the address space, PCC's bounds ending there: the next PCC is untagged, at 0
 unfoldable pub top-of-memory : Case
 top-of-memory =
     record {
@@ -129,7 +116,7 @@ top-of-memory =
       revoked = 0;
       instruction = 0x00000013;
       retired = 1;
-      after = register 16 (capability 0 0x5E100100 0) [];
+      after = register pccIndex (capability 0 0x5E100100 0) [];
       tagsAfter = 0;
     }
 
@@ -148,14 +135,14 @@ environment-call = plain (integer 0) (integer 0) 0 0 0x00000073 0 (trap (execute
 unfoldable pub cases : List Case
 cases =
     top-of-memory
-    -- ADDI c1, c1, 1 on a capability: "no metadata and no tag"
-    ∷ plain (data-at 0x20000000) (integer 0) 0 0 0x00108093 1 (register 1 (integer 0x20000001) (register 16 (execute 0x20000004) [])) 0
+    -- ADDI c1, c1, 1 on a capability: the result has neither metadata nor tag
+    ∷ plain (data-at 0x20000000) (integer 0) 0 0 0x00108093 1 (register 1 (integer 0x20000001) (register pccIndex (execute 0x20000004) [])) 0
     -- CJAL c1, 8: the link is the sentry that enables interrupts
-    ∷ plain (integer 0) (integer 0) 0 0 0x008000EF 1 (register 1 (capability 0x20000004 0x5EFE0000 1) (register 16 (execute 0x20000008) [])) 0
+    ∷ plain (integer 0) (integer 0) 0 0 0x008000EF 1 (register 1 (capability 0x20000004 0x5EFE0000 1) (register pccIndex (execute 0x20000008) [])) 0
     -- SB c0, 8(c1): the granule's tag is cleared
-    ∷ plain (data-at 0x20000000) (small 1) 2 0 0x00008423 1 (register 16 (execute 0x20000004) []) 0
+    ∷ plain (data-at 0x20000000) (small 1) 2 0 0x00008423 1 (register pccIndex (execute 0x20000004) []) 0
     -- CSC c1, 16(c1): granule 2 takes the register's tag
-    ∷ plain (data-at 0x20000000) (integer 0) 0 0 0x0010B823 1 (register 16 (execute 0x20000004) []) 4
+    ∷ plain (data-at 0x20000000) (integer 0) 0 0 0x0010B823 1 (register pccIndex (execute 0x20000004) []) 4
     -- CLC c2, 8(c1): the revocation bit of the low bound's granule clears the tag, that of the address's does not; memory keeps its own
     ∷ plain (data-at 0x20000000) (small 1) 2 4 0x0080B103 1 (register 2 (small 0) []) 2
     ∷ plain (data-at 0x20000000) (small 1) 2 8 0x0080B103 1 (register 2 (small 1) []) 2
@@ -167,7 +154,3 @@ cases =
     -- a word that is no instruction
     ∷ plain (integer 0) (integer 0) 0 0 0xFFFFFFFF 0 (trap (execute 0x20000000) 2 0xFFFFFFFF) 0
     ∷ []
-
-pub cases-hold : T (all cases)
-unfolding all holds found before cases top-of-memory untagged-load environment-call stepAnswer stepAfter refusalOf goodMemory goodTags goodZero stepOf nextEffect fetchedAt effectOf applyEffect retires setCapability writeRegister advanced trapped jumped stored retagged storedCapability systemEffect linkOf aligned targetCause jalEffect jumpEffect loadAt loadEffect storeAt storeEffect revokedValue filtered loadCapabilityAt loadCapabilityEffect storeCapabilityCheck storeCapabilityAt storeCapabilityEffect memoryEffect Integers.aluOf Integers.integerEffect checked accessCause placeOf capabilityIn revokedAt capabilityAt integerAt trapStatus legalized loadOf storeOf aluOf opImmOf jalOf wholeOf systemOf decodeOf immediateI immediateS immediateJ loseGlobal loseMutable loseTag loadedOf revocable withObjectType low high rights sealed tagged covers sameBounds moveOf exponentOf lowOf highOf lowAt highAt rightsOf permissionsOf typeOf scaleOf topOf baseOf withType signExtend leBytes setBytes bitAt withBit putBit
-cases-hold = tt

@@ -1,5 +1,5 @@
--- The instructions whose result is an integer. RISC-V standards; CHERIoT report, 8.1; 7.3: "Instructions that
--- produce integers write a NULL capability (Section 7.13.6) with the address set to the integer result." Assumes nothing.
+-- The instructions whose result is an integer, and what their register then holds: no metadata and no tag. RISC-V standards; CHERIoT report, 7.3 and 8.1.
+-- Assumes nothing.
 use Prim.Native.Nat.{ℕ}
 use mathlib.Core.Path.{_≡_}
 use Rattle.capability.specs.declared.Capability.{Capability}

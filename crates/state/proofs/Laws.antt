@@ -57,6 +57,12 @@ store-width Sw = inr (inr (inl refl))
 pub granule-width : Width granuleBytes
 granule-width = inr (inr (inr refl))
 
+width-some : (w : ℕ) → Width w → 1 ≤ w
+width-some w (inl e) = omega arith
+width-some w (inr (inl e)) = omega arith
+width-some w (inr (inr (inl e))) = omega arith
+width-some w (inr (inr (inr e))) = omega arith
+
 -- a place is in memory and in one granule
 abbrev pub Placed : Place → (width size : ℕ) → Type 0
 Placed Misaligned width size = Unit {0}
@@ -81,7 +87,13 @@ place-within start size address width w h = go (eqb (address % width) 0) refl (l
     go true p true q true r =
         let l = leb-true start address q in
         let m = leb-true (address + width) (start + size) r in
-        record { inside = omega arith; together = in-granule start address width w h (eqb-true (address % width) 0 p) l }
+        record { some = width-some width w; inside = omega arith; together = in-granule start address width w h (eqb-true (address % width) 0 p) l }
+
+-- what holds of the traps and of the access at each place holds of every place
+pub placed : (P : Effect → Type 0) (f : Place → Effect) → P (f Misaligned) → P (f Outside) → ((i : ℕ) → P (f (At i))) → (p : Place) → P (f p)
+placed P f m o a Misaligned = m
+placed P f m o a Outside = o
+placed P f m o a (At i) = a i
 
 -- ---- the register file
 

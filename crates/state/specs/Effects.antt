@@ -27,8 +27,9 @@ storedBy (WriteScr rd old scr value) = nothing
 storedBy (WriteCsr rd old csr value) = nothing
 storedBy (Trap cause value) = nothing
 
--- width bytes at place i lie in a memory of size bytes, and in one granule of it
+-- width bytes at place i, at least one, lie in a memory of size bytes, and in one granule of it
 pub record OneGranule (i width size : ℕ) : Type 0 where
+  pub some : 1 ≤ width
   pub inside : i + width ≤ size
   pub together : i % granuleBytes + width ≤ granuleBytes
 

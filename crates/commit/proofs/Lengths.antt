@@ -1,0 +1,81 @@
+-- No effect changes the length of a buffer. Assumes nothing.
+use mathlib.Core.Path.{_≡_, refl, _∙_}
+use mathlib.Core.List.{List}
+use Prim.Native.Nat.{ℕ, _+_, _/_, _%_}
+use lib.Dec.{eqb, leb}
+use lib.ListN.{length, length-set}
+use Rattle.words.specs.Words.{setBytes, putBit}
+use Rattle.words.proofs.Bytes.{length-setBytes}
+use Rattle.words.proofs.Bits.{length-putBit}
+use Rattle.capability.specs.declared.Capability.{Capability}
+use Rattle.state.specs.Layout.{generalCount}
+use Rattle.state.specs.Registers.{setCapability, writeRegister}
+use Rattle.state.specs.Lent.{State}
+use Rattle.state.specs.Memory.{granuleBytes}
+use Rattle.state.specs.Effects.{Stored, nothing, bytes, whole, storedBy}
+use Rattle.state.specs.declared.Effect.{Effect}
+use Rattle.state.specs.declared.Effect.the-variants.{Advance, Write, Store, StoreCapability, Jump, WriteScr, WriteCsr, Trap}
+use Rattle.state.proofs.Laws.{cond-holds}
+use Rattle.commit.specs.Commit.{advanced, trapped, jumped, withScr, withCsr, registersAfter, stored, retagged, storedCapability, memoryAfter, tagsAfter, applyEffect}
+
+abbrev Long : (n : ℕ) → List ℕ → Type 0
+Long n l = length l ≡ n
+
+capability-long : (l : List ℕ) (i : ℕ) (c : Capability) → length (setCapability l i c) ≡ length l
+unfolding setCapability
+capability-long l i c = simp length-set
+
+register-long : (l : List ℕ) (rd : ℕ) (c : Capability) → length (writeRegister l rd c) ≡ length l
+unfolding writeRegister
+register-long l rd c =
+    cond-holds (Long (length l)) (eqb (rd % generalCount) 0) l (setCapability l (rd % generalCount) c) refl (capability-long l (rd % generalCount) c)
+
+advanced-long : (n : ℕ) (l : List ℕ) → length (advanced n l) ≡ length l
+unfolding advanced
+advanced-long n l = capability-long l _ _
+
+registers-long : (n : ℕ) (e : Effect) (regs : List ℕ) → length (registersAfter n e regs) ≡ length regs
+unfolding jumped withScr withCsr trapped
+registers-long n Advance regs = advanced-long n regs
+registers-long n (Write rd value) regs = simp (advanced-long, register-long)
+registers-long n (Store kind i value) regs = advanced-long n regs
+registers-long n (StoreCapability i value) regs = advanced-long n regs
+registers-long n (Jump rd link target mstatus) regs = simp (length-set, capability-long, register-long)
+registers-long n (WriteScr rd old scr value) regs = simp (advanced-long, capability-long, register-long)
+registers-long n (WriteCsr rd old csr value) regs = simp (advanced-long, length-set, register-long)
+registers-long n (Trap cause value) regs = simp (length-set, capability-long)
+
+memory-long : (x : Stored) (mem : List ℕ) → length (memoryAfter x mem) ≡ length mem
+unfolding stored storedCapability
+memory-long nothing mem = refl
+memory-long (bytes n i value) mem =
+    cond-holds (Long (length mem)) (leb (i + n) (length mem)) (setBytes n mem i value) mem (length-setBytes n mem i value) refl
+memory-long (whole i value) mem =
+    let low = setBytes 4 mem i (value .address) in
+    cond-holds (Long (length mem)) (leb (i + granuleBytes) (length mem)) (setBytes 4 low (i + 4) (value .metadata)) mem
+    (length-setBytes 4 low (i + 4) (value .metadata) ∙ length-setBytes 4 mem i (value .address)) refl
+
+retagged-long : (m t : List ℕ) (n i tag : ℕ) → length (retagged m t n i tag) ≡ length t
+unfolding retagged
+retagged-long m t n i tag =
+    cond-holds (Long (length t)) (leb (i + n) (length m)) (putBit t (i / granuleBytes) tag) t (length-putBit t (i / granuleBytes) tag) refl
+
+tags-long : (x : Stored) (mem tags : List ℕ) → length (tagsAfter x mem tags) ≡ length tags
+tags-long nothing mem tags = refl
+tags-long (bytes n i value) mem tags = retagged-long mem tags n i 0
+tags-long (whole i value) mem tags = retagged-long mem tags granuleBytes i (value .tag)
+
+-- no buffer changes its length
+pub record SameLengths (before after : State) : Type 0 where
+  pub same-registers : length (after .regs) ≡ length (before .regs)
+  pub same-memory : length (after .mem) ≡ length (before .mem)
+  pub same-tags : length (after .tags) ≡ length (before .tags)
+
+pub applied-long : (n : ℕ) (e : Effect) (s : State) → SameLengths s (applyEffect n e s)
+unfolding applyEffect
+applied-long n e s =
+    record {
+      same-registers = registers-long n e (s .regs);
+      same-memory = memory-long (storedBy e) (s .mem);
+      same-tags = tags-long (storedBy e) (s .mem) (s .tags);
+    }

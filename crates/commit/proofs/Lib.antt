@@ -1,0 +1,5 @@
+-- Laws of the definitions of specs/, which belong to no one function.
+pub mod Registers
+pub mod Lengths
+pub mod Bytes
+pub mod Memory
