@@ -39,6 +39,15 @@ elf_files() {
   (cd "$work" && "$bench" run interlock_small.elf interlock_image.elf) | grep -F '2000010c, word fe113c23, byte 0 of plan'
 }
 
+# What README.md shows at its head is what the demonstration writes.
+readme_shows() {
+  ./bench demo >"$work/demo"
+  sed -n '/^```$/,/^```$/{/^```$/!p;}' README.md | sed '/^\.\/bench demo/,$d' >"$work/shown"
+  local from
+  from=$(grep -n -F -x -m 1 -e "$(head -n 1 "$work/shown")" "$work/demo" | cut -d: -f1) && [ -n "$from" ] &&
+    tail -n "+$from" "$work/demo" | head -n "$(wc -l <"$work/shown")" | diff - "$work/shown"
+}
+
 # With everything built, ./bench writes what the command writes and nothing else, from any folder.
 nothing_added() {
   local words=(run --map "$PWD/examples/interlock_small.map" "$PWD/examples/interlock_small.hex" "$PWD/examples/interlock_image.hex")
@@ -116,6 +125,7 @@ check "bench cargo fmt" in_bench cargo fmt --check
 check "bench cargo clippy" in_bench cargo clippy --release --all-targets -- -D warnings
 tests
 check "the demonstration" ./bench demo
+check "README.md shows the demonstration's output" readme_shows
 check "the demonstration's HEX files are their sources'" hex_files
 check "the demonstration's ELF files run as the HEX files" elf_files
 exit $bad

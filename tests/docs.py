@@ -28,9 +28,10 @@ WIDTH = 160
 ALLOWED = {
     "the kit's": """bitAnd bitOr bitXor getD set cond eqb leb ltb ensures requires rt u32::leading_zeros wrapping_add_u32
         wrapping_sub_u32 returns-5""",
-    "the report's": "",
-    "fields of an instruction, and words of a format": "",
-    "tools and packages": "",
+    "the report's": "setCapBounds getCapLength",
+    "words of a format, of an option or of a pattern": "c0 c15 word66 imm type cap explain _ STACK_END",
+    "libgcc's and Debian's": """__divsi3 __modsi3 __umodsi3 memset binutils-riscv64-unknown-elf librust-clap-dev librust-indicatif-dev
+        librust-object-dev librust-serde-json-dev""",
 }
 
 
@@ -140,7 +141,10 @@ def names(tree, document):
     before_list = re.compile(rf"\b({crates}) (?:`[^`]+`(?: \([^)]*\))?(?:,| and| to) )*$")
     after_list = re.compile(rf"^(?:(?:,| and|, and| to) `[^`]+`)* \(({crates})(?:, ([A-Z]\w*))?[,;)]")
     for number, before, line, after, code, heading in document.joined():
-        if code:
+        if code or line.startswith("```"):
+            continue
+        if line.count("`") % 2:
+            yield number, "what stands in backticks goes on in the next line"
             continue
         whole = before + line + after
         for token in re.finditer(r"`([^`]+)`", line):
@@ -249,23 +253,42 @@ PARTS = {"names": names, "paths": paths, "promises": promises, "sizes": sizes, "
 
 # ---- the check of the checks
 
+# HERE is a name of crate state, OTHER one of another crate that machine has not, EDIT an edit.
 MADE_UP = """# A document
-`decodeOf` and state `placeOf`, `noSuchDefinition` are named, `no-such-law`, `no_such_function` and `machine::no_such_step`.
-The crate of machine `decodeOf` is another, and so is that of `decodeOf` (machine) and `placeOf` (state, NoSuchFile).
-Edits bounds/no_such_edit and `bounds/always_empty`, mutant `no-such-mutant`, file tests/no_such.sh, [link](NO_SUCH.md).
+state `HERE`, `noSuchDefinition` are named, and `OTHER`, `no-such-law`, `no_such_function` and `machine::no_such_step`.
+The crate of machine `OTHER` is another, and so is that of `OTHER` (machine) and `HERE` (state, NoSuchFile). This goes on: `to the
+next line`. Edits bounds/no_such_edit and `EDIT`, mutant `no-such-mutant`, file tests/no_such.sh, [link](NO_SUCH.md).
 See docs/TESTING.md, "No such heading". There are 1 mutants, and 12 lines of code.
 """ + "x" * (WIDTH + 1)
 FOUND = ["2: crate state has no `noSuchDefinition`", "2: no `no-such-law`", "2: no `no_such_function`", "2: no `machine::no_such_step`",
-         "3: crate machine has no `decodeOf`, which is elsewhere", "3: crate machine has no `decodeOf`, which is elsewhere",
-         "3: crate state has no file NoSuchFile", "4: no `no-such-mutant`",
+         "3: what stands in backticks", "4: what stands in backticks",
          "4: no bounds/no_such_edit", "4: no tests/no_such.sh", "4: no NO_SUCH.md", '5: no heading "No such heading" in docs/TESTING.md',
          "5: 1, and there are", "5: 12 of code, and there are", f"6: {WIDTH + 1} characters"]
+WHOLE = ["3: crate machine has no `OTHER`, which is elsewhere", "3: crate machine has no `OTHER`, which is elsewhere",
+         "3: crate state has no file NoSuchFile", "4: no `no-such-mutant`"]
 
 
 def itself(tree):
-    document = Document("docs/MADE-UP.md", MADE_UP)
+    here = min(n for n in tree.crates["state"] if NAME.fullmatch(n))
+    other = min(n for n in tree.crates["instructions"] if NAME.fullmatch(n) and not tree.has(n, "machine"))
+    text = MADE_UP.replace("HERE", here).replace("OTHER", other).replace("EDIT", min(tree.edits))
+    yield from differing(tree, "docs/MADE-UP.md", text, FOUND)
+    mended = text.replace("`to the\nnext line`", "to the\nnext line")
+    yield from differing(tree, "docs/MADE-UP.md", mended, [f.replace("OTHER", other) for f in FOUND + WHOLE if "backticks" not in f])
+    crate, name = min(tree.edits).split("/")
+    function = tree.public(crate)[0]
+    lost = re.sub(rf"(?m)^\| `{function}` \|", "| `main` |", read("docs/PROMISES.md").replace(name, "a_lost_edit"))
+    said = [text for _, text in promises(tree, Document("docs/PROMISES.md", lost))]
+    for want in (f"no row for the public function {crate}::{function}", f"the edit {crate}/{name} is not named"):
+        if want not in said:
+            yield f"tests/docs.py:1: not found: {want}"
+
+
+def differing(tree, path, text, wanted):
+    """What the parts should find in the text and do not, and what they find besides."""
+    document = Document(path, text)
     said = [f"{n}: {text}" for part in PARTS.values() for n, text in part(tree, document)]
-    for want in FOUND:
+    for want in wanted:
         match = next((s for s in said if s.startswith(want)), None)
         if match is None:
             yield f"tests/docs.py:1: not found in the made-up document: {want}"
