@@ -4,7 +4,7 @@
     names      a name in `backticks` is a definition, law, function, edit, mutant or item of the host, or stands in ALLOWED
     paths      files and folders named exist, CRATE/EDIT is an edit, Markdown links and quoted headings resolve
     promises   docs/PROMISES.md has a row for every public function, and names every must-fail edit
-    sizes      counts of mutants, and of lines in README.md, are those of the tree
+    sizes      counts of mutants are those of the tree, and counts of lines are within a tenth of them
     lines      no line is longer than 160 characters
     bits       a file is executable exactly if it starts with #!
     itself     the parts above find what is wrong in a made-up document
@@ -107,7 +107,8 @@ class Tree:
         if not os.path.isfile(os.path.join(ROOT, f"crates/{crate}/src/lib.rt")):
             return []
         text = read(f"crates/{crate}/src/lib.rt")
-        return re.findall(r'(?m)^pub (?:extern "C" )?fn (\w+)', text) + re.findall(r"(?m)^pub use \w+::([a-z]\w*);", text)
+        used = " ".join(re.findall(r"(?m)^pub use (?:\w+::)+(\w+;|\{[^}]*\};)", text))
+        return re.findall(r'(?m)^pub (?:extern "C" )?fn (\w+)', text) + re.findall(r"\b[a-z]\w*\b", used)
 
 
 class Document:
@@ -124,7 +125,7 @@ class Document:
             self.lines.append((number, line, fenced or line.startswith("    "), heading))
 
     def joined(self):
-        """Each line with the start of the next, so that what is wrapped is read as one; beside it the line's own length."""
+        """Each line with the ones before and after it, so that a list that is wrapped is read as one."""
         for at, (number, line, code, heading) in enumerate(self.lines):
             after = self.lines[at + 1][1] if at + 1 < len(self.lines) else ""
             before = self.lines[at - 1][1] if at else ""
@@ -188,9 +189,13 @@ def paths(tree, document):
             target = os.path.join(os.path.dirname(document.path), link.split("#")[0])
             if "://" not in link and not os.path.exists(os.path.join(ROOT, target)):
                 yield number, f"no {link}"
-        for file, title in re.findall(r'(docs/[A-Z]+\.md),? (?:and )?"([^"]+)"', line + after):
-            if f'"{title[:8]}' in line and not re.search(rf"(?m)^#+ {re.escape(title)}$", read(file) if exists(tree, file) else ""):
-                yield number, f'no heading "{title}" in {file}'
+        for place in re.finditer(r'(README\.md|docs/[A-Z]+\.md),? (?:and )?"([^"]+)"', line + after):
+            if place.start() < len(line) and not has_heading(tree, *place.groups()):
+                yield number, f'no heading "{place.group(2)}" in {place.group(1)}'
+
+
+def has_heading(tree, file, title):
+    return exists(tree, file) and re.search(rf"(?m)^#+ {re.escape(title)}$", read(file))
 
 
 def exists(tree, path):
@@ -226,7 +231,7 @@ def sizes(tree, document):
         for count in re.findall(r"\b(\d+) (?:wrong machines|mutants|one-line mistakes)\b", line):
             if int(count) != len(tree.mutants):
                 yield number, f"{count}, and there are {len(tree.mutants)} mutants"
-        for count, what, folder in re.findall(r"([\d,]+) (?:lines )?of (code|definitions|proofs)\b()", line):
+        for count, what in re.findall(r"([\d,]+) (?:lines )?of (code|definitions|proofs)\b", line):
             folder = {"code": "src", "definitions": "specs", "proofs": "proofs"}[what]
             there = sum(read(f).count("\n") for f in files(f"crates/*/{folder}/**/*.rt", f"crates/*/{folder}/**/*.antt"))
             if abs(int(count.replace(",", "")) - there) > there // 10:
