@@ -66,7 +66,7 @@ uint32_t oddersnow_calls(uint32_t address, uint32_t metadata, uint32_t tag,
  * The answer is number * 2^48 + trapped * 2^24 + retired, with the counts of the steps that trapped and of
  * those that retired; oddersnow_number and the two below take it apart. The number is
  *
- *   1  regs_len is not 66                   4  a tag word is not 0 or 1, or a word of c0 is not 0
+ *   1  regs_len is not 66                   4  a tag word is above 1, or c0 is not all zero
  *   2  start or mem_len breaks the limits   5  a run asks for more than 1,000,000 steps
  *   3  tags_len or revoked_len is not mem_len / 64
  *

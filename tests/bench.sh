@@ -1,18 +1,9 @@
 #!/usr/bin/env bash
-# The bench command: it builds, its lints and tests, the demonstration, and that the demonstration's HEX
-# files are what their sources make. The proved libraries are built by rt, or lie in the directory that
-# ODDERSNOW_STATICLIB names.
+# The bench command: it builds, its lints and tests, the demonstration, that the demonstration's HEX
+# files are what their sources make, and what ./bench shows where it builds and where it does not. The proved
+# libraries are built by rt, or lie in the directory that ODDERSNOW_STATICLIB names.
 set -u
-cd "$(dirname "$0")/.." || exit 1
-work=$(mktemp -d)
-trap 'rm -rf "$work"' EXIT
-bad=0
-
-check() { # NAME COMMAND..
-  local name=$1
-  shift
-  if "$@" >"$work/log" 2>&1; then echo "ok $name"; else bad=1; tail -n 40 "$work/log"; echo "FAIL $name"; fi
-}
+source "$(dirname "$0")/lib/check.sh"
 in_bench() { (cd host/bench && "$@"); }
 
 # Each test of cargo's as a check of its own.
@@ -27,13 +18,8 @@ tests() {
   fi
 }
 
-assembler() {
-  command -v riscv64-unknown-elf-as && return 0
-  apt-get -o DPkg::Lock::Timeout=300 update -qq &&
-    apt-get -o DPkg::Lock::Timeout=300 install -y -qq --no-install-recommends binutils-riscv64-unknown-elf
-}
 hex_files() {
-  assembler && examples/interlock_make.sh "$work" || return 1
+  need riscv64-unknown-elf-as binutils-riscv64-unknown-elf && examples/interlock_make.sh "$work" || return 1
   local file
   for file in examples/interlock_*.hex; do cmp "$file" "$work/${file##*/}" || return 1; done
 }
@@ -53,12 +39,93 @@ elf_files() {
   (cd "$work" && "$bench" run interlock_small.elf interlock_image.elf) | grep -F '2000010c, word fe113c23, byte 0 of plan'
 }
 
-check "bench builds" host/bench/build.sh
-[ "$bad" -eq 0 ] || exit 1
+# What README.md shows at its head is what the demonstration writes.
+readme_shows() {
+  ./bench demo >"$work/demo"
+  sed -n '/^```$/,/^```$/{/^```$/!p;}' README.md | sed '/^\.\/bench demo/,$d' >"$work/shown"
+  local from
+  from=$(grep -n -F -x -m 1 -e "$(head -n 1 "$work/shown")" "$work/demo" | cut -d: -f1) && [ -n "$from" ] &&
+    tail -n "+$from" "$work/demo" | head -n "$(wc -l <"$work/shown")" | diff - "$work/shown"
+}
+
+# With everything built, ./bench writes what the command writes and nothing else, from any folder.
+nothing_added() {
+  local words=(run --map "$PWD/examples/interlock_small.map" "$PWD/examples/interlock_small.hex" "$PWD/examples/interlock_image.hex")
+  [ -z "$(./bench --missing)" ] || return 1
+  host/bench/target/release/bench "${words[@]}" >"$work/command.out" 2>"$work/command.err"
+  local status=$?
+  (cd "$work" && "$root/bench" "${words[@]}" >bench.out 2>bench.err)
+  [ $? -eq "$status" ] && cmp "$work/command.out" "$work/bench.out" && cmp "$work/command.err" "$work/bench.err"
+}
+
+# A repository of three crates with an rt and a build of our own, which take seconds instead of minutes.
+small_repository() { # FOLDER
+  mkdir -p "$1/host/bench/src" "$1/kit" && cp bench "$1" &&
+    printf 'low:\nother:  # nobody leans on it\nlabel: low\nbench_api: low label\n' >"$1/crates.txt"
+  local crate
+  for crate in low label bench_api; do mkdir -p "$1/crates/$crate/src"; done
+  cat >"$1/kit/rt" <<'RT'
+#!/usr/bin/env bash
+mkdir -p target/log target/staticlib
+if [ "$1" = check ]; then
+  : >target/log/low.out
+  sleep 5
+  echo "rt: low ${VERDICT:-proved} (5 s)" | tee target/log/low.out
+  [ -z "${VERDICT:-}" ]
+else
+  touch "target/staticlib/lib$2.a"
+fi
+RT
+  cat >"$1/host/bench/build.sh" <<'BUILD'
+#!/usr/bin/env bash
+mkdir -p "$(dirname "$0")/target/release"
+printf '#!/bin/sh\necho the command "$@"\n' >"$(dirname "$0")/target/release/bench"
+chmod +x "$(dirname "$0")/target/release/bench"
+BUILD
+  chmod +x "$1/kit/rt" "$1/host/bench/build.sh"
+}
+in_small() { # COMMAND..
+  (cd "$work/small" && unset ODDERSNOW_STATICLIB && PATH=$PWD/kit:$PATH "$@")
+}
+says() { # FILE TEXT..: each text stands in the file, one after the other
+  local file=$1 text at=0 line
+  shift
+  for text in "$@"; do
+    line=$(tail -n "+$((at + 1))" "$file" | grep -n -m 1 -F -e "$text" | cut -d: -f1)
+    [ -n "$line" ] || { echo "no '$text' in:"; cat "$file"; return 1; }
+    at=$((at + line))
+  done
+}
+
+progress_shown() {
+  small_repository "$work/small" || return 1
+  in_small ./bench --missing >"$work/missing"
+  printf 'library label\nlibrary bench_api\ncommand\n' | cmp - "$work/missing" || return 1
+  in_small ./bench cut 1 2 >"$work/out" 2>"$work/err" || return 1
+  echo "the command cut 1 2" | cmp - "$work/out" &&
+    says "$work/err" "the proofs of 1 crates, libraries label bench_api, the command" "proved 0 of 1 crates; 0:0" "proved 0 of 1 crates, now low; 0:0" built &&
+    in_small ./bench cut 1 2 >"$work/out" 2>&1 && echo "the command cut 1 2" | cmp - "$work/out"
+}
+older_than_sources() { # after progress_shown
+  sleep 0.1
+  touch "$work/small/crates/low/src/new.rt"
+  [ "$(in_small ./bench --missing | tr '\n' ' ')" = "library label library bench_api command " ]
+}
+failure_named() { # after older_than_sources
+  VERDICT="NOT PROVED" in_small ./bench cut 1 2 >"$work/out" 2>"$work/err"
+  [ $? -eq 4 ] && [ ! -s "$work/out" ] && says "$work/err" "not built" "rt: low NOT PROVED"
+}
+
+check "bench builds" ./bench --version || exit 1
+check "./bench adds nothing where all is built" nothing_added
+check "./bench shows its progress where something is missing" progress_shown
+check "./bench builds again what is older than its sources" older_than_sources
+check "./bench names a crate that is not proved" failure_named
 check "bench cargo fmt" in_bench cargo fmt --check
 check "bench cargo clippy" in_bench cargo clippy --release --all-targets -- -D warnings
 tests
-check "the demonstration" examples/demo.sh
+check "the demonstration" ./bench demo
+check "README.md shows the demonstration's output" readme_shows
 check "the demonstration's HEX files are their sources'" hex_files
 check "the demonstration's ELF files run as the HEX files" elf_files
 exit $bad

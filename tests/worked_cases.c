@@ -14,7 +14,7 @@ static void check(const char *name, int good)
         failed = 1;
 }
 
-/* "From the first of the 0x20000001 cuts, a move to 0x20000200 keeps the tag; to 0x20000201 or 0x20000000 clears it." */
+/* The tag after a move from the cut of 511 bytes at 0x20000001; 2 where something else went wrong. */
 static uint32_t tag_after_move(uint32_t to)
 {
     uint32_t kinds[3] = {2, 0, 2}, values[3] = {0x20000001, 511, to}, out[9];
@@ -24,7 +24,7 @@ static uint32_t tag_after_move(uint32_t to)
     return out[8];
 }
 
-/* "A PCC of [0xFFFFF000, 2^32) with its address at 0xFFFFFFFC retires a no-op; the next PCC is untagged at 0." */
+/* A no-op in the last word of the address space, by a PCC of its last 4,096 bytes. */
 static void last_instruction(void)
 {
     uint32_t kinds[3] = {2, 1, 2}, values[3] = {0xFFFFF000, 0x1000, 0xFFFFFFFC}, out[9];

@@ -1,9 +1,9 @@
 // Fetches that trap, and what passes through MEPCC and MTCC on the way.
 //
-// Document 01, "Traps": a fetch checks PCC's tag, seal, execute right and four bytes in bounds,
-// then alignment, then access; PCC is register 32. Trap entry and return go through the
-// address-move rule with the two low bits cleared, even where the address stays, so a sealed one
-// loses its tag. In mstatus only MIE and MPIE change.
+// Document 01, "Traps": of PCC, register 32, a fetch checks tag, seal, EX and bounds of four bytes;
+// then alignment and access. Trap entry and return are moves to the address without its two low
+// bits, of an aligned one too, so a sealed capability loses its tag. In mstatus only MIE and MPIE
+// change.
 
 #include "cheriot.inc"
 

@@ -1,9 +1,9 @@
 // Loads: the order of their checks, what CLC makes of a value by the authority's rights, and the
 // signs of bytes and halves.
 //
-// Document 01, house: tag, seal, LD, bounds, alignment in that order; then access. Without LG a
-// tagged value loses GL and LG, without LM SD and LM, without MC its tag; then revocation, which
-// spares SE and US alone. An untagged value stays as it is.
+// Document 01, house: tag, seal, LD, bounds, alignment in that order; then access. A tagged value
+// loses GL and LG for want of LG, SD and LM for want of LM, its tag for want of MC; then comes
+// revocation, which spares SE and US alone. An untagged value stays as it is.
 
 #include "cheriot.inc"
 #include "handler.inc"

@@ -1,8 +1,8 @@
 // A delegation that cannot be kept: without GL and LG the delegated capability and all that is
 // loaded through it are local, and go into memory only where SL allows it.
 //
-// Document 01, house: without LG on the authority a tagged value loses GL and LG, sealed or not
-// (report, 7.13.1). CSC of a tagged value without GL by an authority without SL: cause 22.
+// Document 01, house: what is loaded for want of LG is local, sealed or not (report, 7.13.1). CSC of
+// a tagged value without GL by an authority without SL: cause 22.
 
 #include "cheriot.inc"
 #include "handler.inc"

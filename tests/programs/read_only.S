@@ -1,8 +1,8 @@
 // A read-only view of a linked structure: without SD and LM the view and all that is loaded through
 // it are read-only.
 //
-// Document 01, house: without LM on the authority a tagged, unsealed value loses SD and LM, through
-// narrowing; a sealed one keeps them (report, 7.13.1). A store without SD: cause 19.
+// Document 01, house: what is loaded for want of LM is narrowed to no SD and no LM; a sealed value
+// keeps them (report, 7.13.1). A store without SD: cause 19.
 
 #include "cheriot.inc"
 #include "handler.inc"

@@ -3,8 +3,7 @@
 //
 // Report, 7.11: MEPCC holds PCC at the instruction that trapped, and MRET goes there. The
 // privileged standard: a trap keeps MIE in MPIE and clears it, MRET brings it back and sets MPIE.
-// Document 01: an illegal instruction is mcause 2 with the word in mtval, and multiplying is not in
-// the base.
+// Document 01: mtval of mcause 2 is the illegal word, and multiplying is not in the base.
 
 #include "cheriot.inc"
 

@@ -1,8 +1,8 @@
 // A heap with revocation: after an object is freed, and its revocation bits are set, a stale
 // capability to it dies when it is loaded.
 //
-// Document 01, house: a tagged value with neither SE nor US loses its tag if the revocation bit of
-// the granule holding its low bound is set; memory keeps its own tag. What is in a register stays.
+// Document 01, house: revoked is what has neither SE nor US and a low bound in a granule whose bit is
+// set; the tag in memory stays, and so does what is in a register.
 
 #include "cheriot.inc"
 #include "handler.inc"

@@ -1,9 +1,8 @@
 // The CSRs and the special capability registers.
 //
-// Document 01: mstatus has MIE (bit 3) and MPIE (bit 7), other bits stay as lent and are read so;
-// mcause and mtval hold any word. Every write and read through MTCC or MEPCC clears the two low
-// address bits by the address-move rule, even where the address stays. MTDC and MScratchC hold
-// anything.
+// Document 01: of mstatus MIE (bit 3) and MPIE (bit 7) can be written, all of it is read; mcause and
+// mtval take every word. MTCC and MEPCC are written and read by a move to the address without its
+// two low bits, of an aligned one too. MTDC and MScratchC hold anything.
 
 #include "cheriot.inc"
 #include "handler.inc"

@@ -2,8 +2,8 @@
 // the caller has them again after the return.
 //
 // Report, 7.9, CSpecialRW and Figure 7.1: cause 24 (0x18) with register 32 for PCC, and 32 + scr
-// for CSpecialRW. Document 01, house: a CSR number other than the three is an illegal instruction,
-// whatever PCC's rights; FENCE and WFI retire.
+// for CSpecialRW. Document 01, house: any CSR number but three is illegal, right or no right; FENCE
+// and WFI retire.
 
 #include "cheriot.inc"
 #include "handler.inc"

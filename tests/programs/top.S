@@ -1,6 +1,6 @@
 // memory: 0xfffff000 4096
-// The end of the address space: document 01, "Cases", the last of them. A PCC of [0xFFFFF000, 2^32)
-// with its address at 0xFFFFFFFC retires a no-op; the next PCC is untagged at 0.
+// The end of the address space: document 01, "Cases", the last of them. A no-op in the last word, by
+// a PCC of the last 4,096 bytes, retires, and PCC is then untagged at 0.
 //
 // 4096 bytes need the exponent 4: B is 0xFFFFF00 mod 512, T is 2^28 mod 512; the code is 0x2F.
 // The next fetch is cause 2 of register 32. MTCC at 0 then fetches outside memory: mcause 1.

@@ -1,10 +1,10 @@
 // Sixteen traps, each noted and passed over: misaligned, outside memory, illegal, breakpoint,
 // ecall, and the checks of jumps.
 //
-// Document 01, "Traps": capability checks come first, then alignment, then access; misaligned is 0,
-// 4, 6 and outside memory 5, 7, with the address in mtval; illegal is 2 with the word; breakpoint 3
-// and ecall 11 with 0. CJALR: tag, seal, EX (17), bounds (1), alignment. A trap changes no general
-// register.
+// Document 01, "Traps": checks of the capability before those of alignment, these before access;
+// misaligned is 0, 4, 6 and outside memory 5, 7, with the address; illegal is 2 with the word;
+// EBREAK 3 and ECALL 11 with 0. CJALR: tag, seal, EX (17), bounds (1), alignment. A trap leaves the
+// general registers alone.
 
 #include "cheriot.inc"
 #include "handler.inc"

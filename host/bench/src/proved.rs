@@ -20,7 +20,7 @@ pub struct Counts {
 pub struct Refusal(pub u64);
 
 impl Refusal {
-    /// The reason, in document 01's words ("Answers").
+    /// The reason (document 01, "Answers").
     pub fn reason(self) -> &'static str {
         match self.0 {
             1 => "the register file is not 66 words",
@@ -29,7 +29,7 @@ impl Refusal {
                  a multiple of 64, the start a multiple of 8, and the end at most 2^32"
             }
             3 => "the tags or the revocation bits are not memory size / 64 bytes",
-            4 => "a tag word is not 0 or 1, or a word of c0 is not 0",
+            4 => "a tag word is above 1, or c0 is not all zero",
             5 => "a run asks more than 1,000,000 steps",
             6 => "the request ends past 2^32",
             _ => "a number that document 01 does not have",

@@ -41,7 +41,7 @@ pub struct Coverage {
     misread: u64,
 }
 
-/// The word at PCC if the fetch passes its checks (document 01, "A fetch checks").
+/// The word at PCC if the fetch passes its checks (document 01, "Traps").
 fn fetched(state: &State) -> Option<u32> {
     let pcc = as_second(state.capability(PCC));
     let usable = pcc.tag == 1 && !is_sealed(pcc.metadata) && has(pcc.metadata, EX);

@@ -122,7 +122,7 @@ pub fn rights_of(code: u32) -> u32 {
 }
 
 /// The code for a set of rights: the first row that fits, the rest dropped
-/// (document 01, "Narrowing picks the first that fits"; CHERIoT report, 7.13.1).
+/// (document 01, "Capability word"; CHERIoT report, 7.13.1).
 pub fn code_of(rights: u32) -> u32 {
     let has = |wanted: u32| rights & wanted == wanted;
     let bit = |right: u32, place: u32| u32::from(has(right)) << place;
@@ -180,7 +180,7 @@ pub fn seal_type(metadata: u32) -> u32 {
 }
 
 /// The same metadata word with other type bits; a four-bit type loses its upper bit
-/// (CHERIoT report, Appendix A, "truncate otype when compressing").
+/// (CHERIoT report, Appendix A).
 pub fn with_type(metadata: u32, new_type: u32) -> u32 {
     metadata & !(7 << TYPE_AT) | (new_type & 7) << TYPE_AT
 }
@@ -316,8 +316,8 @@ pub fn move_address(capability: Capability, address: u32) -> Capability {
     }
 }
 
-/// The narrowing of CAndPerm: rights that both the capability and the mask have; a sealed
-/// capability loses its tag (CHERIoT report, CAndPerm).
+/// The narrowing of CAndPerm: the rights common to capability and mask; a sealed capability
+/// loses its tag (CHERIoT report, CAndPerm).
 pub fn narrow(capability: Capability, mask: u32) -> Capability {
     Capability {
         address: capability.address,

@@ -135,7 +135,7 @@ fn integer(value: u32) -> Capability {
 }
 
 /// A capability as it passes through MTCC or MEPCC: the low two address bits cleared by the
-/// address-move rule, even where the address stays (document 01, "Traps").
+/// address-move rule, also of an address that is aligned (document 01, "Traps").
 fn legalised(capability: Capability) -> Capability {
     move_address(capability, capability.address & !3)
 }
@@ -272,7 +272,7 @@ impl<'a> Machine<'a> {
         }
     }
 
-    /// The instruction word at PCC (document 01, "Traps", "A fetch checks").
+    /// The instruction word at PCC (document 01, "Traps", on fetches).
     fn fetch(&self) -> Result<u32, Trap> {
         let pcc = self.capability(PCC);
         usable(pcc, PCC_NAME, EX, EXECUTE)?;

@@ -10,7 +10,7 @@ const ROOT: Capability = Capability {
     tag: 1,
 };
 
-// "of any length and empty too".
+// The empty list.
 #[test]
 fn the_empty_list_returns_nothing() {
     assert_eq!(calls(ROOT, &[]), []);
@@ -18,7 +18,7 @@ fn the_empty_list_returns_nothing() {
 
 // Document 01, "Cases", as one list: the first 0x20000001 cut is e = 0 with B = 1 and T = 0;
 // a move to 0x20000200 keeps the tag; narrowing to rights without SD is code 110111 (0x06B);
-// a move to 0x20000000 clears the tag, "and the list goes on".
+// a move to 0x20000000 clears the tag, and the calls after it are made all the same.
 #[test]
 fn the_cases_as_a_list() {
     let list = [
@@ -43,8 +43,8 @@ fn the_cases_as_a_list() {
     assert_eq!(calls(ROOT, &list), expected);
 }
 
-// "A call that clears the tag stands in the list like any other, a cut whose request ends
-// past 2^32 among them": base 0xFFFFFFFF, length 2 at e = 0 has B = 0x1FF and T = 1.
+// A cut past the end of the space is a call as any other: base 0xFFFFFFFF, length 2 at e = 0 has
+// B = 0x1FF and T = 1.
 #[test]
 fn a_cut_past_the_space_stands_in_the_list() {
     let returned = calls(ROOT, &[(2, 0xFFFF_FFFF), (0, 2)]);
@@ -68,8 +68,8 @@ fn the_exact_form_asks_for_exactness() {
     assert_eq!(returned(1), cleared);
 }
 
-// "No call sets a cleared tag again. A cut changes only E, T, B and the tag, a move only the
-// address and the tag, a narrowing only the six stored permission bits." And what stays
+// A tag once cleared stays cleared, and each kind of call changes its own fields alone: a cut the
+// bounds, a move the address, a narrowing the permission bits, beside the tag. And what stays
 // tagged stays inside the start, with no right the start lacks.
 #[test]
 fn what_each_call_may_change() {

@@ -1,4 +1,4 @@
-//! Expectations come from the papers; each test names its sentence.
+//! Expectations come from the papers; each test names its place.
 
 use super::*;
 use crate::sample::Sample;
@@ -24,9 +24,8 @@ fn memory(base: u32, length: u32) -> Capability {
     set_bounds(tagged(base, MEMORY_ROOT), length)
 }
 
-// Document 01, "Cases": "metadata 0x7E3E0000 with address 0 is [0, 2^32), rights 0x07F.
-// 0x5E3E0000: rights 0x1EB. 0x4E3E0000: rights 0xE01." The three are the roots that
-// Table 7.2 of the CHERIoT report names; 7.13.1 gives each the entire address space.
+// Document 01, "Cases", the first three: bounds and rights of the roots that Table 7.2 of the
+// CHERIoT report names; 7.13.1 gives each the entire address space.
 #[test]
 fn roots() {
     assert_eq!(bounds(0, MEMORY_ROOT), (0, 1 << 32));
@@ -45,7 +44,7 @@ fn roots_by_name() {
     assert_eq!(rights(SEALING_ROOT), GL | SE | US | U0);
 }
 
-// CHERIoT report, 7.13.3: "the root memory capability has B = 0, T = 0x100, E = 15".
+// CHERIoT report, 7.13.3: the fields of the memory root, E = 15, T = 0x100, B = 0.
 #[test]
 fn root_apart() {
     let expected = Parts {
@@ -59,8 +58,7 @@ fn root_apart() {
     assert_eq!(apart(MEMORY_ROOT), expected);
 }
 
-// Document 01, "Cases": "rights 0x07F without SD narrow to 0x06B. 0x1EB without LD narrow
-// to 0x001."
+// Document 01, "Cases": the two narrowings, 0x07F by all but SD and 0x1EB by all but LD.
 #[test]
 fn narrowing_cases() {
     let read_only = narrow(tagged(0, MEMORY_ROOT), !SD);
@@ -89,7 +87,7 @@ fn cuts_at_an_even_base() {
     assert_eq!(cut(base, 0), region(base, 0x2000_0000, true));
 }
 
-// Document 01, "Answers": 6 if "a cut asked by plain numbers has base + length > 2^32"; and
+// Document 01, "Answers": 6 for a cut by plain numbers that ends past 2^32; and
 // "Tempting mistakes": high is not compared as 32 bits.
 #[test]
 fn cuts_at_the_end_of_the_space() {
@@ -100,8 +98,7 @@ fn cuts_at_the_end_of_the_space() {
     assert_eq!(cut(0, 0), region(0, 0, true));
 }
 
-// Document 01, "Cases": "From the first of the 0x20000001 cuts, a move to 0x20000200 keeps
-// the tag; to 0x20000201 or 0x20000000 clears it."
+// Document 01, "Cases": the three moves from the cut of 511 bytes.
 #[test]
 fn move_cases() {
     let first = memory(0x2000_0001, 511);
@@ -116,8 +113,8 @@ fn move_cases() {
     );
 }
 
-// Document 01, "Capability word": a move keeps the tag only if "the capability is unsealed",
-// and nothing sets a cleared tag again.
+// Document 01, "Capability word": a sealed capability loses its tag by a move, and nothing
+// sets a cleared tag again.
 #[test]
 fn moves_of_sealed_and_untagged() {
     let sealed = tagged(4, with_type(EXECUTABLE_ROOT, 1));
@@ -136,7 +133,7 @@ fn move_across_the_end_of_the_space() {
     assert_eq!(move_address(last_page, 0).tag, 0);
 }
 
-// CHERIoT report, 7.13.5: "if e is 24 then all addresses are representable".
+// CHERIoT report, 7.13.5: at the exponent 24 every address is representable.
 #[test]
 fn the_largest_exponent_moves_anywhere() {
     for address in [0, 1, 0x7FFF_FFFF, 0x8000_0000, 0xFFFF_FFFF] {
@@ -144,8 +141,8 @@ fn the_largest_exponent_moves_anywhere() {
     }
 }
 
-// Document 01, "Tempting mistakes": "Exponent 15 read as 15"; the exponent is 24 when E is
-// 15: T of 1 and B of 0 at E = 15 give 2^24 bytes.
+// Document 01, "Tempting mistakes", the second. E = 15 stands for the exponent 24, so T of 1
+// and B of 0 there give 2^24 bytes.
 #[test]
 fn stored_exponent_15_is_24() {
     let metadata = 15 << 18 | 1 << 9;
@@ -210,8 +207,8 @@ fn permission_codes() {
     }
 }
 
-// Document 01, "Capability word": "Taking a metadata word apart and putting it together again
-// gives the same word"; the CHERIoT report's prop_decEnc. All codes, then a sample.
+// Document 01, "Capability word": a word taken apart and put together is the same word; the
+// CHERIoT report's prop_decEnc. All codes, then a sample.
 #[test]
 fn apart_and_together() {
     for code in 0..64 {
@@ -233,8 +230,8 @@ fn apart_and_together_for_every_word() {
     }
 }
 
-// CHERIoT report, 7.13.1, the six steps of the encoding procedure, and "Any permissions that
-// cannot be encoded using the chosen format are dropped".
+// CHERIoT report, 7.13.1, the six steps of the encoding procedure; rights that the chosen
+// format cannot hold are lost.
 #[test]
 fn encoding_procedure() {
     let encoded = |rights| rights_of(code_of(rights));
@@ -260,7 +257,7 @@ fn narrowing_never_adds() {
         assert_eq!(after.address, before.address);
         let outside = !(0x3F << 25);
         assert_eq!(after.metadata & outside, before.metadata & outside);
-        // CAndPerm: "If cs1 was sealed then cd.tag is cleared."
+        // CAndPerm: a sealed one loses its tag.
         assert_eq!(after.tag == 1, !is_sealed(before.metadata));
     }
 }
@@ -312,8 +309,8 @@ fn cuts_agree_with_appendix_a() {
     }
 }
 
-// Document 01, "Cutting bounds": "The exponent is the least of 0 to 14 or 24 for which ...",
-// tried from 0 upwards without the hint of the leading zeros.
+// Document 01, "Cutting bounds", its first sentence: the least exponent that fits, tried from 0
+// upwards without the hint of the leading zeros.
 #[test]
 fn the_exponent_is_the_least() {
     let mut sample = Sample(4);
@@ -407,8 +404,8 @@ fn rounded_length_and_mask_are_exact() {
     }
 }
 
-// CHERIoT report, CRoundRepresentableLength: "this could round up the length to 2^xlen in
-// which case rd will be set to zero"; Table 7.4 gives the alignments.
+// CHERIoT report, CRoundRepresentableLength: a length that rounds up to 2^32 gives 0; Table 7.4
+// has the alignments.
 #[test]
 fn rounded_lengths() {
     assert_eq!(round_representable_length(0), 0);
@@ -424,9 +421,8 @@ fn rounded_lengths() {
     assert_eq!(round_representable_length(0xFFFF_FFFF), 0);
 }
 
-// Document 01, "Cutting bounds": CSetBounds "clears the tag exactly if the authority is
-// untagged, sealed or doesn't contain the request; the exact form also if rounding changed
-// anything".
+// Document 01, "Cutting bounds": CSetBounds keeps the tag exactly of a tagged, unsealed authority
+// around the request; the exact form asks besides that nothing was rounded.
 #[test]
 fn set_bounds_and_the_tag() {
     let outer = memory(0x1000, 0x100);
@@ -445,7 +441,7 @@ fn set_bounds_and_the_tag() {
     );
 }
 
-// Document 01, "Cutting bounds": the end "is taken as a whole number and not modulo 2^32".
+// Document 01, "Cutting bounds": a request's end does not wrap.
 #[test]
 fn set_bounds_past_the_space() {
     let last = tagged(0xFFFF_FFFF, MEMORY_ROOT);
@@ -458,8 +454,7 @@ fn set_bounds_past_the_space() {
     assert_eq!(set_bounds(wide, 2).tag, 1);
 }
 
-// CHERIoT report, 7.13.7: "zero length capabilities can be derived with base equal to the top
-// of an existing capability".
+// CHERIoT report, 7.13.7: an empty capability may be cut at the very top of another.
 #[test]
 fn zero_length_at_the_top() {
     let outer = memory(0x1000, 0x100);
@@ -468,8 +463,7 @@ fn zero_length_at_the_top() {
     assert_eq!(bounds(empty.address, empty.metadata), (0x1100, 0x1100));
 }
 
-// CHERIoT report, 7.13.6: "the NULL capability decodes as an untagged, unsealed capability,
-// with no permissions, base 0 and length 0".
+// CHERIoT report, 7.13.6: what NULL decodes to: no tag, no type, no rights, empty at 0.
 #[test]
 fn null_decodes_to_nothing() {
     assert_eq!(bounds(0, 0), (0, 0));
@@ -478,8 +472,7 @@ fn null_decodes_to_nothing() {
     assert_eq!(seal_type(0), 0);
 }
 
-// CHERIoT report, 7.13.2: "otypes 9 - 15 are encoded using values 1 - 7" outside the
-// executable format.
+// CHERIoT report, 7.13.2: outside the executable format 1 to 7 stand for the types 9 to 15.
 #[test]
 fn four_bit_types() {
     for stored in 1..8 {
@@ -562,8 +555,8 @@ fn load_filter_rights() {
     assert_eq!(load_filter(untagged, 0, |_| true), untagged);
 }
 
-// Document 01: without LM "a tagged, unsealed value" loses SD and LM; CHERIoT report, 7.13.1:
-// "GL and LG are cleared even on sealed capabilities that are loaded".
+// Document 01: for want of LM a sealed value keeps SD and LM; CHERIoT report, 7.13.1: for want
+// of LG even a sealed one gives up GL and LG.
 #[test]
 fn load_filter_sealed() {
     let sealed = tagged(64, with_type(MEMORY_ROOT, 1));
@@ -573,8 +566,8 @@ fn load_filter_sealed() {
     assert_eq!(seal_type(loaded.metadata), 9);
 }
 
-// Document 01: "A tagged value with neither SE nor US then loses its tag if the revocation
-// bit of the granule holding its low bound is set", the low bound and not the address.
+// Document 01: which values are revoked, and by the granule of the low bound, not of the
+// address.
 #[test]
 fn load_filter_revocation() {
     let all = LD | MC | LG | LM;

@@ -50,7 +50,7 @@ fn immediates_of_every_width() {
     }
 }
 
-// CHERIoT report, AUIPCC: "PCC.address + imm x 2048", the 20-bit immediate signed.
+// CHERIoT report, AUIPCC: the signed 20-bit immediate counts 2048 bytes.
 #[test]
 fn auipcc_counts_in_2048() {
     assert_eq!(immediate_of(asm::u(1, 1, 0x17)), 2048);
@@ -76,8 +76,7 @@ fn system_words() {
     }
 }
 
-// Document 01: "the CSRs are mstatus, mcause and mtval, and every other CSR number is an
-// illegal instruction".
+// Document 01: three CSR numbers, mstatus, mcause and mtval; the rest is illegal.
 #[test]
 fn csr_numbers() {
     for number in 0..0x1000 {
@@ -93,7 +92,7 @@ fn csr_numbers() {
     assert_eq!(decode(asm::csr(5, 0x300, 16, 1)), None);
 }
 
-// Document 01: "a register number above 15 is illegal", for every register field in use.
+// Document 01: no register above 15, in every register field in use.
 #[test]
 fn registers_above_15() {
     type Build = fn(u32) -> u32;

@@ -23,13 +23,13 @@ fn the_printed_example() {
     assert_eq!(output(input), expected);
 }
 
-// "empty input gives the header alone".
+// No input: the header and nothing else.
 #[test]
 fn empty_input() {
     assert_eq!(output(b""), HEADER);
 }
 
-// "a last input line without one still counts" and "Every output line ends in a newline".
+// A last line without a newline is a line; what is written for it has one.
 #[test]
 fn last_line_without_newline() {
     assert_eq!(
@@ -38,7 +38,7 @@ fn last_line_without_newline() {
     );
 }
 
-// "high nine" digits: the whole space ends at 2^32.
+// Nine digits of high: the whole space ends at 2^32.
 #[test]
 fn high_has_nine_digits() {
     assert_eq!(
@@ -47,8 +47,7 @@ fn high_has_nine_digits() {
     );
 }
 
-// "An ill-formed line n, of any length, is n<TAB>bad<TAB>line": "base, tab, length, eight
-// lower-case hex digits each".
+// Lines that are ill-formed: anything but eight lower-case digits, a tab, eight again.
 #[test]
 fn ill_formed_lines() {
     let lines: [&[u8]; 12] = [
@@ -73,7 +72,7 @@ fn ill_formed_lines() {
     assert_eq!(after_header(&long), "1\tbad\tline\n");
 }
 
-// "Lines count from 1", bad ones included.
+// The first line is number 1, and bad ones count.
 #[test]
 fn lines_count_from_one() {
     let input = b"\n\n20000000\t00000000\nx";

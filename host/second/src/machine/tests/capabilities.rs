@@ -150,8 +150,7 @@ fn test_subset() {
     assert_eq!(test(outer, memory(0x0FFF, 17)), integer(0));
 }
 
-// CHERIoT report, CSetEqualExact: "the tag fields and in-memory representations ... are
-// identical, including any reserved encoding bits".
+// CHERIoT report, CSetEqualExact: every stored bit and the tag, the reserved bit too.
 #[test]
 fn set_equal_exact() {
     let test = |c1, c2| result(asm::two(0x21, 3, 1, 2), c1, c2);

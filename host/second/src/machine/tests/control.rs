@@ -39,8 +39,8 @@ fn branches() {
     }
 }
 
-// CHERIoT report, CJAL: the link is the next PCC, "sealed as a sentry", enabling (3) if MIE
-// is set and disabling (2) if not.
+// CHERIoT report, CJAL: the link is the next PCC as a sentry, enabling (3) if MIE is set and
+// disabling (2) if not.
 #[test]
 fn jump_and_link() {
     for (mstatus, sentry) in [(0, 2), (8, 3), (0x80, 2), (0xFFFF_FFFF, 3)] {
@@ -54,8 +54,8 @@ fn jump_and_link() {
     }
 }
 
-// CHERIoT report, CJALR: "its address incremented by imm and the 0th bit of its address set
-// to 0"; cs1 may be cd.
+// CHERIoT report, CJALR: the immediate is added to the address and bit 0 cleared; cs1 may be
+// cd.
 #[test]
 fn jump_register_and_link() {
     let target = set_bounds(tagged(START + 0x40, EXECUTABLE_ROOT), 32);
@@ -68,7 +68,7 @@ fn jump_register_and_link() {
 }
 
 // CHERIoT report, 7.13.2: type 1 leaves MIE, 2 clears it, 3 sets it; the link is sealed with
-// the interrupt state from before. Document 01: "a jump unseals a sentry first".
+// the interrupt state from before. Document 01: the sentry is unsealed before the jump.
 #[test]
 fn jumps_through_sentries() {
     for (kind, mie_before, mie_after, link_type) in [
@@ -106,8 +106,8 @@ fn call_and_return() {
     assert_eq!(bench.regs[MSTATUS], 8);
 }
 
-// "the next PCC, the link ... follow the address-move rule": at the end of the space the link
-// wraps to 0 and is untagged.
+// Document 01, "Traps": the link is made by a move; at the end of the space it wraps to 0 and
+// is untagged.
 #[test]
 fn a_link_past_the_space() {
     let metadata = 0x5E00_0000 | 4 << 18 | 0x100;
@@ -140,8 +140,8 @@ fn trap_return() {
     }
 }
 
-// "return through MTCC or MEPCC ... follow the address-move rule, even where the address
-// stays": a sealed MEPCC gives an untagged PCC, and the next step traps on its tag.
+// Document 01, "Traps": a return is a move, of an aligned address too: a sealed MEPCC gives an
+// untagged PCC, and the next step traps on its tag.
 #[test]
 fn trap_return_to_a_sealed_capability() {
     let mut bench = Bench::new();
@@ -169,8 +169,8 @@ fn special_registers() {
     }
 }
 
-// Document 01: "every write, read ... through MTCC or MEPCC (low two address bits cleared)
-// follow the address-move rule, even where the address stays". MTDC and MScratchC do not.
+// Document 01, "Traps": MTCC and MEPCC are written and read by a move to the address without its
+// two low bits, of an aligned address too. MTDC and MScratchC are not.
 #[test]
 fn special_registers_legalise() {
     let code = set_bounds(tagged(START + 0x40, EXECUTABLE_ROOT), 16);

@@ -12,7 +12,7 @@ fn result(word: u32, first: u32, second: u32) -> u32 {
     bench.set(3, tagged(7, MEMORY_ROOT));
     bench.retire(word);
     let c3 = bench.get(3);
-    // "An integer result that leaves the old metadata or tag in its register" is a mistake.
+    // A tempting mistake of document 01's: metadata or tag of the old value would stay.
     assert_eq!((c3.metadata, c3.tag), (0, 0));
     c3.address
 }
@@ -64,7 +64,7 @@ fn writes_to_c0_are_dropped() {
     assert_eq!(bench.get(0), integer(0));
 }
 
-// "FENCE and WFI retire and do nothing else", without SR on PCC too.
+// Document 01, "In and out": FENCE and WFI have no effect, without SR on PCC too.
 #[test]
 fn fence_and_wfi() {
     for word in [asm::WFI, 0x0FF0_000F, 0x8330_000F] {
@@ -79,8 +79,8 @@ fn fence_and_wfi() {
     }
 }
 
-// Document 01, "Cases": "A PCC of [0xFFFFF000, 2^32) with its address at 0xFFFFFFFC retires a
-// no-op; the next PCC is untagged at 0." E = 4: B = 0x100, T = 0.
+// Document 01, "Cases", the last: a no-op in the last word of the space, by a PCC of its last
+// 4,096 bytes, and the PCC after it. E = 4: B = 0x100, T = 0.
 #[test]
 fn the_last_instruction_of_the_space() {
     let metadata = 0x5E00_0000 | 4 << 18 | 0x100;
@@ -92,7 +92,7 @@ fn the_last_instruction_of_the_space() {
     assert_eq!(bench.get(PCC), untagged(tagged(0, metadata)));
 }
 
-// The standard's six CSR instructions on mcause and mtval, which "hold any word written".
+// The standard's six CSR instructions on mcause and mtval, which take every word.
 #[test]
 fn csr_operations() {
     let run = |funct3: u32, rs1: u32, place: usize, number: u32| {
@@ -118,8 +118,8 @@ fn csr_operations() {
     }
 }
 
-// "In mstatus only MIE (bit 3) and MPIE (bit 7) mean anything; other bits stay as lent and
-// are read so."
+// Document 01, "What is lent": writes of mstatus change MIE and MPIE, bits 3 and 7; the others
+// are kept and read.
 #[test]
 fn csr_mstatus() {
     let run = |before: u32, funct3: u32, value: u32| {

@@ -36,8 +36,8 @@ fn loads_of_every_width() {
     assert_eq!(loaded(4, 11), 0x82);
 }
 
-// CHERIoT report, 7.7: "non-capability stores clear the tag bits for the capability-aligned
-// region(s) they touch"; document 01 names the byte store that leaves the tag as a mistake.
+// CHERIoT report, 7.7: a store that is not CSC clears the tag of the granule it touches;
+// document 01 names the byte store that leaves the tag as a mistake.
 #[test]
 fn stores_of_every_width() {
     for (funct3, written) in [(0, 1), (1, 2), (2, 4)] {
@@ -54,8 +54,7 @@ fn stores_of_every_width() {
     }
 }
 
-// CHERIoT report, CSC and 7.7; document 01, "Tags": "Bit (i mod 8) of byte (i div 8), lowest
-// bit first, is granule i."
+// CHERIoT report, CSC and 7.7; document 01, "What is lent", on the order of the tags.
 #[test]
 fn a_stored_capability_comes_back() {
     let mut bench = bench();
@@ -88,7 +87,7 @@ fn loaded_without(value: Capability, lost: u32) -> Capability {
     bench.set(1, narrow(bench.get(1), !lost));
     let before = bench.tags.clone();
     bench.retire(asm::load(3, 3, 1, 0));
-    // "Memory keeps its own tag."
+    // The tag in memory stays.
     assert_eq!(bench.tags, before);
     bench.get(3)
 }
@@ -111,8 +110,8 @@ fn loaded_rights() {
     assert_eq!(without_mc, untagged(narrow(value, LD | MC)));
 }
 
-// "A tagged value ... loses its tag if the revocation bit of the granule holding its low
-// bound is set. A low bound outside memory has no bit and counts as not revoked."
+// Document 01, "Loading capabilities": revocation goes by the low bound's granule, and outside
+// memory nothing is revoked.
 #[test]
 fn loaded_and_revoked() {
     // Low bound at START + 0xA8, granule 21 (bit 5 of byte 2), address in granule 22.
@@ -147,7 +146,7 @@ fn a_load_over_its_authority() {
     assert_eq!(bench.get(1), tagged(9, SEALING_ROOT));
 }
 
-// "Address sums wrap modulo 2^32. Access checks compare whole numbers."
+// Document 01, "Capability word": a sum of addresses wraps, a check of an access does not.
 #[test]
 fn addresses_wrap_and_checks_do_not() {
     let mut bench = Bench::new();

@@ -22,7 +22,7 @@ fn with(change: impl Fn(&mut Bench)) -> Bench {
     bench
 }
 
-// "1: register file is not 66 words".
+// 1: a register file of another length.
 #[test]
 fn refusal_1() {
     for words in [0, 1, 65, 67, 200] {
@@ -30,8 +30,8 @@ fn refusal_1() {
     }
 }
 
-// "2: memory start or size breaks the limits": size 64 to 65,536, a multiple of 64; start a
-// multiple of 8; start plus size at most 2^32.
+// 2: memory outside its limits: 64 to 65,536 bytes in steps of 64, from a multiple of 8 on, ending
+// at 2^32 at the most.
 #[test]
 fn refusal_2() {
     for size in [0, 32, 63, 65, 96, 255, 65_600] {
@@ -50,7 +50,7 @@ fn refusal_2() {
     assert_eq!(largest.run(0), 0);
 }
 
-// "3: tag or revocation buffer is not size/64 bytes".
+// 3: tags or revocation bits of another length.
 #[test]
 fn refusal_3() {
     for size in [0, 3, 5] {
@@ -59,7 +59,7 @@ fn refusal_3() {
     }
 }
 
-// "4: a tag word is not 0 or 1, or a word of c0 is not 0".
+// 4: a tag word above 1, or a c0 that is not all zero.
 #[test]
 fn refusal_4() {
     for place in 0..21 {
@@ -71,14 +71,14 @@ fn refusal_4() {
     }
 }
 
-// "5: a run asks more than 1,000,000 steps".
+// 5: too many steps.
 #[test]
 fn refusal_5() {
     refused(Bench::new(), 1_000_001, 5);
     refused(Bench::new(), u32::MAX, 5);
 }
 
-// "The lowest number wins."
+// Of several numbers the lowest.
 #[test]
 fn the_lowest_number_wins() {
     let mut bench = with(|b| b.regs[0] = 1);
@@ -91,7 +91,7 @@ fn the_lowest_number_wins() {
     refused(bench, 1_000_001, 1);
 }
 
-// "A run of 0 steps, otherwise good, changes nothing and counts 0 and 0."
+// A good run of no steps leaves all as it was.
 #[test]
 fn a_run_of_nothing() {
     let mut bench = Bench::new();
@@ -152,8 +152,8 @@ fn random_bench(sample: &mut Sample) -> Bench {
     bench
 }
 
-// "A run of n steps leaves what n single steps leave and counts those that retired and those
-// that trapped." And what is lent stays good: c0 zero, tag words 0 or 1.
+// A run is its single steps, one after another, counted. And what is lent stays good: c0 zero, tag
+// words 0 or 1.
 #[test]
 fn a_run_is_its_steps() {
     let mut sample = Sample(31);

@@ -19,8 +19,8 @@ fn without(capability: Capability, lost: u32) -> Capability {
     narrow(capability, !lost)
 }
 
-// "A fetch checks PCC's tag, seal, execute right and four bytes in bounds, then alignment,
-// then access." The order: each state also fails the checks that come later.
+// A fetch: tag, seal, EX and bounds of PCC, alignment, access. The order: each state also fails the
+// checks that come later.
 #[test]
 fn fetch_capability_causes() {
     let outside = START + 0x1002;
@@ -40,8 +40,8 @@ fn fetch_capability_causes() {
     }
 }
 
-// "Misaligned is 0 ... address in mtval"; "Access outside memory is 1 (fetch)". MEPCC gets
-// the address with its low two bits cleared.
+// A fetch that is misaligned is mcause 0, one outside memory 1, with the address. MEPCC gets the
+// address with its low two bits cleared.
 #[test]
 fn fetch_ordinary_causes() {
     let mut bench = Bench::new();
@@ -56,8 +56,8 @@ fn fetch_ordinary_causes() {
     bench.trap_in_place(1, START - 4);
 }
 
-// "the next PCC, the link, and every ... trap entry ... follow the address-move rule, even
-// where the address stays": a sealed PCC arrives untagged in MEPCC, a sealed MTCC in PCC.
+// A trap's entry is by moves, of aligned addresses too: a sealed PCC arrives untagged in MEPCC, a
+// sealed MTCC in PCC.
 #[test]
 fn trap_entry_with_sealed_capabilities() {
     let mut bench = Bench::new();
@@ -78,7 +78,7 @@ fn trap_entry_with_sealed_capabilities() {
     assert_eq!(bench.regs[MTVAL], 1024 + 2);
 }
 
-// The privileged standard: MPIE takes MIE, MIE becomes 0; "other bits stay as lent".
+// The privileged standard: MPIE takes MIE, MIE becomes 0; the other bits stay.
 #[test]
 fn trap_entry_and_mstatus() {
     for (before, after) in [
@@ -94,8 +94,7 @@ fn trap_entry_and_mstatus() {
     }
 }
 
-// "illegal instruction is mcause 2 with the word in mtval"; "Breakpoint is 3 and ecall 11,
-// both with mtval 0".
+// Illegal words are mcause 2, with the word; EBREAK is 3 and ECALL 11, with 0.
 #[test]
 fn illegal_breakpoint_ecall() {
     Bench::new().trap(0, 2, 0);
@@ -154,7 +153,7 @@ fn store_causes() {
     bench_with(memory(far, 4), integer(0)).trap(asm::store(0, C2, C1, 0), 7, far);
 }
 
-// CHERIoT report, CLC and CSC: "not(is_aligned_addr(vaddrBits, cap_size))" with cap_size 8.
+// CHERIoT report, CLC and CSC: a capability's address is a multiple of 8.
 #[test]
 fn capabilities_are_aligned_to_eight() {
     let bench = bench_with(memory(START + 0x40, 64), integer(0));
@@ -206,8 +205,8 @@ fn system_register_causes() {
     }
 }
 
-// Document 01: "every other CSR number is an illegal instruction, whatever PCC's rights"; the
-// CHERIoT report, CSpecialRW: a special register that does not exist is illegal first.
+// Document 01: a CSR number that is none of the three is illegal, SR or no SR; the CHERIoT
+// report, CSpecialRW: a special register that does not exist is illegal first.
 #[test]
 fn unknown_system_registers() {
     for pcc in [
