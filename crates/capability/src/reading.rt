@@ -26,7 +26,7 @@ pub fn rights_of(c: Capability) -> u32
 pub fn has_right(c: Capability, k: u32) -> bool
     ensures { λ r. ⌜ r ≡ grants c k ⌝ }
 {
-    metadata::has_right(c.metadata, k)
+    metadata::has(rights_of(c), k)
 }
 
 // Whether its type is not 0.

@@ -1,4 +1,4 @@
-// The rights of a permission code, and narrowing.
+// The code of some rights, and narrowing.
 use crate::EX;
 use crate::LD;
 use crate::LG;
@@ -10,101 +10,12 @@ use crate::SL;
 use crate::SR;
 use crate::U0;
 use crate::US;
-use crate::word::permissions;
+use crate::masks::rights;
 ghost use mathlib.Core.Path.{_≡_};
 ghost use mathlib.Core.Bool.{_&&_, _||_};
 ghost use Prim.Native.Nat.{_+_, _*_, _<_, _≤_};
 ghost use Rattle.metadata.specs.Word.{withPermissions};
-ghost use Rattle.metadata.specs.Rights.{has, rightsOf, codeOf, wordRights, narrowWord};
-
-// The rights of each of the 64 codes.
-const MASKS: [u16; 64] = [
-    0,
-    512,
-    1024,
-    1536,
-    2048,
-    2560,
-    3072,
-    3584,
-    352,
-    354,
-    360,
-    362,
-    480,
-    482,
-    488,
-    490,
-    68,
-    4,
-    32,
-    36,
-    96,
-    98,
-    104,
-    106,
-    100,
-    102,
-    108,
-    110,
-    116,
-    118,
-    124,
-    126,
-    1,
-    513,
-    1025,
-    1537,
-    2049,
-    2561,
-    3073,
-    3585,
-    353,
-    355,
-    361,
-    363,
-    481,
-    483,
-    489,
-    491,
-    69,
-    5,
-    33,
-    37,
-    97,
-    99,
-    105,
-    107,
-    101,
-    103,
-    109,
-    111,
-    117,
-    119,
-    125,
-    127,
-];
-
-fn wide(x: u16) -> u32
-    ensures { λ r. ⌜ r ≡ x ⌝ }
-{
-    x as u32
-}
-
-// The rights that a code stands for.
-fn code_rights(code: u32) -> u32
-    requires { ⌜ code < 64 ⌝ }
-    ensures { λ r. ⌜ (r ≡ rightsOf code) × (r < 4096) ⌝ }
-{
-    wide(MASKS[code as usize])
-}
-
-// The rights of a metadata word.
-pub fn rights(metadata: u32) -> u32
-    ensures { λ r. ⌜ (r ≡ wordRights metadata) × (r < 4096) ⌝ }
-{
-    code_rights(permissions(metadata))
-}
+ghost use Rattle.metadata.specs.Rights.{has, codeOf, narrowWord};
 
 // Whether right k is among some rights.
 pub fn has(rights: u32, k: u32) -> bool

@@ -1,13 +1,12 @@
 // The metadata word of a capability: its fields, and the rights that its permission code stands for.
 mod codes;
-mod columns;
+mod masks;
 mod word;
 
 pub use codes::encode;
 pub use codes::has;
 pub use codes::narrow;
-pub use codes::rights;
-pub use columns::has_right;
+pub use masks::rights;
 pub use word::base_of;
 pub use word::join;
 pub use word::otype;
