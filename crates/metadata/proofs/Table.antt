@@ -32,7 +32,7 @@ every-at f (suc n) t k h = go (eq-or-lt-of-le h) (every-at f n (and-right (f n) 
     go (inl e) rest = subst (λ x. T (f x)) (omega arith) (and-left (f n) (every f n) t)
     go (inr l) rest = rest (omega arith)
 
--- the entries of the table of rights
+-- the entries of the table of rights, as MASKS has them: an arm that reads another number is not proved by the rule
 unfoldable pub masks : List ℕ
 masks =
     0 ∷ 512 ∷ 1024 ∷ 1536 ∷ 2048 ∷ 2560 ∷ 3072 ∷ 3584 ∷ 352 ∷ 354 ∷ 360 ∷ 362 ∷ 480 ∷ 482 ∷ 488 ∷ 490
@@ -43,14 +43,14 @@ masks =
 right : ℕ → Bool
 right k = eqb (getD masks k 0) (rightsOf k)
 
--- each entry is the rights of its code
-pub mask-right : (code : ℕ) → code < 64 → getD masks code 0 ≡ rightsOf code
+-- the entry of a code is the code's rights
+pub masks-right : (code : ℕ) → code < 64 → getD masks code 0 ≡ rightsOf code
 unfolding masks right rightsOf
-mask-right code h = eqb→eq (getD masks code 0) (rightsOf code) (every-at right 64 tt code h)
+masks-right code h = eqb→eq (getD masks code 0) (rightsOf code) (every-at right 64 tt code h)
 
--- the same of an arm whose key is k
-pub entry : {k code : ℕ} → code ≡ k → T (ltb k 64) → getD masks k 0 ≡ rightsOf code
-entry {k} {code} e t = mask-right k (ltb→lt k 64 t) ∙ ap rightsOf (sym e)
+-- the same where a code was found to be k
+pub key-right : {k code : ℕ} → code ≡ k → T (ltb k 64) → getD masks k 0 ≡ rightsOf code
+key-right {k} {code} e t = masks-right k (ltb→lt k 64 t) ∙ ap rightsOf (sym e)
 
 -- x is none of n keys from a first on
 abbrev pub Misses : (first n x : ℕ) → Type 0
