@@ -1,6 +1,5 @@
 // A capability as a register holds it, and what may be asked of it and done to it.
 mod changing;
-mod choosing;
 mod loading;
 mod reading;
 mod sealing;
@@ -24,6 +23,15 @@ pub use sealing::object_type;
 pub use sealing::seal;
 pub use sealing::unseal;
 pub use sealing::with_object_type;
+
+// The types: none, and those of sentries, which leave, disable and enable interrupts.
+pub const UNSEALED: u32 = 0;
+
+pub const SENTRY: u32 = 1;
+
+pub const SENTRY_DISABLING: u32 = 2;
+
+pub const SENTRY_ENABLING: u32 = 3;
 
 // Address, metadata word, and tag, 0 or 1.
 pub struct Capability {

@@ -2,7 +2,7 @@
 -- Assumes nothing.
 use mathlib.Core.Bool.{Bool, true, false, cond, _&&_, _||_}
 use mathlib.Core.Path.{_≡_}
-use Prim.Native.Nat.{ℕ, _+_, _*_, _/_, _%_, _^_}
+use Prim.Native.Nat.{ℕ, _+_, _-_, _*_, _/_, _%_, _^_}
 use lib.Bits.{bitAnd}
 use lib.Dec.{eqb}
 use Rattle.metadata.specs.Word.{permissionsOf, withPermissions}
@@ -54,6 +54,10 @@ SE = 10
 
 abbrev pub U0 : ℕ
 U0 = 11
+
+-- all twelve
+abbrev pub allRights : ℕ
+allRights = 2 ^ 12 - 1
 
 -- the set that holds the right k where b is 1
 abbrev pub right : (k b : ℕ) → ℕ

@@ -42,6 +42,9 @@ pub const SE: u32 = 10;
 
 pub const U0: u32 = 11;
 
+// All twelve.
+pub const ALL_RIGHTS: u32 = 0xFFF;
+
 pub struct Fields {
     pub reserved: u32,
     pub permissions: u32,

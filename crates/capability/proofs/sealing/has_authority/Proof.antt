@@ -6,16 +6,16 @@ use Rattle.capability.proofs.sealing.has_authority.Tie as tie
 returns : tie.Need-returns
 unfolding authorizes
 returns c =
-    let b = c .before .before .before in
-    let d = b .before .before .before in
+    let at-tagged = c .before .before .before in
+    let at-right = at-tagged .before .before .before in
     simp (
       c .both3 .ensures,
       c .before .both2 .ensures,
       c .before .before .is-sealed .ensures,
-      b .is-tagged .ensures,
-      b .before .both .ensures,
-      b .before .before .in-bounds .ensures,
-      d .has-right .ensures,
+      at-tagged .is-tagged .ensures,
+      at-tagged .before .both .ensures,
+      at-tagged .before .before .in-bounds .ensures,
+      at-right .has-right .ensures,
     )
 
 pub has-authority-spec : {M : Type 1} → statement M
