@@ -71,9 +71,9 @@ sealOf c a =
 unfoldable pub globalMask : (authority : Capability) → ℕ
 globalMask a = cond (grants a GL) allRights (allRights - 2 ^ GL)
 
+-- CUnseal: type 0, GL only if both have it; the tag is kept only of a sealed capability, by an authority with US whose address is its type
 -- 7.13.2 asks for less of the authority, bounds that hold the type, and for more of the type, that it be none of the reserved 4 and 5. The
 -- clause in 9.4 decides: the address is the type, and no type is shut out.
--- CUnseal: type 0, GL only if both have it; the tag is kept only of a sealed capability, by an authority with US whose address is its type
 unfoldable pub unsealOf : (c authority : Capability) → Capability
 unsealOf c a =
     capability (c .address) (withType (narrowWord (c .metadata) (globalMask a)) 0)
