@@ -16,7 +16,7 @@ const WITHOUT_GLOBAL: u32 = metadata::ALL_RIGHTS - (1 << metadata::GL) - (1 << m
 const WITHOUT_MUTABLE: u32 = metadata::ALL_RIGHTS - (1 << metadata::SD) - (1 << metadata::LM);
 
 // The value with its rights narrowed to a mask where the test passes.
-fn narrowed_if(test: bool, mask: u32, v: Capability) -> Capability
+fn loses_if(test: bool, mask: u32, v: Capability) -> Capability
     ensures { λ r. ⌜ r ≡ losesIf test mask v ⌝ }
 {
     if test {
@@ -35,7 +35,7 @@ fn lose_global(granted: u32, v: Capability) -> Capability
     ensures { λ r. ⌜ r ≡ losesIf (tagged v && not (has granted LG)) (without GL LG) v ⌝ }
 {
     let lost = choices::both(is_tagged(v), !metadata::has(granted, metadata::LG));
-    narrowed_if(lost, WITHOUT_GLOBAL, v)
+    loses_if(lost, WITHOUT_GLOBAL, v)
 }
 
 // Without LM a tagged value that is not sealed keeps neither SD nor LM.
@@ -43,7 +43,7 @@ fn lose_mutable(granted: u32, v: Capability) -> Capability
     ensures { λ r. ⌜ r ≡ losesIf (tagged v && (not (has granted LM) && not (sealed v))) (without SD LM) v ⌝ }
 {
     let open = choices::both(!metadata::has(granted, metadata::LM), !is_sealed(v));
-    narrowed_if(choices::both(is_tagged(v), open), WITHOUT_MUTABLE, v)
+    loses_if(choices::both(is_tagged(v), open), WITHOUT_MUTABLE, v)
 }
 
 // Without MC the tag goes.

@@ -60,7 +60,7 @@ pub fn is_sentry(c: Capability) -> bool
 }
 
 // Whether the capability may be sealed with a type.
-fn permits_type(c: Capability, t: u32) -> bool
+fn permitted_type(c: Capability, t: u32) -> bool
     ensures { λ r. ⌜ r ≡ permittedType c t ⌝ }
 {
     if has_right(c, metadata::EX) {
@@ -81,17 +81,17 @@ fn holds(region: Region, address: u32) -> bool
 }
 
 // Whether the capability's own address lies in its bounds.
-fn in_bounds(c: Capability) -> bool
+fn address_in_bounds(c: Capability) -> bool
     ensures { λ r. ⌜ r ≡ addressInBounds c ⌝ }
 {
     holds(bounds_of(c), c.address)
 }
 
 // Whether the capability is an authority by right k.
-fn has_authority(c: Capability, k: u32) -> bool
+fn authorizes(c: Capability, k: u32) -> bool
     ensures { λ r. ⌜ r ≡ authorizes c k ⌝ }
 {
-    let granted = choices::both(has_right(c, k), in_bounds(c));
+    let granted = choices::both(has_right(c, k), address_in_bounds(c));
     choices::both(is_tagged(c), choices::both(!is_sealed(c), granted))
 }
 
@@ -112,8 +112,8 @@ pub fn seal(c: Capability, authority: Capability) -> Capability
     ensures { λ r. ⌜ r ≡ sealOf c authority ⌝ }
 {
     let allowed = choices::both(
-        has_authority(authority, metadata::SE),
-        permits_type(c, authority.address),
+        authorizes(authority, metadata::SE),
+        permitted_type(c, authority.address),
     );
     let tag = choices::choose(choices::both(!is_sealed(c), allowed), c.tag, 0);
     let metadata = metadata::with_type(c.metadata, authority.address);
@@ -140,7 +140,7 @@ pub fn unseal(c: Capability, authority: Capability) -> Capability
     ensures { λ r. ⌜ r ≡ unsealOf c authority ⌝ }
 {
     let allowed = choices::both(
-        has_authority(authority, metadata::US),
+        authorizes(authority, metadata::US),
         authority.address == object_type(c),
     );
     let tag = choices::choose(choices::both(is_sealed(c), allowed), c.tag, 0);

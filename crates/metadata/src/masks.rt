@@ -74,8 +74,7 @@ const MASKS: [u16; 64] = [
 
 // The mask of a code with GL, the upper half of the table.
 fn upper_mask(code: u32) -> u16
-    requires { ⌜ (32 ≤ code) × (code < 64) ⌝ }
-    ensures { λ r. ⌜ r ≡ rightsOf code ⌝ }
+    ensures { λ r. ⌜ (32 ≤ code → code < 64 → r ≡ rightsOf code) ⌝ }
 {
     let table = MASKS;
     match code {
@@ -116,8 +115,7 @@ fn upper_mask(code: u32) -> u16
 
 // The mask of a code. Read by cases, the table becomes read-only data; an index would have it copied to the stack at each read.
 fn mask_of(code: u32) -> u16
-    requires { ⌜ code < 64 ⌝ }
-    ensures { λ r. ⌜ r ≡ rightsOf code ⌝ }
+    ensures { λ r. ⌜ (code < 64 → r ≡ rightsOf code) ⌝ }
 {
     let table = MASKS;
     match code {

@@ -5,7 +5,7 @@ use Rattle.capability.proofs.loading.lose_global.Tie as tie
 returns : tie.Need-returns
 returns c =
     let at-both = c .before in
-    simp (c .narrowed-if .ensures, at-both .both .ensures, at-both .before .has .ensures, at-both .before .before .is-tagged .ensures)
+    simp (c .loses-if .ensures, at-both .both .ensures, at-both .before .has .ensures, at-both .before .before .is-tagged .ensures)
 
 pub lose-global-spec : {M : Type 1} → statement M
 lose-global-spec =

@@ -7,7 +7,7 @@ returns c =
     let at-tagged = c .before .before in
     let at-open = at-tagged .before in
     simp (
-      c .narrowed-if .ensures,
+      c .loses-if .ensures,
       c .before .both2 .ensures,
       at-tagged .is-tagged .ensures,
       at-open .both .ensures,

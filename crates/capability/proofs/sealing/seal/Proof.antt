@@ -14,8 +14,8 @@ returns c =
       c .before .before .both2 .ensures,
       at-sealed .is-sealed .ensures,
       at-sealed .before .both .ensures,
-      at-sealed .before .before .permits-type .ensures,
-      at-authority .has-authority .ensures,
+      at-sealed .before .before .permitted-type .ensures,
+      at-authority .authorizes .ensures,
     )
 
 pub seal-spec : {M : Type 1} → statement M

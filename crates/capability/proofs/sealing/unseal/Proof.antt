@@ -18,7 +18,7 @@ returns c =
       at-choose .before .before .is-sealed .ensures,
       at-allowed .both .ensures,
       at-allowed .before .before .object-type .ensures .0,
-      at-authority .has-authority .ensures,
+      at-authority .authorizes .ensures,
     )
 
 pub unseal-spec : {M : Type 1} → statement M

@@ -8,7 +8,8 @@ use Rattle.metadata.proofs.masks.rights.Tie as tie
 
 returns : tie.Need-returns
 returns c =
-    let e = c .mask-of .ensures ∙ ap rightsOf (c .before .permissions .ensures .0) in
+    let code = c .before .permissions .ensures in
+    let e = c .mask-of .ensures (code .1) ∙ ap rightsOf (code .0) in
     (e, omega (arith, e, word-rights-lt (c .before .before .args .metadata)))
 
 pub rights-spec : {M : Type 1} → statement M

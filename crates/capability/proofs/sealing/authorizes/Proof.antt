@@ -1,7 +1,7 @@
 use Rattle.capability.specs.Sealing.{authorizes}
 use borrow.Author.Needs.{needs}
-use Rattle.capability.proofs.sealing.has_authority.Statement.{statement}
-use Rattle.capability.proofs.sealing.has_authority.Tie as tie
+use Rattle.capability.proofs.sealing.authorizes.Statement.{statement}
+use Rattle.capability.proofs.sealing.authorizes.Tie as tie
 
 returns : tie.Need-returns
 unfolding authorizes
@@ -14,12 +14,12 @@ returns c =
       c .before .before .is-sealed .ensures,
       at-tagged .is-tagged .ensures,
       at-tagged .before .both .ensures,
-      at-tagged .before .before .in-bounds .ensures,
+      at-tagged .before .before .address-in-bounds .ensures,
       at-right .has-right .ensures,
     )
 
-pub has-authority-spec : {M : Type 1} → statement M
-has-authority-spec =
+pub authorizes-spec : {M : Type 1} → statement M
+authorizes-spec =
     tie.close
     (tie.spec
     (λ c κs. search needs)
