@@ -6,14 +6,15 @@ use Prim.Native.Nat.{ℕ, _+_, _%_, _^_, _≤_, _<_}
 use native.Mathlib.Omega.{arith}
 use lib.Dec.{eqb}
 use Rattle.metadata.specs.Word.{typeOf}
-use Rattle.metadata.specs.Rights.{narrowWord, GL, LG, SD, LM, MC, US, SE}
+use Rattle.metadata.specs.Rights.{narrowWord, GL, LG, SD, LM, MC, EX, US, SE}
 use Rattle.metadata.proofs.Words.{type-lt, type-word}
 use Rattle.metadata.proofs.Narrowed.{word-rights-lt, narrow-word}
 use Rattle.bounds.specs.Cutting.{unrounded}
 use Rattle.bounds.proofs.Limits as limits
 use Rattle.capability.specs.declared.Capability.{Capability}
-use Rattle.capability.specs.Capability.{Good, integer, low, high, rights, sealed, unsealed, grants, tagged, covers, sameBounds, clearTag, moveOf, setBoundsOf, setBoundsExactOf, narrowOf}
-use Rattle.capability.specs.Sealing.{objectType, authorizes, permittedType, withObjectType, globalMask, sealOf, unsealOf}
+use Rattle.capability.specs.Capability.{Good, integer, low, high, rights, sealed, unsealed, grants, tagged, covers, sameBounds}
+use Rattle.capability.specs.Capability.{clearTag, moveOf, setBoundsOf, setBoundsExactOf, narrowOf}
+use Rattle.capability.specs.Sealing.{dataTypes, objectType, authorizes, permittedType, withObjectType, globalMask, sealOf, unsealOf}
 use Rattle.capability.specs.Loading.{loseGlobal, loseMutable, loseTag, loadedOf, without}
 
 -- ---- limits
@@ -37,7 +38,7 @@ either-lt false a b n h k = k
 pub object-type-lt : (c : Capability) → objectType c < 16
 unfolding objectType
 object-type-lt c =
-    either-lt (sealed c && not (grants c 8)) (8 + typeOf (c .metadata)) (typeOf (c .metadata)) 16 (omega (arith, type-lt (c .metadata)))
+    either-lt (sealed c && not (grants c EX)) (dataTypes + typeOf (c .metadata)) (typeOf (c .metadata)) 16 (omega (arith, type-lt (c .metadata)))
     (omega (arith, type-lt (c .metadata)))
 
 -- ---- tags
@@ -152,6 +153,6 @@ global-address a v g = g .address-fits
 pub loaded-good : (a v : Capability) → Good v → Good (loadedOf a v)
 unfolding loadedOf loseTag loseMutable
 loaded-good a v g =
-    good v (loadedOf a v) g (global-address a v g)
-    (narrowed-word (tagged (loseGlobal a v) && (not (grants a LM) && not (sealed (loseGlobal a v)))) (loseGlobal a v .metadata) (without SD LM) (global-word a v g))
-    (loaded-kept a v)
+    let u = loseGlobal a v in
+    let lost = tagged u && (not (grants a LM) && not (sealed u)) in
+    good v (loadedOf a v) g (global-address a v g) (narrowed-word lost (u .metadata) (without SD LM) (global-word a v g)) (loaded-kept a v)

@@ -36,7 +36,7 @@ rights c = wordRights (c .metadata)
 abbrev pub grants : Capability → ℕ → Bool
 grants c k = has (rights c) k
 
--- "unsealed (type 0)"
+-- a type other than 0
 unfoldable pub sealed : Capability → Bool
 sealed c = not (eqb (typeOf (c .metadata)) 0)
 
@@ -61,11 +61,12 @@ keepTagIf b c = capability (c .address) (c .metadata) (cond b (c .tag) 0)
 unfoldable pub sameBounds : Capability → (address : ℕ) → Bool
 sameBounds c a = eqb (lowAt a (c .metadata)) (low c) && eqb (highAt a (c .metadata)) (high c)
 
--- "An address move keeps a set tag exactly if both bounds stay the same and the capability is unsealed."
+-- a move to another address: a sealed capability, and one whose bounds would change with it, lose the tag
 unfoldable pub moveOf : Capability → (address : ℕ) → Capability
 moveOf c a = capability a (c .metadata) (cond (unsealed c && sameBounds c a) (c .tag) 0)
 
--- CSetBounds: "clears the tag exactly if the authority is untagged, sealed or doesn't contain the request"; the exact form "also if rounding changed anything"
+-- CSetBounds, a cut to [address, address + length): the tag goes where the capability is sealed or does not cover the request, and in the
+-- exact form also where the cut is not the request itself
 abbrev pub cutWord : Capability → (length : ℕ) → ℕ
 cutWord c n = withCut (c .metadata) (c .address) (c .address + n)
 
@@ -77,6 +78,6 @@ setBoundsExactOf c n =
     capability (c .address) (cutWord c n)
     (cond (unsealed c && (covers c (c .address) (c .address + n) && unrounded (c .address) (c .address + n))) (c .tag) 0)
 
--- narrowing, CAndPerm: "address and bounds stay, and on an unsealed capability the tag too"; on a sealed one the tag is cleared (CHERIoT report, 9.4)
+-- narrowing, CAndPerm: the rights alone change, but that a sealed capability loses its tag (CHERIoT report, 9.4)
 unfoldable pub narrowOf : Capability → (mask : ℕ) → Capability
 narrowOf c mask = capability (c .address) (narrowWord (c .metadata) mask) (cond (unsealed c) (c .tag) 0)

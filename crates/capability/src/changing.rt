@@ -1,7 +1,5 @@
 // Another address, other bounds, fewer rights: each keeps the tag only by its own rule.
 use crate::Capability;
-use crate::choosing::both;
-use crate::choosing::choose;
 use crate::reading::covers_range;
 use crate::reading::is_unsealed;
 ghost use mathlib.Core.Path.{_≡_};
@@ -41,7 +39,7 @@ pub fn move_address(c: Capability, to: u32) -> Capability
     ensures { λ r. ⌜ r ≡ moveOf c to ⌝ }
 {
     let unsealed = is_unsealed(c);
-    let tag = choose(both(unsealed, same_bounds(c, to)), c.tag, 0);
+    let tag = choices::choose(choices::both(unsealed, same_bounds(c, to)), c.tag, 0);
     Capability {
         address: to,
         metadata: c.metadata,
@@ -55,7 +53,7 @@ pub fn set_bounds(c: Capability, length: u32) -> Capability
 {
     let start = c.address as u64;
     let inside = covers_range(c, start, start + length as u64);
-    let tag = choose(both(is_unsealed(c), inside), c.tag, 0);
+    let tag = choices::choose(choices::both(is_unsealed(c), inside), c.tag, 0);
     let metadata = bounds::with_cut(c.metadata, c.address, length);
     Capability {
         address: c.address,
@@ -70,8 +68,8 @@ pub fn set_bounds_exact(c: Capability, length: u32) -> Capability
 {
     let start = c.address as u64;
     let inside = covers_range(c, start, start + length as u64);
-    let exact = both(inside, bounds::is_unrounded(c.address, length));
-    let tag = choose(both(is_unsealed(c), exact), c.tag, 0);
+    let exact = choices::both(inside, bounds::is_unrounded(c.address, length));
+    let tag = choices::choose(choices::both(is_unsealed(c), exact), c.tag, 0);
     let metadata = bounds::with_cut(c.metadata, c.address, length);
     Capability {
         address: c.address,
@@ -80,11 +78,11 @@ pub fn set_bounds_exact(c: Capability, length: u32) -> Capability
     }
 }
 
-// CAndPerm: the rights that both the capability and the mask have.
+// CAndPerm: no right that is not in the mask.
 pub fn narrow_rights(c: Capability, mask: u32) -> Capability
     ensures { λ r. ⌜ r ≡ narrowOf c mask ⌝ }
 {
-    let tag = choose(is_unsealed(c), c.tag, 0);
+    let tag = choices::choose(is_unsealed(c), c.tag, 0);
     let metadata = metadata::narrow(c.metadata, mask);
     Capability {
         address: c.address,

@@ -1,6 +1,5 @@
 // A capability as a register holds it, and what may be asked of it and done to it.
 mod changing;
-mod choosing;
 mod loading;
 mod reading;
 mod sealing;
@@ -25,7 +24,9 @@ pub use sealing::seal;
 pub use sealing::unseal;
 pub use sealing::with_object_type;
 
-// The types of sentries: 1 inherits, 2 disables and 3 enables interrupts.
+// The types: none, and those of sentries, which leave, disable and enable interrupts.
+pub const UNSEALED: u32 = 0;
+
 pub const SENTRY: u32 = 1;
 
 pub const SENTRY_DISABLING: u32 = 2;

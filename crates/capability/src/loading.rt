@@ -1,16 +1,22 @@
 // What a capability loses as it is loaded.
 use crate::Capability;
-use crate::choosing::both;
-use crate::choosing::choose;
-use crate::choosing::either;
-use crate::reading::has_right;
 use crate::reading::is_sealed;
 use crate::reading::is_tagged;
+use crate::reading::rights_of;
 ghost use mathlib.Core.Path.{_≡_};
-ghost use Rattle.capability.specs.Loading.{losesIf, loseGlobal, loseMutable, loseTag, loadedOf, revocable};
+ghost use mathlib.Core.Bool.{not, _&&_};
+ghost use Rattle.metadata.specs.Rights.{has, GL, LG, SD, LM, MC};
+ghost use Rattle.capability.specs.Capability.{keepTagIf, sealed, tagged};
+ghost use Rattle.capability.specs.Loading.{losesIf, without, loadedOf, revocable};
+
+// All rights but GL and LG.
+const WITHOUT_GLOBAL: u32 = metadata::ALL_RIGHTS - (1 << metadata::GL) - (1 << metadata::LG);
+
+// All rights but SD and LM.
+const WITHOUT_MUTABLE: u32 = metadata::ALL_RIGHTS - (1 << metadata::SD) - (1 << metadata::LM);
 
 // The value with its rights narrowed to a mask where the test passes.
-fn narrowed_if(test: bool, mask: u32, v: Capability) -> Capability
+fn loses_if(test: bool, mask: u32, v: Capability) -> Capability
     ensures { λ r. ⌜ r ≡ losesIf test mask v ⌝ }
 {
     if test {
@@ -24,30 +30,27 @@ fn narrowed_if(test: bool, mask: u32, v: Capability) -> Capability
     }
 }
 
-// Without LG on the authority a tagged value loses GL and LG.
-fn lose_global(authority: Capability, v: Capability) -> Capability
-    ensures { λ r. ⌜ r ≡ loseGlobal authority v ⌝ }
+// Without LG among the authority's rights a tagged value keeps neither GL nor LG.
+fn lose_global(granted: u32, v: Capability) -> Capability
+    ensures { λ r. ⌜ r ≡ losesIf (tagged v && not (has granted LG)) (without GL LG) v ⌝ }
 {
-    narrowed_if(
-        both(is_tagged(v), !has_right(authority, metadata::LG)),
-        0xFFC,
-        v,
-    )
+    let lost = choices::both(is_tagged(v), !metadata::has(granted, metadata::LG));
+    loses_if(lost, WITHOUT_GLOBAL, v)
 }
 
-// Without LM a tagged, unsealed value loses SD and LM.
-fn lose_mutable(authority: Capability, v: Capability) -> Capability
-    ensures { λ r. ⌜ r ≡ loseMutable authority v ⌝ }
+// Without LM a tagged value that is not sealed keeps neither SD nor LM.
+fn lose_mutable(granted: u32, v: Capability) -> Capability
+    ensures { λ r. ⌜ r ≡ losesIf (tagged v && (not (has granted LM) && not (sealed v))) (without SD LM) v ⌝ }
 {
-    let open = both(!has_right(authority, metadata::LM), !is_sealed(v));
-    narrowed_if(both(is_tagged(v), open), 0xFF3, v)
+    let open = choices::both(!metadata::has(granted, metadata::LM), !is_sealed(v));
+    loses_if(choices::both(is_tagged(v), open), WITHOUT_MUTABLE, v)
 }
 
-// Without MC the tag is cleared.
-fn lose_tag(authority: Capability, v: Capability) -> Capability
-    ensures { λ r. ⌜ r ≡ loseTag authority v ⌝ }
+// Without MC the tag goes.
+fn lose_tag(granted: u32, v: Capability) -> Capability
+    ensures { λ r. ⌜ r ≡ keepTagIf (has granted MC) v ⌝ }
 {
-    let tag = choose(has_right(authority, metadata::MC), v.tag, 0);
+    let tag = choices::choose(metadata::has(granted, metadata::MC), v.tag, 0);
     Capability {
         address: v.address,
         metadata: v.metadata,
@@ -55,22 +58,22 @@ fn lose_tag(authority: Capability, v: Capability) -> Capability
     }
 }
 
-// A value as it is loaded through an authority.
+// A value as it is loaded through an authority, whose rights are read once.
 pub fn loaded(authority: Capability, value: Capability) -> Capability
     ensures { λ r. ⌜ r ≡ loadedOf authority value ⌝ }
 {
-    lose_tag(
-        authority,
-        lose_mutable(authority, lose_global(authority, value)),
-    )
+    let granted = rights_of(authority);
+    lose_tag(granted, lose_mutable(granted, lose_global(granted, value)))
 }
 
-// Whether the revocation test is for this value: tagged, with neither SE nor US.
+// Whether the revocation test is for this value: it is tagged, and can neither seal nor unseal.
 pub fn is_revocable(v: Capability) -> bool
     ensures { λ r. ⌜ r ≡ revocable v ⌝ }
 {
-    both(
-        is_tagged(v),
-        !either(has_right(v, metadata::SE), has_right(v, metadata::US)),
-    )
+    let held = rights_of(v);
+    let seals = choices::either(
+        metadata::has(held, metadata::SE),
+        metadata::has(held, metadata::US),
+    );
+    choices::both(is_tagged(v), !seals)
 }

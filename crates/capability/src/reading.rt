@@ -1,6 +1,6 @@
 // What a capability is: its bounds, rights, seal and tag.
 use crate::Capability;
-use crate::choosing::both;
+use crate::UNSEALED;
 use bounds::Region;
 ghost use mathlib.Core.Path.{_≡_};
 ghost use mathlib.Core.Bool.{_&&_};
@@ -26,20 +26,20 @@ pub fn rights_of(c: Capability) -> u32
 pub fn has_right(c: Capability, k: u32) -> bool
     ensures { λ r. ⌜ r ≡ grants c k ⌝ }
 {
-    metadata::has_right(c.metadata, k)
+    metadata::has(rights_of(c), k)
 }
 
-// Whether its type is not 0.
+// Whether it has a type.
 pub fn is_sealed(c: Capability) -> bool
     ensures { λ r. ⌜ r ≡ sealed c ⌝ }
 {
-    metadata::otype(c.metadata) != 0
+    metadata::otype(c.metadata) != UNSEALED
 }
 
 pub(crate) fn is_unsealed(c: Capability) -> bool
     ensures { λ r. ⌜ r ≡ unsealed c ⌝ }
 {
-    metadata::otype(c.metadata) == 0
+    metadata::otype(c.metadata) == UNSEALED
 }
 
 // Whether its tag is set.
@@ -53,7 +53,7 @@ pub fn is_tagged(c: Capability) -> bool
 fn contains(region: Region, base: u64, end: u64) -> bool
     ensures { λ r. ⌜ r ≡ (leb (region .low) base && leb end (region .high)) ⌝ }
 {
-    both(region.low as u64 <= base, end <= region.high)
+    choices::both(region.low as u64 <= base, end <= region.high)
 }
 
 // Whether the capability's region contains [base, end), in whole numbers.

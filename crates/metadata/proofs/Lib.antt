@@ -4,4 +4,3 @@ pub mod Words
 pub mod Joined
 pub mod Narrowing
 pub mod Narrowed
-pub mod Holders

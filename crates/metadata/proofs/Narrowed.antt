@@ -11,7 +11,8 @@ use lib.Dec.{ltb}
 use lib.Pow.{pow-mono}
 use Rattle.metadata.specs.Word.{reservedOf, permissionsOf, typeOf, scaleOf, topOf, baseOf}
 use Rattle.metadata.specs.Rights.{bit, rightsOf, codeOf, wordRights, narrowWord}
-use Rattle.metadata.proofs.Words.{permissions-lt, permissions-of-permissions, reserved-of-permissions, type-of-permissions, scale-of-permissions, top-of-permissions, base-of-permissions, permissions-word}
+use Rattle.metadata.proofs.Words.{permissions-lt, permissions-word, permissions-of-permissions, reserved-of-permissions}
+use Rattle.metadata.proofs.Words.{type-of-permissions, scale-of-permissions, top-of-permissions, base-of-permissions}
 use Rattle.metadata.proofs.Narrowing.{rights-fit, code-fits, code-narrows, mask-left, mask-right, masked-rights}
 
 pub word-rights-lt : (w : ℕ) → wordRights w < 4096

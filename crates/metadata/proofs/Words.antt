@@ -46,13 +46,14 @@ join : (w a b c d e f p q r t : ℕ) → a + p ≡ w → p ≡ b + q → q ≡ c
 join w a b c d e f p q r t h i j k l = omega arith
 
 pub word-apart : (w : ℕ)
-    → w / 2 ^ 31 * 2 ^ 31 + w / 2 ^ 25 % 2 ^ 6 * 2 ^ 25 + w / 2 ^ 22 % 2 ^ 3 * 2 ^ 22 + w / 2 ^ 18 % 2 ^ 4 * 2 ^ 18 + w / 2 ^ 9 % 2 ^ 9 * 2 ^ 9 + w % 2 ^ 9 ≡ w
+    → w / 2 ^ 31 * 2 ^ 31 + w / 2 ^ 25 % 2 ^ 6 * 2 ^ 25 + w / 2 ^ 22 % 2 ^ 3 * 2 ^ 22 + w / 2 ^ 18 % 2 ^ 4 * 2 ^ 18
+    + w / 2 ^ 9 % 2 ^ 9 * 2 ^ 9 + w % 2 ^ 9 ≡ w
 word-apart w = join w _ _ _ _ _ _ _ _ _ _ (split w 31) (mod-pow-add w 6 25) (mod-pow-add w 3 22) (mod-pow-add w 4 18) (mod-pow-add w 9 9)
 
 top-bit : (w : ℕ) → w < 2 ^ 32 → w / 2 ^ 31 % 2 ≡ w / 2 ^ 31
 top-bit w h = omega arith
 
--- "Taking a metadata word apart and putting it together again gives the same word, for all 2^32 words"
+-- the fields of a word, put together, are that word: document 01, "Capability word"
 pub same-word : (w : ℕ) → w < 2 ^ 32 → wordOf (fieldsOf w) ≡ w
 unfolding wordOf fieldsOf reservedOf permissionsOf typeOf scaleOf topOf baseOf
 same-word w h = simp (mod-mod, top-bit w h, word-apart w)

@@ -2,7 +2,7 @@
 -- Assumes nothing.
 use mathlib.Core.Bool.{Bool, true, false, cond, _&&_, _||_}
 use mathlib.Core.Path.{_≡_}
-use Prim.Native.Nat.{ℕ, _+_, _*_, _/_, _%_, _^_}
+use Prim.Native.Nat.{ℕ, _+_, _-_, _*_, _/_, _%_, _^_}
 use lib.Bits.{bitAnd}
 use lib.Dec.{eqb}
 use Rattle.metadata.specs.Word.{permissionsOf, withPermissions}
@@ -18,7 +18,7 @@ has r k = eqb (bit r k) 1
 abbrev pub Has : (r k : ℕ) → Type 0
 Has r k = bit r k ≡ 1
 
--- "Permission numbers from bit 0: GL, LG, SD, LM, SL, LD, MC, SR, EX, US, SE, U0"
+-- the rights by their places in a mask, lowest bit first (document 01, "Capability word")
 abbrev pub GL : ℕ
 GL = 0
 
@@ -55,11 +55,15 @@ SE = 10
 abbrev pub U0 : ℕ
 U0 = 11
 
+-- all twelve
+abbrev pub allRights : ℕ
+allRights = 2 ^ 12 - 1
+
 -- the set that holds the right k where b is 1
 abbrev pub right : (k b : ℕ) → ℕ
 right k b = b * 2 ^ k
 
--- The rights of a code: those that it holds and those also granted. The six rows of the paper's table, in its order; the bits after GL name the row.
+-- The rights of a code: the bits that its row names, and those that the row grants besides. The rows stand in the order of document 01's table.
 unfoldable pub rightsOf : (code : ℕ) → ℕ
 rightsOf c =
     right GL (bit c 5)
@@ -70,13 +74,13 @@ rightsOf c =
     (cond (eqb (c / 8 % 4) 1) (right SR (bit c 2) + right LM (bit c 1) + right LG (bit c 0) + (2 ^ EX + 2 ^ LD + 2 ^ MC))
     (right U0 (bit c 2) + right SE (bit c 1) + right US (bit c 0))))))
 
--- The code that narrowing picks: GL, and the first that fits of EX, LD and MC; LD, MC and SD; LD and MC; SD and MC; LD or SD; the last row.
--- Rights without a place in that row are dropped.
+-- The code that narrowing picks: GL, and of the rows, in document 01's order of preference, the first whose granted rights are all there.
+-- What that row has no bit for is lost.
 unfoldable pub codeOf : (rights : ℕ) → ℕ
 codeOf r =
     bit r GL * 32
-    + cond (has r EX && has r LD && has r MC) (8 + bit r SR * 4 + bit r LM * 2 + bit r LG)
-    (cond (has r LD && has r MC && has r SD) (24 + bit r SL * 4 + bit r LM * 2 + bit r LG)
+    + cond (has r EX && (has r LD && has r MC)) (8 + bit r SR * 4 + bit r LM * 2 + bit r LG)
+    (cond (has r LD && (has r MC && has r SD)) (24 + bit r SL * 4 + bit r LM * 2 + bit r LG)
     (cond (has r LD && has r MC) (20 + bit r LM * 2 + bit r LG)
     (cond (has r SD && has r MC) 16
     (cond (has r LD || has r SD) (16 + bit r LD * 2 + bit r SD)

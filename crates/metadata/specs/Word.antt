@@ -1,4 +1,5 @@
--- The metadata word of a capability. Document 01, "Capability word": high bit first, reserved 1, permissions 6, type 3, E 4, T 9, B 9.
+-- The metadata word of a capability, from its highest bit down: 1 bit reserved, 6 of permissions, 3 of the type, 4 of E, 9 of T and 9 of B
+-- (document 01, "Capability word").
 -- Assumes nothing.
 use Prim.Native.Nat.{ℕ, _+_, _*_, _/_, _%_, _^_, _<_}
 use Rattle.metadata.specs.declared.Fields.{Fields}

@@ -1,4 +1,4 @@
-// The rights of a permission code, and narrowing.
+// The code of some rights, and narrowing.
 use crate::EX;
 use crate::LD;
 use crate::LG;
@@ -10,129 +10,39 @@ use crate::SL;
 use crate::SR;
 use crate::U0;
 use crate::US;
-use crate::word::permissions;
+use crate::masks::rights;
+use crate::word::with_permissions;
 ghost use mathlib.Core.Path.{_≡_};
-ghost use mathlib.Core.Bool.{_&&_, _||_};
 ghost use Prim.Native.Nat.{_+_, _*_, _<_, _≤_};
-ghost use Rattle.metadata.specs.Word.{withPermissions};
-ghost use Rattle.metadata.specs.Rights.{has, rightsOf, codeOf, wordRights, narrowWord};
+ghost use Rattle.metadata.specs.Rights.{has, codeOf, narrowWord};
 
-// The rights of each of the 64 codes.
-const MASKS: [u16; 64] = [
-    0,
-    512,
-    1024,
-    1536,
-    2048,
-    2560,
-    3072,
-    3584,
-    352,
-    354,
-    360,
-    362,
-    480,
-    482,
-    488,
-    490,
-    68,
-    4,
-    32,
-    36,
-    96,
-    98,
-    104,
-    106,
-    100,
-    102,
-    108,
-    110,
-    116,
-    118,
-    124,
-    126,
-    1,
-    513,
-    1025,
-    1537,
-    2049,
-    2561,
-    3073,
-    3585,
-    353,
-    355,
-    361,
-    363,
-    481,
-    483,
-    489,
-    491,
-    69,
-    5,
-    33,
-    37,
-    97,
-    99,
-    105,
-    107,
-    101,
-    103,
-    109,
-    111,
-    117,
-    119,
-    125,
-    127,
-];
+// The bits of a word of rights.
+const WORD_BITS: u32 = 32;
 
-fn wide(x: u16) -> u32
-    ensures { λ r. ⌜ r ≡ x ⌝ }
-{
-    x as u32
-}
+// The weight of GL in a code, and the first code of each row of document 01's table, without GL.
+const GLOBAL: u32 = 32;
 
-// The rights that a code stands for.
-fn code_rights(code: u32) -> u32
-    requires { ⌜ code < 64 ⌝ }
-    ensures { λ r. ⌜ (r ≡ rightsOf code) × (r < 4096) ⌝ }
-{
-    wide(MASKS[code as usize])
-}
+const MEMORY_ROW: u32 = 24;
 
-// The rights of a metadata word.
-pub fn rights(metadata: u32) -> u32
-    ensures { λ r. ⌜ (r ≡ wordRights metadata) × (r < 4096) ⌝ }
-{
-    code_rights(permissions(metadata))
-}
+const LOADING_ROW: u32 = 20;
+
+const STORING_ROW: u32 = 16;
+
+const DATA_ROW: u32 = 16;
+
+const EXECUTABLE_ROW: u32 = 8;
+
+const SEALING_ROW: u32 = 0;
 
 // Whether right k is among some rights.
 pub fn has(rights: u32, k: u32) -> bool
     ensures { λ r. ⌜ r ≡ has rights k ⌝ }
 {
-    if k < 32 {
+    if k < WORD_BITS {
         (rights >> k) % 2 == 1
     } else {
         false
     }
-}
-
-fn both(a: bool, b: bool) -> bool
-    ensures { λ r. ⌜ r ≡ (a && b) ⌝ }
-{
-    a && b
-}
-
-fn all_three(a: bool, b: bool, c: bool) -> bool
-    ensures { λ r. ⌜ r ≡ (a && b && c) ⌝ }
-{
-    both(both(a, b), c)
-}
-
-fn either(a: bool, b: bool) -> bool
-    ensures { λ r. ⌜ r ≡ (a || b) ⌝ }
-{
-    a || b
 }
 
 // A code: GL, the first code of a row, and the row's three low bits.
@@ -140,7 +50,7 @@ fn code(gl: u32, row: u32, high: u32, middle: u32, low: u32) -> u32
     requires { ⌜ (gl < 2) × (row ≤ 24) × (high < 2) × (middle < 2) × (low < 2) ⌝ }
     ensures { λ r. ⌜ (r ≡ gl * 32 + (row + high * 4 + middle * 2 + low)) × (r < 64) ⌝ }
 {
-    gl * 32 + (row + high * 4 + middle * 2 + low)
+    gl * GLOBAL + (row + high * 4 + middle * 2 + low)
 }
 
 // The code of some rights: the first row that fits.
@@ -150,40 +60,32 @@ pub fn encode(rights: u32) -> u32
     let gl = rights % 2;
     let lg = (rights >> LG) % 2;
     let lm = (rights >> LM) % 2;
-    let has_sd = (rights >> SD) % 2 == 1;
-    let has_ld = (rights >> LD) % 2 == 1;
-    let has_mc = (rights >> MC) % 2 == 1;
-    let has_ex = (rights >> EX) % 2 == 1;
-    if all_three(has_ex, has_ld, has_mc) {
-        return code(gl, 8, (rights >> SR) % 2, lm, lg);
+    let sd = (rights >> SD) % 2 == 1;
+    let ld = (rights >> LD) % 2 == 1;
+    let mc = (rights >> MC) % 2 == 1;
+    let ex = (rights >> EX) % 2 == 1;
+    if choices::all_three(ex, ld, mc) {
+        return code(gl, EXECUTABLE_ROW, (rights >> SR) % 2, lm, lg);
     }
-    if all_three(has_ld, has_mc, has_sd) {
-        return code(gl, 24, (rights >> SL) % 2, lm, lg);
+    if choices::all_three(ld, mc, sd) {
+        return code(gl, MEMORY_ROW, (rights >> SL) % 2, lm, lg);
     }
-    if both(has_ld, has_mc) {
-        return code(gl, 20, 0, lm, lg);
+    if choices::both(ld, mc) {
+        return code(gl, LOADING_ROW, 0, lm, lg);
     }
-    if both(has_sd, has_mc) {
-        return code(gl, 16, 0, 0, 0);
+    if choices::both(sd, mc) {
+        return code(gl, STORING_ROW, 0, 0, 0);
     }
-    if either(has_ld, has_sd) {
-        return code(gl, 16, 0, (rights >> LD) % 2, (rights >> SD) % 2);
+    if choices::either(ld, sd) {
+        return code(gl, DATA_ROW, 0, (rights >> LD) % 2, (rights >> SD) % 2);
     }
     code(
         gl,
-        0,
+        SEALING_ROW,
         (rights >> U0) % 2,
         (rights >> SE) % 2,
         (rights >> US) % 2,
     )
-}
-
-// The word with another code.
-fn with_permissions(metadata: u32, code: u32) -> u32
-    requires { ⌜ code < 64 ⌝ }
-    ensures { λ r. ⌜ r ≡ withPermissions metadata code ⌝ }
-{
-    (metadata >> 31) * 0x8000_0000 + code * 0x200_0000 + metadata % 0x200_0000
 }
 
 // The word with the rights that both it and the mask have.

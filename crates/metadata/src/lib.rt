@@ -1,13 +1,12 @@
 // The metadata word of a capability: its fields, and the rights that its permission code stands for.
 mod codes;
-mod columns;
+mod masks;
 mod word;
 
 pub use codes::encode;
 pub use codes::has;
 pub use codes::narrow;
-pub use codes::rights;
-pub use columns::has_right;
+pub use masks::rights;
 pub use word::base_of;
 pub use word::join;
 pub use word::otype;
@@ -42,6 +41,9 @@ pub const US: u32 = 9;
 pub const SE: u32 = 10;
 
 pub const U0: u32 = 11;
+
+// All twelve.
+pub const ALL_RIGHTS: u32 = 0xFFF;
 
 pub struct Fields {
     pub reserved: u32,

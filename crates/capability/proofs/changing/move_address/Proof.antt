@@ -6,9 +6,9 @@ use Rattle.capability.proofs.changing.move_address.Tie as tie
 returns : tie.Need-returns
 unfolding moveOf
 returns c =
-    let b = c .before .before .before in
+    let at-unsealed = c .before .before .before in
     simp
-    (c .choose .ensures .0, c .before .both .ensures, c .before .before .same-bounds .ensures, b .is-unsealed .ensures)
+    (c .choose .ensures .0, c .before .both .ensures, c .before .before .same-bounds .ensures, at-unsealed .is-unsealed .ensures)
 
 pub move-address-spec : {M : Type 1} → statement M
 move-address-spec =

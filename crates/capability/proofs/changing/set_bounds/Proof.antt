@@ -6,13 +6,13 @@ use Rattle.capability.proofs.changing.set_bounds.Tie as tie
 returns : tie.Need-returns
 unfolding setBoundsOf
 returns c =
-    let b = c .before .before .before in
+    let at-unsealed = c .before .before .before in
     simp (
       c .with-cut .ensures,
       c .before .choose .ensures .0,
       c .before .before .both .ensures,
-      b .is-unsealed .ensures,
-      b .before .covers-range .ensures,
+      at-unsealed .is-unsealed .ensures,
+      at-unsealed .before .covers-range .ensures,
     )
 
 pub set-bounds-spec : {M : Type 1} → statement M

@@ -6,16 +6,16 @@ use Rattle.capability.proofs.changing.set_bounds_exact.Tie as tie
 returns : tie.Need-returns
 unfolding setBoundsExactOf
 returns c =
-    let b = c .before .before .before in
-    let d = b .before .before .before in
+    let at-unsealed = c .before .before .before in
+    let at-covers = at-unsealed .before .before .before in
     simp (
       c .with-cut .ensures,
       c .before .choose .ensures .0,
       c .before .before .both2 .ensures,
-      b .is-unsealed .ensures,
-      b .before .both .ensures,
-      b .before .before .is-unrounded .ensures,
-      d .covers-range .ensures,
+      at-unsealed .is-unsealed .ensures,
+      at-unsealed .before .both .ensures,
+      at-unsealed .before .before .is-unrounded .ensures,
+      at-covers .covers-range .ensures,
     )
 
 pub set-bounds-exact-spec : {M : Type 1} → statement M

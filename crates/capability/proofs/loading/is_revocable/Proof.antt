@@ -1,24 +1,27 @@
-use Rattle.capability.specs.Loading.{revocable}
 use borrow.Author.Needs.{needs}
+use Rattle.capability.specs.Loading.{revocable}
 use Rattle.capability.proofs.loading.is_revocable.Statement.{statement}
 use Rattle.capability.proofs.loading.is_revocable.Tie as tie
 
 returns : tie.Need-returns
 unfolding revocable
 returns c =
-    let b = c .before .before .before in
+    let at-seals = c .before .before in
+    let at-rights = at-seals .before .before .before in
     simp (
       c .both .ensures,
-      c .before .either .ensures,
-      c .before .before .has-right2 .ensures,
-      b .has-right .ensures,
-      b .before .is-tagged .ensures,
+      c .before .is-tagged .ensures,
+      at-seals .either .ensures,
+      at-seals .before .has2 .ensures,
+      at-seals .before .before .has .ensures,
+      at-rights .rights-of .ensures .0,
     )
 
 pub is-revocable-spec : {M : Type 1} → statement M
 is-revocable-spec =
     tie.close
     (tie.spec
+    (λ c κs. search needs)
     (λ c κs. search needs)
     (λ c κs. search needs)
     (λ c κs. search needs)

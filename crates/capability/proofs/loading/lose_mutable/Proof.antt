@@ -1,19 +1,18 @@
-use Rattle.capability.specs.Loading.{loseMutable}
 use borrow.Author.Needs.{needs}
 use Rattle.capability.proofs.loading.lose_mutable.Statement.{statement}
 use Rattle.capability.proofs.loading.lose_mutable.Tie as tie
 
 returns : tie.Need-returns
-unfolding loseMutable
 returns c =
-    let b = c .before .before .before in
+    let at-tagged = c .before .before in
+    let at-open = at-tagged .before in
     simp (
-      c .narrowed-if .ensures,
+      c .loses-if .ensures,
       c .before .both2 .ensures,
-      c .before .before .is-tagged .ensures,
-      b .both .ensures,
-      b .before .is-sealed .ensures,
-      b .before .before .has-right .ensures,
+      at-tagged .is-tagged .ensures,
+      at-open .both .ensures,
+      at-open .before .is-sealed .ensures,
+      at-open .before .before .has .ensures,
     )
 
 pub lose-mutable-spec : {M : Type 1} → statement M

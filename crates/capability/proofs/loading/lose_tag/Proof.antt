@@ -1,11 +1,9 @@
-use Rattle.capability.specs.Loading.{loseTag}
 use borrow.Author.Needs.{needs}
 use Rattle.capability.proofs.loading.lose_tag.Statement.{statement}
 use Rattle.capability.proofs.loading.lose_tag.Tie as tie
 
 returns : tie.Need-returns
-unfolding loseTag
-returns c = simp (c .choose .ensures .0, c .before .has-right .ensures)
+returns c = simp (c .choose .ensures .0, c .before .has .ensures)
 
 pub lose-tag-spec : {M : Type 1} → statement M
 lose-tag-spec = tie.close (tie.spec (λ c κs. search needs) (λ c κs. search needs) returns)

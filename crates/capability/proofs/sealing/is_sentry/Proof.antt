@@ -6,9 +6,9 @@ use Rattle.capability.proofs.sealing.is_sentry.Tie as tie
 returns : tie.Need-returns
 unfolding isSentry
 returns c =
-    let b = c .before .before .before in
+    let at-right = c .before .before .before in
     simp
-    (c .both .ensures, c .before .within .ensures, c .before .before .otype .ensures .0, b .has-right .ensures)
+    (c .both .ensures, c .before .within .ensures, c .before .before .otype .ensures .0, at-right .has-right .ensures)
 
 pub is-sentry-spec : {M : Type 1} → statement M
 is-sentry-spec =

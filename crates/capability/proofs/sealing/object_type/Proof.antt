@@ -6,13 +6,13 @@ use Rattle.capability.proofs.sealing.object_type.Tie as tie
 returns : tie.Need-returns
 unfolding objectType
 returns c =
-    let b = c .before .before .before in (
+    let at-sealed = c .before .before .before in (
       simp (
         c .choose .ensures .0,
         c .before .both .ensures,
         c .before .before .has-right .ensures,
-        b .is-sealed .ensures,
-        b .before .otype .ensures .0,
+        at-sealed .is-sealed .ensures,
+        at-sealed .before .otype .ensures .0,
       ),
       search needs,
     )

@@ -6,16 +6,16 @@ use Rattle.capability.proofs.sealing.seal.Tie as tie
 returns : tie.Need-returns
 unfolding sealOf
 returns c =
-    let b = c .before .before .before in
-    let d = b .before .before .before in
+    let at-sealed = c .before .before .before in
+    let at-authority = at-sealed .before .before .before in
     simp (
       c .with-type .ensures,
       c .before .choose .ensures .0,
       c .before .before .both2 .ensures,
-      b .is-sealed .ensures,
-      b .before .both .ensures,
-      b .before .before .permits-type .ensures,
-      d .has-authority .ensures,
+      at-sealed .is-sealed .ensures,
+      at-sealed .before .both .ensures,
+      at-sealed .before .before .permitted-type .ensures,
+      at-authority .authorizes .ensures,
     )
 
 pub seal-spec : {M : Type 1} → statement M

@@ -6,19 +6,19 @@ use Rattle.capability.proofs.sealing.unseal.Tie as tie
 returns : tie.Need-returns
 unfolding unsealOf
 returns c =
-    let b = c .before .before .before in
-    let d = b .before .before .before in
-    let f = d .before .before .before in
+    let at-choose = c .before .before .before in
+    let at-allowed = at-choose .before .before .before in
+    let at-authority = at-allowed .before .before .before in
     simp (
       c .with-type .ensures,
       c .before .narrow .ensures,
       c .before .before .global-mask .ensures,
-      b .choose .ensures .0,
-      b .before .both2 .ensures,
-      b .before .before .is-sealed .ensures,
-      d .both .ensures,
-      d .before .before .object-type .ensures .0,
-      f .has-authority .ensures,
+      at-choose .choose .ensures .0,
+      at-choose .before .both2 .ensures,
+      at-choose .before .before .is-sealed .ensures,
+      at-allowed .both .ensures,
+      at-allowed .before .before .object-type .ensures .0,
+      at-authority .authorizes .ensures,
     )
 
 pub unseal-spec : {M : Type 1} → statement M

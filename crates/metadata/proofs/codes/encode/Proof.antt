@@ -1,113 +1,126 @@
 -- Each return rewrites with the tests that led there, the definition's own and in its order.
 -- Assumes nothing.
-use borrow.Author.Needs.{needs}
 use native.Mathlib.Nat.{div-one, zero-add}
+use borrow.Author.Needs.{needs}
 use Rattle.metadata.specs.Rights.{codeOf}
 use Rattle.metadata.proofs.codes.encode.Statement.{statement}
 use Rattle.metadata.proofs.codes.encode.Tie as tie
 
+-- EX, LD and MC
 returns : tie.Need-returns
 unfolding codeOf
-returns c =
-    (rw (c .code .ensures .0, div-one, ← (c .before .before .all-three .ensures), c .before .if1 .taken), search needs)
+returns c = (
+  rw (
+    c .code .ensures .0,
+    div-one,
+    ← (c .before .before .all-three .ensures),
+    c .before .if1 .taken,
+  ),
+  search needs,
+)
 
+-- LD, MC and SD
 returns-2 : tie.Need-returns-2
 unfolding codeOf
 returns-2 c =
-    let b1 = c .before .before .before in (
+    let past-executable = c .before .before .before in (
       rw (
         c .code2 .ensures .0,
         div-one,
-        ← (b1 .before .all-three .ensures),
-        b1 .if1 .left,
+        ← (past-executable .before .all-three .ensures),
+        past-executable .if1 .left,
         ← (c .before .before .all-three2 .ensures),
         c .before .if2 .taken,
       ),
       search needs,
     )
 
+-- LD and MC
 returns-3 : tie.Need-returns-3
 unfolding codeOf
 returns-3 c =
-    let b2 = c .before .before .before in
-    let b1 = b2 .before .before in (
+    let past-memory = c .before .before .before in
+    let past-executable = past-memory .before .before in (
       rw (
         c .code3 .ensures .0,
         div-one,
-        ← (b1 .before .all-three .ensures),
-        b1 .if1 .left,
-        ← (b2 .before .all-three2 .ensures),
-        b2 .if2 .left,
+        ← (past-executable .before .all-three .ensures),
+        past-executable .if1 .left,
+        ← (past-memory .before .all-three2 .ensures),
+        past-memory .if2 .left,
         ← (c .before .before .both .ensures),
         c .before .if3 .taken,
       ),
       search needs,
     )
 
+-- SD and MC
 returns-4 : tie.Need-returns-4
 unfolding codeOf
 returns-4 c =
-    let b3 = c .before .before .before in
-    let b2 = b3 .before .before in
-    let b1 = b2 .before .before in (
+    let past-loading = c .before .before .before in
+    let past-memory = past-loading .before .before in
+    let past-executable = past-memory .before .before in (
       rw (
         c .code4 .ensures .0,
         div-one,
-        ← (b1 .before .all-three .ensures),
-        b1 .if1 .left,
-        ← (b2 .before .all-three2 .ensures),
-        b2 .if2 .left,
-        ← (b3 .before .both .ensures),
-        b3 .if3 .left,
+        ← (past-executable .before .all-three .ensures),
+        past-executable .if1 .left,
+        ← (past-memory .before .all-three2 .ensures),
+        past-memory .if2 .left,
+        ← (past-loading .before .both .ensures),
+        past-loading .if3 .left,
         ← (c .before .before .both2 .ensures),
         c .before .if4 .taken,
       ),
       search needs,
     )
 
+-- LD or SD
 returns-5 : tie.Need-returns-5
 unfolding codeOf
 returns-5 c =
-    let b4 = c .before .before .before in
-    let b3 = b4 .before .before in
-    let b2 = b3 .before .before in
-    let b1 = b2 .before .before in (
+    let past-storing = c .before .before .before in
+    let past-loading = past-storing .before .before in
+    let past-memory = past-loading .before .before in
+    let past-executable = past-memory .before .before in (
       rw (
         c .code5 .ensures .0,
         div-one,
-        ← (b1 .before .all-three .ensures),
-        b1 .if1 .left,
-        ← (b2 .before .all-three2 .ensures),
-        b2 .if2 .left,
-        ← (b3 .before .both .ensures),
-        b3 .if3 .left,
-        ← (b4 .before .both2 .ensures),
-        b4 .if4 .left,
+        ← (past-executable .before .all-three .ensures),
+        past-executable .if1 .left,
+        ← (past-memory .before .all-three2 .ensures),
+        past-memory .if2 .left,
+        ← (past-loading .before .both .ensures),
+        past-loading .if3 .left,
+        ← (past-storing .before .both2 .ensures),
+        past-storing .if4 .left,
         ← (c .before .before .either .ensures),
         c .before .if5 .taken,
       ),
       search needs,
     )
 
+-- none of these
 returns-6 : tie.Need-returns-6
 unfolding codeOf
 returns-6 c =
-    let b4 = c .before .before .before in
-    let b3 = b4 .before .before in
-    let b2 = b3 .before .before in
-    let b1 = b2 .before .before in (
+    let past-storing = c .before .before .before in
+    let past-loading = past-storing .before .before in
+    let past-memory = past-loading .before .before in
+    let past-executable = past-memory .before .before in (
       rw (
         c .code6 .ensures .0,
         zero-add,
         div-one,
-        ← (b1 .before .all-three .ensures),
-        b1 .if1 .left,
-        ← (b2 .before .all-three2 .ensures),
-        b2 .if2 .left,
-        ← (b3 .before .both .ensures),
-        b3 .if3 .left,
-        ← (b4 .before .both2 .ensures),
-        b4 .if4 .left,
+        ← (past-executable .before .all-three .ensures),
+        past-executable .if1 .left,
+        ← (past-memory .before .all-three2 .ensures),
+        past-memory .if2 .left,
+        ← (past-loading .before .both .ensures),
+        past-loading .if3 .left,
+        ← (past-storing .before .both2 .ensures),
+        past-storing .if4 .left,
         ← (c .before .before .either .ensures),
         c .before .if5 .left,
       ),

@@ -1,8 +1,8 @@
 use mathlib.Core.Path.{refl}
 use Rattle.metadata.specs.Word.{withPermissions}
 use borrow.Author.Needs.{needs}
-use Rattle.metadata.proofs.codes.with_permissions.Statement.{statement}
-use Rattle.metadata.proofs.codes.with_permissions.Tie as tie
+use Rattle.metadata.proofs.word.with_permissions.Statement.{statement}
+use Rattle.metadata.proofs.word.with_permissions.Tie as tie
 
 returns : tie.Need-returns
 unfolding withPermissions
