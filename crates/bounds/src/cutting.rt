@@ -9,7 +9,7 @@ ghost use mathlib.Core.Path.{_≡_};
 ghost use mathlib.Core.Bool.{_&&_};
 ghost use Prim.Native.Nat.{_+_, _<_, _≤_, _^_};
 ghost use lib.Dec.{eqb};
-ghost use Rattle.bounds.specs.Cutting.{fits, suggestion, cutExponent, scaleField, withCut, unrounded, cutOf, cutExact, cutLow, cutHigh};
+ghost use Rattle.bounds.specs.Cutting.{fits, suggestion, cutExponent, scaleField, withCut, unrounded, CutPromise, cutExact, cutLow, cutHigh};
 
 // Whether the rounded ends are at most 511 * 2^e apart.
 fn fits_at(base: u64, end: u64, e: u32) -> bool
@@ -88,7 +88,7 @@ fn cut_within(base: u32, length: u32) -> CutAnswer
 
 // A cut asked by plain numbers: its region and whether exact, or a refusal where it ends past 2^32.
 pub fn cut(base: u32, length: u32) -> CutAnswer
-    ensures { λ r. ⌜ r ≡ cutOf base length ⌝ }
+    ensures { λ r. ⌜ CutPromise base length r ⌝ }
 {
     if 0x1_0000_0000 < base as u64 + length as u64 {
         CutAnswer::PastEnd

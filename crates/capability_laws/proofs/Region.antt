@@ -1,4 +1,5 @@
--- The cut of a request is the least region that the encoding can express around it: demand 3 of one cut, once over the exponent.
+-- The cut of a request is the least region that the encoding can express around it, once over the exponent. Any region around the request has an exponent at which
+-- the request fits, so the cut's, the least that fits, rounds no further out than that region's own units.
 -- Assumes nothing.
 use mathlib.Core.Path.{_≡_, refl, sym, _∙_}
 use mathlib.Core.Logic.{inl, inr, _↔_}
@@ -11,15 +12,12 @@ use lib.Pow.{pow-pos}
 use Rattle.metadata.specs.Word.{scaleOf, topOf, baseOf}
 use Rattle.metadata.proofs.Words.{scale-lt, top-lt, base-lt}
 use Rattle.bounds.specs.Bounds.{less, lowOf, highOf, lowAt, highAt, exponentOf, Expressible, Contains}
-use Rattle.bounds.specs.Cutting.{floorAt, ceilAt, roundDown, roundUp, fits, cutExponent, cutBase, cutTop, withCut, unrounded, cutLow, cutHigh, cutExact, CutClaim}
+use Rattle.bounds.specs.Cutting.{floorAt, ceilAt, roundDown, roundUp, fits, cutExponent, cutBase, cutTop, withCut, unrounded, cutLow, cutHigh, cutExact}
 use Rattle.bounds.proofs.Rounding.{floor-ge, ceil-ge, ceil-le, floor-nest, ceil-nest, pow-split}
 use Rattle.bounds.proofs.Exponent.{Exponent, exponent-of, exponent-of-field, exponent-le, cut-exponent, IsLeast, least}
 use Rattle.bounds.proofs.Program.{test}
 use Rattle.bounds.proofs.Decode.{whole-space, unit-below, many, Units, blockOf, units-many, units-few, low-at, high-at, own-low, own-high}
 use Rattle.bounds.proofs.Limits.{scale-of-cut, top-of-cut, base-of-cut, cut-word}
-use Rattle.capability.specs.Capability.{low, high}
-use Rattle.capability.specs.declared.Capability.{Capability}
-use Rattle.capability_laws.specs.Authority.{Authority}
 
 -- ---- the bounds in units of 2^e
 
@@ -78,7 +76,7 @@ cut-exponent-again base end w = rw (scale-of-cut w base end) (exponent-of-field 
 -- ---- a request [base, end) in the address space
 
 module _ (base end : ℕ) (word : base < 2 ^ 32) (order : base ≤ end) (top : end ≤ 2 ^ 32) where
-  -- "the least of 0 to 14 or 24"
+  -- of all exponents that fit
   pub cut-least-exponent : IsLeast base end (cutExponent base end)
   cut-least-exponent = least base end (fits-of base end 24 (omega (arith, ceil-space 24 end (inr refl) top)))
 
@@ -175,14 +173,3 @@ module _ (base end : ℕ) (word : base < 2 ^ 32) (order : base ≤ end) (top : e
   pub unrounded-exact : unrounded base end ≡ cutExact base end
   unfolding unrounded cutExact
   unrounded-exact = rw (cut-low, cut-high)
-
-  -- demand 3 of one cut
-  pub cut-claim : CutClaim base end
-  cut-claim = record { expressible = cut-expressible; contains = cut-contains; least = cut-least; exact = cut-exact }
-
--- ---- the cut lies inside a tagged, unsealed authority with low ≤ high ≤ 2^32 that contains the request
-
-pub cut-authority : (c : Capability) (base end : ℕ) → Authority c → base < 2 ^ 32 → base ≤ end → Contains (low c) (high c) base end
-    → Contains (low c) (high c) (cutLow base end) (cutHigh base end)
-unfolding low high
-cut-authority c base end h word order k = cut-inside base end word order (omega (arith, h .top, k .to)) (c .address) (c .metadata) (h .address-fits) k
