@@ -21,7 +21,8 @@ numbers false r exact = record { number-is = refl; low-is = refl; high-is = refl
 pub cut-promised : (base length : ℕ) → CutPromise base length (cutOf base length)
 unfolding cutOf
 cut-promised base length =
-    let n = numbers (pastEnd base length) (record { low = cutLow base (base + length); high = cutHigh base (base + length) }) (cutExact base (base + length)) in
+    let end : ℕ = base + length in
+    let n = numbers (pastEnd base length) (record { low = cutLow base end; high = cutHigh base end }) (cutExact base end) in
     record { answer-is = refl; number-is = n .number-is; low-is = n .low-is; high-is = n .high-is; exact-is = n .exact-is }
 
 -- so has any answer that is that of the definition

@@ -26,13 +26,13 @@ abbrev pub roundUp : (e x : ℕ) → ℕ
 roundUp e x = ceilAt e x * 2 ^ e
 
 -- exponent e fits the request: rounded outwards to units of 2^e, it is at most 511 units long
-unfoldable pub fits : (base end e : ℕ) → Bool
-fits base end e = leb (roundUp e end) (roundDown e base + 511 * 2 ^ e)
+unfoldable pub fitsAt : (base end e : ℕ) → Bool
+fitsAt base end e = leb (roundUp e end) (roundDown e base + 511 * 2 ^ e)
 
 -- the first of e, e + 1, .. (count of them) that fits, else 24
 unfoldable pub firstFit : (count e base end : ℕ) → ℕ
 firstFit zero e base end = 24
-firstFit (suc n) e base end = let r = firstFit n (suc e) base end in cond (fits base end e) e r
+firstFit (suc n) e base end = let r = firstFit n (suc e) base end in cond (fitsAt base end e) e r
 
 -- the least exponent that fits, of 0 to 14 and 24
 unfoldable pub cutExponent : (base end : ℕ) → ℕ
@@ -72,11 +72,12 @@ cutExact base end = eqb (cutLow base end) base && eqb (cutHigh base end) end
 abbrev pub pastEnd : (base length : ℕ) → Bool
 pastEnd base length = ltb (2 ^ 32) (base + length)
 
--- the answer to a cut asked by plain numbers
+-- the answer to a cut asked by plain numbers: a refusal, or the region
+abbrev pub regionAnswer : (base end : ℕ) → CutAnswer
+regionAnswer base end = Cut (record { low = cutLow base end; high = cutHigh base end }) (cutExact base end)
+
 unfoldable pub cutOf : (base length : ℕ) → CutAnswer
-cutOf base length =
-    cond (pastEnd base length) PastEnd
-    (Cut (record { low = cutLow base (base + length); high = cutHigh base (base + length) }) (cutExact base (base + length)))
+cutOf base length = cond (pastEnd base length) PastEnd (regionAnswer base (base + length))
 
 -- the paper's number of an answer, and its values; where refused there is no region, and each value is 0
 abbrev pub answerNumber : CutAnswer → ℕ

@@ -12,7 +12,7 @@ use lib.Pow.{pow-pos}
 use Rattle.metadata.specs.Word.{scaleOf, topOf, baseOf}
 use Rattle.metadata.proofs.Words.{scale-lt, top-lt, base-lt}
 use Rattle.bounds.specs.Bounds.{less, lowOf, highOf, lowAt, highAt, exponentOf, Expressible, Contains}
-use Rattle.bounds.specs.Cutting.{floorAt, ceilAt, roundDown, roundUp, fits, cutExponent, cutBase, cutTop, withCut, unrounded, cutLow, cutHigh, cutExact}
+use Rattle.bounds.specs.Cutting.{floorAt, ceilAt, roundDown, roundUp, fitsAt, cutExponent, cutBase, cutTop, withCut, unrounded, cutLow, cutHigh, cutExact}
 use Rattle.bounds.proofs.Rounding.{floor-ge, ceil-ge, ceil-le, floor-nest, ceil-nest, pow-split}
 use Rattle.bounds.proofs.Exponent.{Exponent, exponent-of, exponent-of-field, exponent-le, cut-exponent, IsLeast, least}
 use Rattle.bounds.proofs.Program.{test}
@@ -55,12 +55,12 @@ around e T B a base end x hT hB ha top hl hh =
 
 -- ---- what fits
 
-pub fits-of : (base end e : ℕ) → ceilAt e end ≤ floorAt e base + 511 → fits base end e ≡ true
-unfolding fits
+pub fits-of : (base end e : ℕ) → ceilAt e end ≤ floorAt e base + 511 → fitsAt base end e ≡ true
+unfolding fitsAt
 fits-of base end e h = le-leb (roundUp e end) (roundDown e base + 511 * 2 ^ e) (omega (arith, mul-le-mul-right (2 ^ e) h))
 
-pub of-fits : (base end e : ℕ) → fits base end e ≡ true → ceilAt e end ≤ floorAt e base + 511
-unfolding fits
+pub of-fits : (base end e : ℕ) → fitsAt base end e ≡ true → ceilAt e end ≤ floorAt e base + 511
+unfolding fitsAt
 of-fits base end e h =
     let l : ceilAt e end * 2 ^ e ≤ (floorAt e base + 511) * 2 ^ e = omega (arith, leb-true (roundUp e end) (roundDown e base + 511 * 2 ^ e) h) in
     le-of-mul-le-mul-right l (pow-pos e)
@@ -92,7 +92,7 @@ module _ (base end : ℕ) (word : base < 2 ^ 32) (order : base ≤ end) (top : e
   floor≤ceil e = le-of-mul-le-mul-right {k = 2 ^ e} (omega (arith, down≤ e, ≤up e)) (pow-pos e)
 
   -- the fields of the rounded ends, at address base, decode to the rounded ends
-  own-decode : (e : ℕ) → Exponent e → fits base end e ≡ true
+  own-decode : (e : ℕ) → Exponent e → fitsAt base end e ≡ true
       → (lowOf e (floorAt e base % 512) base ≡ roundDown e base) × (highOf e (ceilAt e end % 512) (floorAt e base % 512) base ≡ roundUp e end)
   unfolding floorAt
   own-decode e x h = (

@@ -8,7 +8,7 @@ use native.Mathlib.Omega.{arith}
 use lib.ListN.{length, length-append}
 use Rattle.metadata.specs.Word.{scaleOf, topOf, baseOf, withBounds}
 use Rattle.bounds.specs.Bounds.{exponentOf, lowOf, highOf, lowAt, highAt}
-use Rattle.bounds.specs.Cutting.{floorAt, ceilAt, fits, firstFit, cutExponent, scaleField, cutBase, cutTop, withCut, cutLow, cutHigh, cutExact, cutOf}
+use Rattle.bounds.specs.Cutting.{floorAt, ceilAt, fitsAt, firstFit, cutExponent, scaleField, cutBase, cutTop, withCut, cutLow, cutHigh, cutExact, cutOf}
 use Rattle.bounds.specs.declared.CutAnswer.{CutAnswer}
 use Rattle.bounds.specs.declared.CutAnswer.the-variants.{Cut, PastEnd}
 use Rattle.cut_lines.specs.Digits.{digitOf, allDigits, numberFrom, glyph, digits, placesWithin, placesOf, decimal}
@@ -27,7 +27,7 @@ output =
     49 ∷ 9 ∷ 50 ∷ 48 ∷ 48 ∷ 48 ∷ 48 ∷ 48 ∷ 48 ∷ 48 ∷ 9 ∷ 48 ∷ 50 ∷ 48 ∷ 48 ∷ 48 ∷ 48 ∷ 50 ∷ 48 ∷ 50 ∷ 9 ∷ 110 ∷ 111 ∷ 10 ∷ 50 ∷ 9 ∷ 98 ∷ 97 ∷ 100 ∷ 9 ∷ 54 ∷ 10 ∷ []
 
 pub example : textOf input ≡ headerText ++ output
-unfolding textOf linesOf startLine linesText lineText wellFormed requested cutText digitOf allDigits numberFrom glyph digits placesWithin placesOf decimal cutOf cutLow cutHigh cutExact withCut cutTop cutBase scaleField cutExponent firstFit fits ceilAt floorAt lowAt highAt lowOf highOf exponentOf withBounds scaleOf topOf baseOf
+unfolding textOf linesOf startLine linesText lineText wellFormed requested cutText digitOf allDigits numberFrom glyph digits placesWithin placesOf decimal cutOf cutLow cutHigh cutExact withCut cutTop cutBase scaleField cutExponent firstFit fitsAt ceilAt floorAt lowAt highAt lowOf highOf exponentOf withBounds scaleOf topOf baseOf
 example = refl
 
 -- "empty input gives the header alone"
