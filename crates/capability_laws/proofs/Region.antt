@@ -1,5 +1,5 @@
--- The cut of a request is the least region that the encoding can express around it, once over the exponent. Any region around the request has an exponent at which
--- the request fits, so the cut's, the least that fits, rounds no further out than that region's own units.
+-- The cut of a request is the least region that the encoding can express around it, once over the exponent. At the exponent of any region around
+-- the request the request fits; so the cut's exponent, the least that fits, rounds it no further out than that region's ends.
 -- Assumes nothing.
 use mathlib.Core.Path.{_≡_, refl, sym, _∙_}
 use mathlib.Core.Logic.{inl, inr, _↔_}
@@ -97,7 +97,8 @@ module _ (base end : ℕ) (word : base < 2 ^ 32) (order : base ≤ end) (top : e
   unfolding floorAt
   own-decode e x h = (
     own-low e base (2 ^ (32 - e)) (exponent-le x) (whole-space x) (unit-below x word),
-    own-high e base (2 ^ (32 - e)) (ceilAt e end) (exponent-le x) (whole-space x) (floor≤ceil e) (of-fits base end e h) (omega (arith, ceil-space e end x top, pow-pos (32 - e))),
+    own-high e base (2 ^ (32 - e)) (ceilAt e end) (exponent-le x) (whole-space x) (floor≤ceil e) (of-fits base end e h)
+        (omega (arith, ceil-space e end x top, pow-pos (32 - e))),
   )
 
   cut-decode : (lowOf (cutExponent base end) (cutBase base end) base ≡ roundDown (cutExponent base end) base)
@@ -132,13 +133,22 @@ module _ (base end : ℕ) (word : base < 2 ^ 32) (order : base ≤ end) (top : e
   pub cut-expressible : Expressible (cutLow base end) (cutHigh base end)
   unfolding cutLow cutHigh
   cut-expressible =
-      record { metadata = withCut 0 base end; address = base; metadata-fits = cut-word 0 base end (omega arith); address-fits = word; low-is = refl; high-is = refl }
+      record {
+        metadata = withCut 0 base end;
+        address = base;
+        metadata-fits = cut-word 0 base end (omega arith);
+        address-fits = word;
+        low-is = refl;
+        high-is = refl;
+      }
 
   pub cut-contains : Contains (cutLow base end) (cutHigh base end) base end
   cut-contains = record { from = rw cut-low (down≤ _); to = rw cut-high (≤up _) }
 
   pub cut-in-space : cutHigh base end ≤ 2 ^ 32
-  cut-in-space = rw cut-high (omega (arith, mul-le-mul-right (2 ^ cutExponent base end) (ceil-space _ end (cut-exponent base end) top), whole-space (cut-exponent base end)))
+  cut-in-space =
+      let x = cut-exponent base end in
+      rw cut-high (omega (arith, mul-le-mul-right (2 ^ cutExponent base end) (ceil-space _ end x top), whole-space x))
 
   -- every region of some fields at some address that contains the request contains the cut; wrapped and empty ones are no exception
   inside-fields : (e T B a : ℕ) → Exponent e → T < 512 → B < 512 → a < 2 ^ 32 → lowOf e B a ≤ base → end ≤ highOf e T B a
