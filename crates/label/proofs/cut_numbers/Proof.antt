@@ -1,5 +1,4 @@
--- `cut_numbers` meets its contract.
--- Assumes nothing.
+-- `cut_numbers`: the numbers of the answer that `cut` promises. Assumes nothing.
 use borrow.Author.Needs.{needs}
 use Rattle.label.proofs.cut_numbers.Statement.{statement}
 use Rattle.label.proofs.cut_numbers.Tie as tie
