@@ -8,9 +8,10 @@ ghost use Rattle.bounds.specs.Bounds.{boundsOf};
 ghost use Rattle.bounds.specs.Cutting.{answerExact, answerHigh, answerLow, answerNumber, cutOf};
 ghost use Rattle.label.specs.Answers.{Says};
 
-// Document 01's numbers of a cut's answers.
+// Document 01's number of what is not refused.
 const ANSWERED: u32 = 0;
 
+// Document 01's number of a request that ends past 2^32.
 const PAST_END: u32 = 6;
 
 // A cut's answer as numbers.
