@@ -20,4 +20,7 @@ returns-2 c =
     rw (ne-eqb (at-if .before .before .before .args .s .place) 17 (at-if .if1 .left)) (c .before .before .put-bytes .ensures)
 
 pub put-outcome-spec : {M : Type 1} → statement M
-put-outcome-spec = tie.close (tie.spec (λ c. search needs) (λ c. search needs) (λ c κs. search needs) (λ c κs. search needs) (λ c. search needs) (λ c κs. search needs) (λ c. search needs) returns (λ c. search needs) returns-2)
+put-outcome-spec =
+    tie.close
+    (tie.spec (λ c. search needs) (λ c. search needs) (λ c κs. search needs) (λ c κs. search needs) (λ c. search needs) (λ c κs. search needs)
+    (λ c. search needs) returns (λ c. search needs) returns-2)
