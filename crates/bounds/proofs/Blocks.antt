@@ -133,6 +133,7 @@ pub same-test : (a b w : ℕ) → a < 2 ^ 32 → b < 2 ^ 32
     ≡ (eqb (exponentOf (scaleOf w)) 24 || eqb (blockOf (b / 2 ^ exponentOf (scaleOf w)) (baseOf w)) (blockOf (a / 2 ^ exponentOf (scaleOf w)) (baseOf w)))
 same-test a b w ha hb =
     let s = same-blocks a b w ha hb in
-    let t = either-equal (exponentOf (scaleOf w)) 24 (blockOf (b / 2 ^ exponentOf (scaleOf w)) (baseOf w)) (blockOf (a / 2 ^ exponentOf (scaleOf w)) (baseOf w)) in
+    let e : ℕ = exponentOf (scaleOf w) in
+    let t = either-equal e 24 (blockOf (b / 2 ^ e) (baseOf w)) (blockOf (a / 2 ^ e) (baseOf w)) in
     both _ _ _ (λ p q. t .1 (s .0 (eqb-true (lowAt b w) (lowAt a w) p, eqb-true (highAt b w) (highAt a w) q)))
     (λ h. let r = s .1 (t .0 h) in (eq-eqb (lowAt b w) (lowAt a w) (r .0), eq-eqb (highAt b w) (highAt a w) (r .1)))

@@ -162,7 +162,8 @@ pub units-many : (M q T B t : ℕ) → q < 512 * M → T < 512 → B < 512 → T
     → (i : ℕ) × (j : ℕ) × (c : ℕ) × (d : ℕ) × (Facts (512 * M) (blockOf q B) T B t i j c d × Stands M (blockOf q B) T B t i j)
 units-many M q T B t hq hT hB (inr y) (inr z) = (512 * blockOf q B - 512 + B, 512 * blockOf q B - 512 + T, 2, 1, (omega arith, inl (omega arith)))
 units-many M q T B t hq hT hB (inl y) (inr z) = (512 * blockOf q B - 512 + B, 512 * blockOf q B + T, 2, 1, (omega arith, inl (omega arith)))
-units-many M q T B t hq hT hB (inr y) (inl z) = (512 * M - 512 + B, 1024 * M - 512 + T, 1, 0, (omega arith, inr (omega (arith, ap (λ x. (1 - x) * (1024 * M)) (y .1)))))
+units-many M q T B t hq hT hB (inr y) (inl z) =
+    (512 * M - 512 + B, 1024 * M - 512 + T, 1, 0, (omega arith, inr (omega (arith, ap (λ x. (1 - x) * (1024 * M)) (y .1)))))
 units-many M q T B t hq hT hB (inl y) (inl z) = (512 * M - 512 + B, T, 1, 1, (omega arith, inr (omega (arith, ap (λ x. (1 - x) * (1024 * M)) (y .1)))))
 
 -- Where the address space has 256 units, exponent 24: every block is a multiple of both moduli, and the address has no part in the bounds.

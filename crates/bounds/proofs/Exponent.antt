@@ -9,7 +9,7 @@ use borrow.Author.Tests.{eqb-false, ne-eqb}
 use lib.Arith.{lt-of-le-ne}
 use lib.Dec.{eqb}
 use Rattle.bounds.specs.Bounds.{exponentOf}
-use Rattle.bounds.specs.Cutting.{fits, firstFit, cutExponent, scaleField}
+use Rattle.bounds.specs.Cutting.{fitsAt, firstFit, cutExponent, scaleField}
 
 -- a case of a test, with what it says
 pub cond-ind : (P : ℕ → Type 0) (t : Bool) (a b : ℕ) → (t ≡ true → P a) → (t ≡ false → P b) → P (cond t a b)
@@ -38,26 +38,27 @@ pub first-exponent : (f e base end : ℕ) → e + f ≤ 15 → Exponent (firstFi
 unfolding firstFit
 first-exponent zero e base end h = inr refl
 first-exponent (suc f) e base end h =
-    cond-ind Exponent (fits base end e) e (firstFit f (suc e) base end) (λ t. inl (omega arith)) (λ t. first-exponent f (suc e) base end (omega arith))
+    cond-ind Exponent (fitsAt base end e) e (firstFit f (suc e) base end) (λ t. inl (omega arith)) (λ t. first-exponent f (suc e) base end (omega arith))
 
-pub first-fits : (f e base end : ℕ) → fits base end 24 ≡ true → fits base end (firstFit f e base end) ≡ true
+pub first-fits : (f e base end : ℕ) → fitsAt base end 24 ≡ true → fitsAt base end (firstFit f e base end) ≡ true
 unfolding firstFit
 first-fits zero e base end h = h
 first-fits (suc f) e base end h =
-    cond-ind (λ x. fits base end x ≡ true) (fits base end e) e (firstFit f (suc e) base end) (λ t. t) (λ t. first-fits f (suc e) base end h)
+    cond-ind (λ x. fitsAt base end x ≡ true) (fitsAt base end e) e (firstFit f (suc e) base end) (λ t. t) (λ t. first-fits f (suc e) base end h)
 
-pub first-least : (f e base end x : ℕ) → e ≤ x → x < e + f → fits base end x ≡ true → firstFit f e base end ≤ x
+pub first-least : (f e base end x : ℕ) → e ≤ x → x < e + f → fitsAt base end x ≡ true → firstFit f e base end ≤ x
 unfolding firstFit
 first-least zero e base end x l u h = omega arith
 first-least (suc f) e base end x l u h =
-    cond-ind (λ y. y ≤ x) (fits base end e) e (firstFit f (suc e) base end) (λ t. l)
+    cond-ind (λ y. y ≤ x) (fitsAt base end e) e (firstFit f (suc e) base end) (λ t. l)
     (λ t. first-least f (suc e) base end x (lt-of-le-ne l (λ q. let z : _≡_ {A = ℕ} 0 1 = cc in omega arith)) (omega arith) h)
 
-first-either : (f e base end : ℕ) → (firstFit f e base end ≡ 24) ⊎ (fits base end (firstFit f e base end) ≡ true)
+first-either : (f e base end : ℕ) → (firstFit f e base end ≡ 24) ⊎ (fitsAt base end (firstFit f e base end) ≡ true)
 unfolding firstFit
 first-either zero e base end = inl refl
 first-either (suc f) e base end =
-    cond-ind (λ x. (x ≡ 24) ⊎ (fits base end x ≡ true)) (fits base end e) e (firstFit f (suc e) base end) (λ t. inr t) (λ t. first-either f (suc e) base end)
+    cond-ind (λ x. (x ≡ 24) ⊎ (fitsAt base end x ≡ true)) (fitsAt base end e) e (firstFit f (suc e) base end) (λ t. inr t)
+    (λ t. first-either f (suc e) base end)
 
 true-false : (b : Bool) → b ≡ true → b ≡ false → ⊥
 true-false b p q = let z : _≡_ {A = ℕ} 0 1 = cc in omega arith
@@ -70,30 +71,32 @@ none-fits (inl h) f = absurd (f h)
 none-fits (inr h) f = h
 
 -- the exponent, by what fits
-pub exponent-is : (base end x : ℕ) → x ≤ 14 → fits base end x ≡ true → ((y : ℕ) → y < x → fits base end y ≡ false) → cutExponent base end ≡ x
+pub exponent-is : (base end x : ℕ) → x ≤ 14 → fitsAt base end x ≡ true → ((y : ℕ) → y < x → fitsAt base end y ≡ false) → cutExponent base end ≡ x
 unfolding cutExponent
 exponent-is base end x h t below = go (first-either 15 0 base end)
   where
     most : firstFit 15 0 base end ≤ x
     most = first-least 15 0 base end x (omega arith) (omega arith) t
 
-    go : (firstFit 15 0 base end ≡ 24) ⊎ (fits base end (firstFit 15 0 base end) ≡ true) → firstFit 15 0 base end ≡ x
+    go : (firstFit 15 0 base end ≡ 24) ⊎ (fitsAt base end (firstFit 15 0 base end) ≡ true) → firstFit 15 0 base end ≡ x
     go (inl e) = omega (arith, most)
-    go (inr u) = le-antisymm most (not-lt→le (λ l. true-false (fits base end (firstFit 15 0 base end)) u (below (firstFit 15 0 base end) l)))
+    go (inr u) = le-antisymm most (not-lt→le (λ l. true-false (fitsAt base end (firstFit 15 0 base end)) u (below (firstFit 15 0 base end) l)))
 
-pub exponent-none : (base end : ℕ) → ((y : ℕ) → y ≤ 14 → fits base end y ≡ false) → cutExponent base end ≡ 24
+pub exponent-none : (base end : ℕ) → ((y : ℕ) → y ≤ 14 → fitsAt base end y ≡ false) → cutExponent base end ≡ 24
 unfolding cutExponent
 exponent-none base end below = go (first-either 15 0 base end)
   where
-    go : (firstFit 15 0 base end ≡ 24) ⊎ (fits base end (firstFit 15 0 base end) ≡ true) → firstFit 15 0 base end ≡ 24
+    go : (firstFit 15 0 base end ≡ 24) ⊎ (fitsAt base end (firstFit 15 0 base end) ≡ true) → firstFit 15 0 base end ≡ 24
     go (inl e) = e
-    go (inr u) = none-fits (first-exponent 15 0 base end (omega arith)) (λ l. true-false (fits base end (firstFit 15 0 base end)) u (below (firstFit 15 0 base end) l))
+    go (inr u) =
+        let e : ℕ = firstFit 15 0 base end in
+        none-fits (first-exponent 15 0 base end (omega arith)) (λ l. true-false (fitsAt base end e) u (below e l))
 
 -- where 24 fits, the cut's exponent is the least of 0 to 14 or 24 that does
 pub record IsLeast (base end e : ℕ) : Type 0 where
   pub is-exponent : Exponent e
-  pub is-fit : fits base end e ≡ true
-  pub is-least : (x : ℕ) → Exponent x → fits base end x ≡ true → e ≤ x
+  pub is-fit : fitsAt base end e ≡ true
+  pub is-least : (x : ℕ) → Exponent x → fitsAt base end x ≡ true → e ≤ x
 
 pub exponent-le : {e : ℕ} → Exponent e → e ≤ 24
 exponent-le (inl h) = omega arith
@@ -103,10 +106,10 @@ pub cut-exponent : (base end : ℕ) → Exponent (cutExponent base end)
 unfolding cutExponent
 cut-exponent base end = first-exponent 15 0 base end (omega arith)
 
-pub least : (base end : ℕ) → fits base end 24 ≡ true → IsLeast base end (cutExponent base end)
+pub least : (base end : ℕ) → fitsAt base end 24 ≡ true → IsLeast base end (cutExponent base end)
 unfolding cutExponent
 least base end h = record { is-exponent = cut-exponent base end; is-fit = first-fits 15 0 base end h; is-least = go }
   where
-    go : (x : ℕ) → Exponent x → fits base end x ≡ true → firstFit 15 0 base end ≤ x
+    go : (x : ℕ) → Exponent x → fitsAt base end x ≡ true → firstFit 15 0 base end ≤ x
     go x (inl l) t = first-least 15 0 base end x (omega arith) (omega arith) t
     go x (inr l) t = omega (arith, exponent-le (first-exponent 15 0 base end (omega arith)))

@@ -7,3 +7,4 @@ pub mod Limits
 pub mod Decode
 pub mod Blocks
 pub mod Fits
+pub mod Answers

@@ -7,23 +7,24 @@ use lib.Dec.{ltb, eqb}
 use Rattle.metadata.specs.Word.{scaleOf, topOf, baseOf}
 use Rattle.bounds.specs.declared.Region.{Region}
 
--- "The exponent e is 24 when E is 15, else E"
+-- the exponent that a field E stands for: E itself, but 24 for 15
 unfoldable pub exponentOf : (E : ℕ) → ℕ
 exponentOf E = cond (eqb E 15) 24 E
 
--- 1 if x < y, else 0: the paper's h (mid < B) and t (T < B)
+-- 1 where x < y, else 0: the paper's h, of mid and B, and t, of T and B
 abbrev pub less : (x y : ℕ) → ℕ
 less x y = cond (ltb x y) 1 0
 
--- mid, "the low nine bits of address div 2^e", and up, "address div 2^(e+9)"
+-- an address in units of 2^e: mid is its last nine bits, up the rest
 abbrev pub midOf : (e address : ℕ) → ℕ
 midOf e address = address / 2 ^ e % 2 ^ 9
 
 abbrev pub upOf : (e address : ℕ) → ℕ
 upOf e address = address / 2 ^ (e + 9)
 
--- low = (up - h) * 2^(e+9) + B * 2^e, modulo 2^32; high = (up + t - h) * 2^(e+9) + T * 2^e, modulo 2^33.
--- `up - h` may be -1: 2^33, a multiple of both moduli and at least 2^(e+9), is added first, so that the difference of natural numbers is that of whole numbers.
+-- The paper's two sums of (up - h), or (up + t - h), blocks of 2^(e+9) and a field's units, low modulo 2^32 and high modulo 2^33.
+-- `up - h` may be -1. So 2^33 is added first, a multiple of both moduli and at least 2^(e+9): the difference of natural numbers is then that of whole numbers
+-- (laws `low-whole` and `high-whole`).
 unfoldable pub lowOf : (e B address : ℕ) → ℕ
 lowOf e B address = (2 ^ 33 + upOf e address * 2 ^ (e + 9) + B * 2 ^ e - less (midOf e address) B * 2 ^ (e + 9)) % 2 ^ 32
 
@@ -40,7 +41,7 @@ highAt address metadata = highOf (exponentOf (scaleOf metadata)) (topOf metadata
 unfoldable pub boundsOf : (address metadata : ℕ) → Region
 boundsOf address metadata = record { low = lowAt address metadata; high = highAt address metadata }
 
--- "A region the encoding can express is any low and high that some metadata word and address decode to"
+-- a region that the encoding can express: the bounds of some metadata word at some address
 pub record Expressible (low high : ℕ) : Type 0 where
   pub metadata : ℕ
   pub address : ℕ
@@ -49,7 +50,7 @@ pub record Expressible (low high : ℕ) : Type 0 where
   pub low-is : low ≡ lowAt address metadata
   pub high-is : high ≡ highAt address metadata
 
--- [low, high) contains [base, end): "low <= base and end <= high, in whole numbers"; "inside" is meant likewise, for empty regions too
+-- [low, high) contains [base, end), or the latter lies inside the former: of whole numbers, and also where a region is empty
 pub record Contains (low high base end : ℕ) : Type 0 where
   pub from : low ≤ base
   pub to : end ≤ high

@@ -1,13 +1,12 @@
--- The cut of a request [base, end). Document 01, "Cutting bounds".
+-- The cut of a request [base, end): document 01, "Cutting bounds". The answer to a request of two words: document 01, "Answers", numbers 0 and 6.
 -- Assumes nothing.
 use mathlib.Core.Bool.{Bool, true, false, cond, _&&_}
 use mathlib.Core.Path.{_≡_}
-use mathlib.Core.Logic.{_↔_}
-use Prim.Native.Nat.{ℕ, zero, suc, _+_, _-_, _*_, _/_, _%_, _^_, _≤_, _<_}
+use Prim.Native.Nat.{ℕ, zero, suc, _+_, _-_, _*_, _/_, _%_, _^_}
 use lib.Count.{leadingZeros}
 use lib.Dec.{leb, ltb, eqb}
 use Rattle.metadata.specs.Word.{withBounds}
-use Rattle.bounds.specs.Bounds.{lowAt, highAt, Expressible, Contains}
+use Rattle.bounds.specs.Bounds.{lowAt, highAt}
 use Rattle.bounds.specs.declared.Region.{Region}
 use Rattle.bounds.specs.declared.CutAnswer.{CutAnswer}
 use Rattle.bounds.specs.declared.CutAnswer.the-variants.{Cut, PastEnd}
@@ -26,24 +25,24 @@ roundDown e x = floorAt e x * 2 ^ e
 abbrev pub roundUp : (e x : ℕ) → ℕ
 roundUp e x = ceilAt e x * 2 ^ e
 
--- "the base rounded down and the end rounded up to multiples of 2^e are at most 511 * 2^e apart"
-unfoldable pub fits : (base end e : ℕ) → Bool
-fits base end e = leb (roundUp e end) (roundDown e base + 511 * 2 ^ e)
+-- exponent e fits the request: rounded outwards to units of 2^e, it is at most 511 units long
+unfoldable pub fitsAt : (base end e : ℕ) → Bool
+fitsAt base end e = leb (roundUp e end) (roundDown e base + 511 * 2 ^ e)
 
 -- the first of e, e + 1, .. (count of them) that fits, else 24
 unfoldable pub firstFit : (count e base end : ℕ) → ℕ
 firstFit zero e base end = 24
-firstFit (suc n) e base end = let r = firstFit n (suc e) base end in cond (fits base end e) e r
+firstFit (suc n) e base end = let r = firstFit n (suc e) base end in cond (fitsAt base end e) e r
 
--- "the least of 0 to 14 or 24" that fits
+-- the least exponent that fits, of 0 to 14 and 24
 unfoldable pub cutExponent : (base end : ℕ) → ℕ
 cutExponent base end = firstFit 15 0 base end
 
--- "its E is e, or 15 for e = 24"
+-- the field E of an exponent: 15 stands for 24
 unfoldable pub scaleField : (e : ℕ) → ℕ
 scaleField e = cond (eqb e 24) 15 e
 
--- B and T: "the low nine bits of the rounded base and rounded end, each div 2^e"
+-- B and T: the last nine bits of the rounded ends, counted in units of 2^e
 unfoldable pub cutBase : (base end : ℕ) → ℕ
 cutBase base end = floorAt (cutExponent base end) base % 2 ^ 9
 
@@ -65,15 +64,20 @@ cutLow base end = lowAt base (withCut 0 base end)
 unfoldable pub cutHigh : (base end : ℕ) → ℕ
 cutHigh base end = highAt base (withCut 0 base end)
 
--- "The answer says exact if the cut's low is the base and its high is the end, and otherwise not"
+-- whether the answer is called exact: the region is the request
 unfoldable pub cutExact : (base end : ℕ) → Bool
 cutExact base end = eqb (cutLow base end) base && eqb (cutHigh base end) end
 
--- A cut asked by plain numbers: refusal 6 exactly when base + length > 2^32.
+-- the request ends past 2^32: refusal 6
+abbrev pub pastEnd : (base length : ℕ) → Bool
+pastEnd base length = ltb (2 ^ 32) (base + length)
+
+-- the answer to a cut asked by plain numbers: a refusal, or the region
+abbrev pub regionAnswer : (base end : ℕ) → CutAnswer
+regionAnswer base end = Cut (record { low = cutLow base end; high = cutHigh base end }) (cutExact base end)
+
 unfoldable pub cutOf : (base length : ℕ) → CutAnswer
-cutOf base length =
-    cond (ltb (2 ^ 32) (base + length)) PastEnd
-    (Cut (record { low = cutLow base (base + length); high = cutHigh base (base + length) }) (cutExact base (base + length)))
+cutOf base length = cond (pastEnd base length) PastEnd (regionAnswer base (base + length))
 
 -- the paper's number of an answer, and its values; where refused there is no region, and each value is 0
 abbrev pub answerNumber : CutAnswer → ℕ
@@ -92,13 +96,14 @@ abbrev pub answerExact : CutAnswer → ℕ
 answerExact (Cut r exact) = cond exact 1 0
 answerExact PastEnd = 0
 
--- what the leading zeros of the length suggest. The cut's exponent is the suggestion or one more, where 15 and above stand for 24
+-- what is promised of the answer: which it is, and the paper's number and values of it
+pub record CutPromise (base length : ℕ) (answer : CutAnswer) : Type 0 where
+  pub answer-is : answer ≡ cutOf base length
+  pub number-is : answerNumber answer ≡ cond (pastEnd base length) 6 0
+  pub low-is : answerLow answer ≡ cond (pastEnd base length) 0 (cutLow base (base + length))
+  pub high-is : answerHigh answer ≡ cond (pastEnd base length) 0 (cutHigh base (base + length))
+  pub exact-is : answerExact answer ≡ cond (pastEnd base length) 0 (cond (cutExact base (base + length)) 1 0)
+
+-- The exponent that the length's leading zeros propose. The cut's is that one or the next, where 15 and above stand for 24.
 unfoldable pub suggestion : (length : ℕ) → ℕ
 suggestion length = 23 - leadingZeros 32 length
-
--- demand 3 of one cut
-pub record CutClaim (base end : ℕ) : Type 0 where
-  pub expressible : Expressible (cutLow base end) (cutHigh base end)
-  pub contains : Contains (cutLow base end) (cutHigh base end) base end
-  pub least : (low high : ℕ) → Expressible low high → Contains low high base end → Contains low high (cutLow base end) (cutHigh base end)
-  pub exact : ((cutLow base end ≡ base) × (cutHigh base end ≡ end)) ↔ Expressible base end

@@ -1,5 +1,9 @@
 // The bounds of a metadata word at an address.
 use crate::Region;
+use crate::SPACE;
+use crate::TWICE_SPACE;
+use crate::WIDEST;
+use crate::WIDEST_FIELD;
 use crate::shifts::base_block;
 use crate::shifts::base_unit;
 use crate::shifts::placed;
@@ -15,7 +19,10 @@ fn exponent(field: u32) -> u32
     requires { ⌜ field < 16 ⌝ }
     ensures { λ r. ⌜ (r ≡ exponentOf field) × (r ≤ 24) ⌝ }
 {
-    if field == 15 { 24 } else { field }
+    if field == WIDEST_FIELD {
+        return WIDEST;
+    }
+    field
 }
 
 // Low and high of a metadata word at an address.
@@ -26,20 +33,20 @@ pub fn bounds(address: u32, metadata: u32) -> Region
     let top = metadata::top_of(metadata);
     let base = metadata::base_of(metadata);
     let unit = base_unit(address, e, base);
-    let low = placed(unit, e) % 0x1_0000_0000;
-    let high = placed(unit + span(top, base), e) % 0x2_0000_0000;
+    let low = placed(unit, e) % SPACE;
+    let high = placed(unit + span(top, base), e) % TWICE_SPACE;
     Region {
         low: low as u32,
         high,
     }
 }
 
-// Whether both bounds are the same at another address: at exponent 24 always, else in the same block.
+// Whether both bounds are the same at another address: at the widest exponent always, else in the same block.
 pub fn same_bounds(address: u32, to: u32, metadata: u32) -> bool
     ensures { λ r. ⌜ r ≡ (eqb (lowAt to metadata) (lowAt address metadata) && eqb (highAt to metadata) (highAt address metadata)) ⌝ }
 {
     let e = exponent(metadata::scale_of(metadata));
-    if e == 24 {
+    if e == WIDEST {
         return true;
     }
     let base = metadata::base_of(metadata);

@@ -1,4 +1,5 @@
 // CRepresentableAlignmentMask and CRoundRepresentableLength.
+use crate::SPACE;
 use crate::cutting::cut_exponent;
 use crate::shifts::ones;
 use crate::shifts::round_up;
@@ -10,7 +11,7 @@ pub fn alignment_mask(length: u32) -> u32
     ensures { λ r. ⌜ r ≡ alignmentMask length ⌝ }
 {
     let e = cut_exponent(0, length);
-    0xFFFF_FFFF - ones(e) as u32
+    u32::MAX - ones(e) as u32
 }
 
 // The length rounded up to that alignment, modulo 2^32.
@@ -18,5 +19,5 @@ pub fn representable_length(length: u32) -> u32
     ensures { λ r. ⌜ r ≡ representableLength length ⌝ }
 {
     let e = cut_exponent(0, length);
-    (round_up(length as u64, e) % 0x1_0000_0000) as u32
+    (round_up(length as u64, e) % SPACE) as u32
 }

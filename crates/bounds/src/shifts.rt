@@ -1,6 +1,8 @@
 // Numbers scaled and rounded by powers of 2: the only shifts by a variable count.
+use crate::BLOCK_UNITS;
+use crate::TWICE_SPACE;
 ghost use mathlib.Core.Path.{_≡_};
-ghost use Prim.Native.Nat.{_+_, _-_, _*_, _/_, _^_, _<_, _≤_};
+ghost use Prim.Native.Nat.{_+_, _-_, _*_, _/_, _%_, _^_, _<_, _≤_};
 ghost use Rattle.bounds.specs.Bounds.{less};
 ghost use Rattle.bounds.specs.Cutting.{roundUp};
 
@@ -25,7 +27,7 @@ pub(crate) fn base_block(address: u32, e: u32, base: u32) -> u64
     requires { ⌜ (e ≤ 24) × (base < 512) ⌝ }
     ensures { λ r. ⌜ (r ≡ (address / 2 ^ e + 512 - base) / 512) × (r ≤ 2 ^ 23) ⌝ }
 {
-    ((address as u64 >> e) + 512 - base as u64) >> 9
+    ((address as u64 >> e) + BLOCK_UNITS - base as u64) / BLOCK_UNITS
 }
 
 // The unit of 2^e that the base stands at, counted from one block of 512 below 0: the last up to the address's own whose low nine bits are the field's.
@@ -33,8 +35,8 @@ pub(crate) fn base_unit(address: u32, e: u32, base: u32) -> u64
     requires { ⌜ (e ≤ 24) × (base < 512) ⌝ }
     ensures { λ r. ⌜ (r ≡ (address / 2 ^ e + 512 - base) / 512 * 512 + base) × (r < 2 ^ 33 - 512) ⌝ }
 {
-    let unit = (address as u64 >> e) + 512;
-    unit - (unit - base as u64) % 512
+    let unit = (address as u64 >> e) + BLOCK_UNITS;
+    unit - (unit - base as u64) % BLOCK_UNITS
 }
 
 // How many units the top stands above the base.
@@ -42,7 +44,7 @@ pub(crate) fn span(top: u32, base: u32) -> u64
     requires { ⌜ (top < 512) × (base < 512) ⌝ }
     ensures { λ r. ⌜ (base + r ≡ less top base * 512 + top) × (r < 512) ⌝ }
 {
-    (top as u64 + 512 - base as u64) % 512
+    (top as u64 + BLOCK_UNITS - base as u64) % BLOCK_UNITS
 }
 
 // The address of a unit counted from one block below 0. 2^33 is added before what may be more is taken away.
@@ -50,7 +52,7 @@ pub(crate) fn placed(unit: u64, e: u32) -> u64
     requires { ⌜ (unit < 2 ^ 33) × (e ≤ 24) ⌝ }
     ensures { λ r. ⌜ r ≡ 2 ^ 33 + unit * 2 ^ e - 512 * 2 ^ e ⌝ }
 {
-    0x2_0000_0000 + (unit << e) - (512u64 << e)
+    TWICE_SPACE + (unit << e) - (BLOCK_UNITS << e)
 }
 
 // 2^e - 1.
@@ -59,6 +61,14 @@ pub(crate) fn ones(e: u32) -> u64
     ensures { λ r. ⌜ (r ≡ 2 ^ e - 1) × (r < 2 ^ 24) ⌝ }
 {
     (1u64 << e) - 1
+}
+
+// The field of nine bits of a number in units of 2^e.
+pub(crate) fn field_of(x: u64, e: u32) -> u32
+    requires { ⌜ e ≤ 24 ⌝ }
+    ensures { λ r. ⌜ (r ≡ x / 2 ^ e % 2 ^ 9) × (r < 512) ⌝ }
+{
+    ((x >> e) % BLOCK_UNITS) as u32
 }
 
 // x rounded up to a multiple of 2^e.

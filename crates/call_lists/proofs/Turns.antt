@@ -1,4 +1,4 @@
--- One turn of each loop over a list of calls: what is left from here gives the whole. Assumes nothing.
+-- One turn of each loop over a list of calls: what is done and what is left from here make up the whole. Assumes nothing.
 use mathlib.Core.Path.{_≡_, refl, sym, ap, _∙_}
 use mathlib.Core.Bool.{Bool, true, false, cond, _&&_}
 use mathlib.Core.List.{List, [], _∷_, _++_, append-assoc, append-nil}
@@ -13,8 +13,8 @@ use Rattle.capability_laws.proofs.Tests.{both-equal}
 use Rattle.capability.specs.declared.Capability.{Capability}
 use Rattle.call_lists.specs.declared.Call.{Call}
 use Rattle.call_lists.specs.declared.Call.the-variants.{Cut, ExactCut, Move, Narrow}
-use Rattle.call_lists.specs.Calls.{step, run, trace}
-use Rattle.call_lists.specs.Lists.{known, callOf, allKnown, callsOf, wordsOf, putWords, sizesFit}
+use Rattle.call_lists.specs.Calls.{makeCall, run, trace}
+use Rattle.call_lists.specs.Lists.{isKnown, callOf, allKnown, callsOf, wordsOf, putWords, sizesFit, Written}
 use Rattle.call_lists.proofs.Machine.{argument, Words}
 
 -- ---- the sizes, with no product
@@ -43,7 +43,7 @@ sizes-fit k v o h = both-equal v k o (3 * k) .0 h
 
 -- ---- the check of the kinds
 
-pub known-turn : (ks : List ℕ) (i : ℕ) → i < length ks → allKnown (drop i ks) ≡ (known (getD ks i 0) && allKnown (drop (i + 1) ks))
+pub known-turn : (ks : List ℕ) (i : ℕ) → i < length ks → allKnown (drop i ks) ≡ (isKnown (getD ks i 0) && allKnown (drop (i + 1) ks))
 unfolding allKnown
 known-turn ks i h = rw (add-one, drop-cons ks i 0 h)
 
@@ -87,30 +87,35 @@ pub record Turn (ks vs : List ℕ) (s₀ : Capability) (i : ℕ) (s : Capability
 pub first-turn : (ks vs : List ℕ) (s : Capability) (out : List ℕ) → Turn ks vs s 0 s out
 first-turn ks vs s out = record { runs = refl; leaves = refl }
 
-pub next-turn : (ks vs : List ℕ) (s₀ : Capability) (i : ℕ) (s : Capability) (out : List ℕ) → i < length ks → i < length vs → 3 * i + 3 ≤ length out
-    → Turn ks vs s₀ i s out
-    → Turn ks vs s₀ (i + 1) (step (callOf (getD ks i 0) (getD vs i 0)) s) (putWords out i (step (callOf (getD ks i 0) (getD vs i 0)) s))
+-- one call more, and its words
+pub next-turn : (ks vs : List ℕ) (s₀ : Capability) (i : ℕ) (s s′ : Capability) (out out′ : List ℕ)
+    → i < length ks → i < length vs → 3 * i + 3 ≤ length out → s′ ≡ makeCall (callOf (getD ks i 0) (getD vs i 0)) s → out′ ≡ putWords out i s′
+    → Turn ks vs s₀ i s out → Turn ks vs s₀ (i + 1) s′ out′
 unfolding run trace wordsOf
-next-turn ks vs s₀ i s out h l w t =
+next-turn ks vs s₀ i s s′ out out′ h l w made put t =
     let c : Call = callOf (getD ks i 0) (getD vs i 0) in
+    let r : Capability = makeCall c s in
     let cs : List Call = callsOf (drop (i + 1) ks) (drop (i + 1) vs) in
     let e : callsOf (drop i ks) (drop i vs) ≡ c ∷ cs = calls-turn ks vs i h l in
-    record {
+    rw (put, made) (record {
       runs = sym (ap (λ x. run x s) e) ∙ t .runs;
       leaves =
-          rw (put-more out i (step c s) w)
-          (append-assoc (take (3 * i) out) (step c s .address ∷ step c s .metadata ∷ step c s .tag ∷ []) (wordsOf (trace cs (step c s)))
+          rw (put-more out i r w)
+          (append-assoc (take (3 * i) out) (r .address ∷ r .metadata ∷ r .tag ∷ []) (wordsOf (trace cs r))
           ∙ sym (ap (λ x. take (3 * i) out ++ wordsOf (trace x s)) e)
           ∙ t .leaves);
-    }
+    })
 
 pub last-turn : (ks vs : List ℕ) (s₀ : Capability) (i : ℕ) (s : Capability) (out : List ℕ) → i ≡ length ks → length out ≡ 3 * length ks → Turn ks vs s₀ i s out
-    → (s ≡ run (callsOf ks vs) s₀) × (out ≡ wordsOf (trace (callsOf ks vs) s₀))
+    → Written s₀ (callsOf ks vs) s out
 unfolding run trace wordsOf
 last-turn ks vs s₀ i s out h l t =
     let e : callsOf (drop i ks) (drop i vs) ≡ [] = calls-end ks vs i (omega arith) in
     let a : take (3 * i) out ≡ out = take-all (3 * i) out (omega arith) in
-    (sym (ap (λ x. run x s) e) ∙ t .runs, sym (append-nil out) ∙ sym (ap (λ x. x ++ []) a) ∙ sym (ap (λ x. take (3 * i) out ++ wordsOf (trace x s)) e) ∙ t .leaves)
+    record {
+      last-is = sym (ap (λ x. run x s) e) ∙ t .runs;
+      words-are = sym (append-nil out) ∙ sym (ap (λ x. x ++ []) a) ∙ sym (ap (λ x. take (3 * i) out ++ wordsOf (trace x s)) e) ∙ t .leaves;
+    }
 
 -- ---- the values are words
 

@@ -1,4 +1,4 @@
--- The plain machine of document 01, "Lists of cuts, moves and narrowings": one capability, four calls. What demand 3 says of a whole list.
+-- The plain machine of document 01, "Lists of cuts, moves and narrowings": one capability and four calls on it. What demand 3 says of a whole list.
 -- Assumes nothing.
 use mathlib.Core.List.{List, [], _∷_}
 use mathlib.Core.Path.{_≡_}
@@ -12,22 +12,22 @@ use Rattle.capability_laws.specs.Authority.{Inside}
 use Rattle.call_lists.specs.declared.Call.{Call}
 use Rattle.call_lists.specs.declared.Call.the-variants.{Cut, ExactCut, Move, Narrow}
 
--- "this page's definitions of the four calls"
-unfoldable pub step : Call → Capability → Capability
-step (Cut n) s = setBoundsOf s n
-step (ExactCut n) s = setBoundsExactOf s n
-step (Move a) s = moveOf s a
-step (Narrow m) s = narrowOf s m
+-- one call
+unfoldable pub makeCall : Call → Capability → Capability
+makeCall (Cut n) s = setBoundsOf s n
+makeCall (ExactCut n) s = setBoundsExactOf s n
+makeCall (Move a) s = moveOf s a
+makeCall (Narrow m) s = narrowOf s m
 
--- "Each call gets address, metadata and tag as the last one returned them": the machine after a list
+-- the machine after a list: each call is given what the one before it returned
 unfoldable pub run : List Call → Capability → Capability
 run [] s = s
-run (c ∷ cs) s = run cs (step c s)
+run (c ∷ cs) s = run cs (makeCall c s)
 
 -- the capabilities after each call
 unfoldable pub trace : List Call → Capability → List Capability
 trace [] s = []
-trace (c ∷ cs) s = step c s ∷ trace cs (step c s)
+trace (c ∷ cs) s = makeCall c s ∷ trace cs (makeCall c s)
 
 -- the last of them, or the first capability where there was no call
 abbrev pub lastOf : Capability → List Capability → Capability
@@ -48,7 +48,7 @@ Kept (Narrow m) s = Unit {0}
 -- so for every call of the list, each at the capability that it is given
 abbrev pub AllKept : List Call → Capability → Type 0
 AllKept [] s = Unit {0}
-AllKept (c ∷ cs) s = Kept c s × AllKept cs (step c s)
+AllKept (c ∷ cs) s = Kept c s × AllKept cs (makeCall c s)
 
 -- every tag is cleared
 abbrev pub AllCleared : List Capability → Type 0
@@ -66,8 +66,8 @@ pub record ListClaim (cs : List Call) (s last : Capability) : Type 0 where
   pub tag-set : (last .tag ≡ 1) ↔ AllKept cs s
   -- if it is set, the last capability lies inside the first and holds no right that the first lacked
   pub inside : last .tag ≡ 1 → Inside s last
-  -- "A cut changes only E, T, B and the tag, a move only the address and the tag, a narrowing only the six stored permission bits": type and reserved bit stay
+  -- no call changes the type or the reserved bit
   pub same-type : typeOf (last .metadata) ≡ typeOf (s .metadata)
   pub same-reserved : reservedOf (last .metadata) ≡ reservedOf (s .metadata)
-  -- "No call sets a cleared tag again"
+  -- nor sets a tag that is cleared
   pub stays-cleared : StaysCleared (trace cs s)

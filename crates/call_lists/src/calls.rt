@@ -1,12 +1,16 @@
 // One call on a capability, and the call that a kind and a value stand for.
+use crate::CUT;
 use crate::Call;
+use crate::EXACT_CUT;
+use crate::MOVE;
 use capability::Capability;
 ghost use mathlib.Core.Path.{_≡_};
-ghost use Rattle.call_lists.specs.Calls.{step};
+ghost use Rattle.call_lists.specs.Calls.{makeCall};
 ghost use Rattle.call_lists.specs.Lists.{callOf};
 
+// One call of document 01, "Lists of cuts, moves and narrowings".
 pub fn make_call(c: Capability, call: Call) -> Capability
-    ensures { λ r. ⌜ r ≡ step call c ⌝ }
+    ensures { λ r. ⌜ r ≡ makeCall call c ⌝ }
 {
     match call {
         Call::Cut(length) => capability::set_bounds(c, length),
@@ -16,14 +20,14 @@ pub fn make_call(c: Capability, call: Call) -> Capability
     }
 }
 
-// Kinds 0 to 3; every other is refused before it comes here.
+// The fourth kind is a narrowing; every other is refused before it comes here.
 pub(crate) fn call_of(kind: u32, value: u32) -> Call
     ensures { λ r. ⌜ r ≡ callOf kind value ⌝ }
 {
     match kind {
-        0 => Call::Cut(value),
-        1 => Call::ExactCut(value),
-        2 => Call::Move(value),
+        CUT => Call::Cut(value),
+        EXACT_CUT => Call::ExactCut(value),
+        MOVE => Call::Move(value),
         _ => Call::Narrow(value),
     }
 }

@@ -6,18 +6,29 @@ ghost use mathlib.Core.Path.{_≡_};
 ghost use Rattle.capability.specs.Capability.{capability};
 ghost use Rattle.call_lists.specs.Lists.{answerNumber, ListedNumber};
 
-// The number of an answer. Documents 01 and 02 use 0 to 10.
-fn number(answer: Answer) -> u32
+// Document 01's number of what is not refused.
+const RAN: u32 = 0;
+
+// Document 01's number of a tag word that is not 0 or 1.
+const BAD_TAG: u32 = 4;
+
+// Two numbers of this function's own, above those that documents 01 and 02 use.
+const WRONG_SIZE: u32 = 11;
+
+const UNKNOWN_KIND: u32 = 12;
+
+fn answer_number(answer: Answer) -> u32
     ensures { λ r. ⌜ r ≡ answerNumber answer ⌝ }
 {
     match answer {
-        Answer::Ran(_) => 0,
-        Answer::WrongSize => 11,
-        Answer::UnknownKind => 12,
+        Answer::Ran(_) => RAN,
+        Answer::BadTag => BAD_TAG,
+        Answer::WrongSize => WRONG_SIZE,
+        Answer::UnknownKind => UNKNOWN_KIND,
     }
 }
 
-// 0, or 11 for a wrong size, or 12 for an unknown kind.
+// 0, or the number of the first refusal: 4 for a tag, 11 for a size, 12 for a kind.
 #[no_mangle]
 pub extern "C" fn oddersnow_calls(
     address: u32,
@@ -34,5 +45,5 @@ pub extern "C" fn oddersnow_calls(
         metadata,
         tag,
     };
-    number(run_calls(c, kinds, values, out))
+    answer_number(run_calls(c, kinds, values, out))
 }

@@ -43,7 +43,8 @@ aligned e x k h l word sane =
     let f : ℕ = (x + k) * 2 ^ e in
     let u = fits-of b f e (rw (floor-units e x, ceil-units e (x + k)) (omega arith)) in
     let d = cut-least-exponent b f word (omega arith) sane .is-least e h u in
-    both-equal (roundDown (cutExponent b f) b) b (roundUp (cutExponent b f) f) f .1 (multiple (cutExponent b f) e x d .0, multiple (cutExponent b f) e (x + k) d .1)
+    let c : ℕ = cutExponent b f in
+    both-equal (roundDown c b) b (roundUp c f) f .1 (multiple c e x d .0, multiple c e (x + k) d .1)
 
 floor-zero : (e : ℕ) → floorAt e 0 ≡ 0
 floor-zero e = ap (floorAt e) (sym (zero-mul (2 ^ e))) ∙ floor-units e 0

@@ -1,5 +1,5 @@
--- What each call leaves as it was. Document 01, "Lists of cuts, moves and narrowings": "A cut changes only E, T, B and the tag, a move only the address and the
--- tag, a narrowing only the six stored permission bits"; "No call sets a cleared tag again". Assumes nothing.
+-- What each call leaves as it was: a cut all but E, T, B and the tag, a move all but address and tag, a narrowing all but the stored permissions (and the tag
+-- of a sealed one). Document 01, "Lists of cuts, moves and narrowings". Assumes nothing.
 use mathlib.Core.Path.{_≡_, refl}
 use mathlib.Core.Bool.{cond, _&&_}
 use Prim.Native.Nat.{ℕ, _+_}

@@ -16,7 +16,8 @@ use Rattle.capability_laws.proofs.Tests.{both-equal, both-le}
 use Rattle.capability_laws.proofs.Region.{cut-contains, cut-in-space, cut-inside}
 use Rattle.capability_laws.proofs.Windows.{set-low, set-high}
 use Rattle.capability_laws.proofs.Representable.{prop-setbounds, prop-andperms}
-use Rattle.capability_laws.proofs.Changes.{exact-address, exact-metadata, cut-changes, move-changes, narrow-changes, cut-tag, exact-tag, move-tag, narrow-tag}
+use Rattle.capability_laws.proofs.Changes.{exact-address, exact-metadata, cut-changes, move-changes, narrow-changes}
+use Rattle.capability_laws.proofs.Changes.{cut-tag, exact-tag, move-tag, narrow-tag}
 
 pub inside-refl : (c : Capability) → Inside c c
 inside-refl c = record { region = record { from = le-refl _; to = le-refl _ }; no-right = λ k h. h }

@@ -24,8 +24,8 @@ inside-block M q r T B t i j h hT hB (inl u) (inl s) a b c d = omega arith
 inside-block M q r T B t i j h hT hB (inr u) (inl s) a b c d = omega arith
 inside-block M q r T B t i j h hT hB u (inr s) a b c d = absurd (omega arith)
 
-inside-fields : (e T B a b : ℕ) → Exponent e → T < 512 → B < 512 → a < 2 ^ 32 → b < 2 ^ 32 → lowOf e B a ≤ a → a < highOf e T B a → lowOf e B a ≤ b → b < highOf e T B a
-    → Same e T B a b
+inside-fields : (e T B a b : ℕ) → Exponent e → T < 512 → B < 512 → a < 2 ^ 32 → b < 2 ^ 32
+    → lowOf e B a ≤ a → a < highOf e T B a → lowOf e B a ≤ b → b < highOf e T B a → Same e T B a b
 inside-fields e T B a b (inl x) hT hB ha hb la ah lb bh =
     let (i, j, li, hj, s) = spot e T B a x hT hB ha in
     same-block e T B a b (omega arith) hB
@@ -42,8 +42,8 @@ inside-keeps-bounds a b w ha hb la ah lb bh =
     inside-fields (exponentOf (scaleOf w)) (topOf w) (baseOf w) a b (exponent-of (scaleOf w) (scale-lt w)) (top-lt w) (base-lt w) ha hb la ah lb bh
 
 -- so a move inside the bounds of an unsealed capability changes its address alone
-pub inside-move : (c : Capability) (b : ℕ) → c .address < 2 ^ 32 → b < 2 ^ 32 → unsealed c ≡ true → low c ≤ c .address → c .address < high c → low c ≤ b → b < high c
-    → moveOf c b ≡ capability b (c .metadata) (c .tag)
+pub inside-move : (c : Capability) (b : ℕ) → c .address < 2 ^ 32 → b < 2 ^ 32 → unsealed c ≡ true
+    → low c ≤ c .address → c .address < high c → low c ≤ b → b < high c → moveOf c b ≡ capability b (c .metadata) (c .tag)
 unfolding moveOf sameBounds low high
 inside-move c b ha hb u la ah lb bh =
     let s = inside-keeps-bounds (c .address) b (c .metadata) ha hb la ah lb bh in

@@ -1,4 +1,5 @@
--- The cut of a request is the least region that the encoding can express around it: demand 3 of one cut, once over the exponent.
+-- The cut of a request is the least region that the encoding can express around it, once over the exponent. At the exponent of any region around
+-- the request the request fits; so the cut's exponent, the least that fits, rounds it no further out than that region's ends.
 -- Assumes nothing.
 use mathlib.Core.Path.{_≡_, refl, sym, _∙_}
 use mathlib.Core.Logic.{inl, inr, _↔_}
@@ -11,15 +12,12 @@ use lib.Pow.{pow-pos}
 use Rattle.metadata.specs.Word.{scaleOf, topOf, baseOf}
 use Rattle.metadata.proofs.Words.{scale-lt, top-lt, base-lt}
 use Rattle.bounds.specs.Bounds.{less, lowOf, highOf, lowAt, highAt, exponentOf, Expressible, Contains}
-use Rattle.bounds.specs.Cutting.{floorAt, ceilAt, roundDown, roundUp, fits, cutExponent, cutBase, cutTop, withCut, unrounded, cutLow, cutHigh, cutExact, CutClaim}
+use Rattle.bounds.specs.Cutting.{floorAt, ceilAt, roundDown, roundUp, fitsAt, cutExponent, cutBase, cutTop, withCut, unrounded, cutLow, cutHigh, cutExact}
 use Rattle.bounds.proofs.Rounding.{floor-ge, ceil-ge, ceil-le, floor-nest, ceil-nest, pow-split}
 use Rattle.bounds.proofs.Exponent.{Exponent, exponent-of, exponent-of-field, exponent-le, cut-exponent, IsLeast, least}
 use Rattle.bounds.proofs.Program.{test}
 use Rattle.bounds.proofs.Decode.{whole-space, unit-below, many, Units, blockOf, units-many, units-few, low-at, high-at, own-low, own-high}
 use Rattle.bounds.proofs.Limits.{scale-of-cut, top-of-cut, base-of-cut, cut-word}
-use Rattle.capability.specs.Capability.{low, high}
-use Rattle.capability.specs.declared.Capability.{Capability}
-use Rattle.capability_laws.specs.Authority.{Authority}
 
 -- ---- the bounds in units of 2^e
 
@@ -57,12 +55,12 @@ around e T B a base end x hT hB ha top hl hh =
 
 -- ---- what fits
 
-pub fits-of : (base end e : ℕ) → ceilAt e end ≤ floorAt e base + 511 → fits base end e ≡ true
-unfolding fits
+pub fits-of : (base end e : ℕ) → ceilAt e end ≤ floorAt e base + 511 → fitsAt base end e ≡ true
+unfolding fitsAt
 fits-of base end e h = le-leb (roundUp e end) (roundDown e base + 511 * 2 ^ e) (omega (arith, mul-le-mul-right (2 ^ e) h))
 
-pub of-fits : (base end e : ℕ) → fits base end e ≡ true → ceilAt e end ≤ floorAt e base + 511
-unfolding fits
+pub of-fits : (base end e : ℕ) → fitsAt base end e ≡ true → ceilAt e end ≤ floorAt e base + 511
+unfolding fitsAt
 of-fits base end e h =
     let l : ceilAt e end * 2 ^ e ≤ (floorAt e base + 511) * 2 ^ e = omega (arith, leb-true (roundUp e end) (roundDown e base + 511 * 2 ^ e) h) in
     le-of-mul-le-mul-right l (pow-pos e)
@@ -78,7 +76,7 @@ cut-exponent-again base end w = rw (scale-of-cut w base end) (exponent-of-field 
 -- ---- a request [base, end) in the address space
 
 module _ (base end : ℕ) (word : base < 2 ^ 32) (order : base ≤ end) (top : end ≤ 2 ^ 32) where
-  -- "the least of 0 to 14 or 24"
+  -- of all exponents that fit
   pub cut-least-exponent : IsLeast base end (cutExponent base end)
   cut-least-exponent = least base end (fits-of base end 24 (omega (arith, ceil-space 24 end (inr refl) top)))
 
@@ -94,12 +92,13 @@ module _ (base end : ℕ) (word : base < 2 ^ 32) (order : base ≤ end) (top : e
   floor≤ceil e = le-of-mul-le-mul-right {k = 2 ^ e} (omega (arith, down≤ e, ≤up e)) (pow-pos e)
 
   -- the fields of the rounded ends, at address base, decode to the rounded ends
-  own-decode : (e : ℕ) → Exponent e → fits base end e ≡ true
+  own-decode : (e : ℕ) → Exponent e → fitsAt base end e ≡ true
       → (lowOf e (floorAt e base % 512) base ≡ roundDown e base) × (highOf e (ceilAt e end % 512) (floorAt e base % 512) base ≡ roundUp e end)
   unfolding floorAt
   own-decode e x h = (
     own-low e base (2 ^ (32 - e)) (exponent-le x) (whole-space x) (unit-below x word),
-    own-high e base (2 ^ (32 - e)) (ceilAt e end) (exponent-le x) (whole-space x) (floor≤ceil e) (of-fits base end e h) (omega (arith, ceil-space e end x top, pow-pos (32 - e))),
+    own-high e base (2 ^ (32 - e)) (ceilAt e end) (exponent-le x) (whole-space x) (floor≤ceil e) (of-fits base end e h)
+        (omega (arith, ceil-space e end x top, pow-pos (32 - e))),
   )
 
   cut-decode : (lowOf (cutExponent base end) (cutBase base end) base ≡ roundDown (cutExponent base end) base)
@@ -134,13 +133,22 @@ module _ (base end : ℕ) (word : base < 2 ^ 32) (order : base ≤ end) (top : e
   pub cut-expressible : Expressible (cutLow base end) (cutHigh base end)
   unfolding cutLow cutHigh
   cut-expressible =
-      record { metadata = withCut 0 base end; address = base; metadata-fits = cut-word 0 base end (omega arith); address-fits = word; low-is = refl; high-is = refl }
+      record {
+        metadata = withCut 0 base end;
+        address = base;
+        metadata-fits = cut-word 0 base end (omega arith);
+        address-fits = word;
+        low-is = refl;
+        high-is = refl;
+      }
 
   pub cut-contains : Contains (cutLow base end) (cutHigh base end) base end
   cut-contains = record { from = rw cut-low (down≤ _); to = rw cut-high (≤up _) }
 
   pub cut-in-space : cutHigh base end ≤ 2 ^ 32
-  cut-in-space = rw cut-high (omega (arith, mul-le-mul-right (2 ^ cutExponent base end) (ceil-space _ end (cut-exponent base end) top), whole-space (cut-exponent base end)))
+  cut-in-space =
+      let x = cut-exponent base end in
+      rw cut-high (omega (arith, mul-le-mul-right (2 ^ cutExponent base end) (ceil-space _ end x top), whole-space x))
 
   -- every region of some fields at some address that contains the request contains the cut; wrapped and empty ones are no exception
   inside-fields : (e T B a : ℕ) → Exponent e → T < 512 → B < 512 → a < 2 ^ 32 → lowOf e B a ≤ base → end ≤ highOf e T B a
@@ -175,14 +183,3 @@ module _ (base end : ℕ) (word : base < 2 ^ 32) (order : base ≤ end) (top : e
   pub unrounded-exact : unrounded base end ≡ cutExact base end
   unfolding unrounded cutExact
   unrounded-exact = rw (cut-low, cut-high)
-
-  -- demand 3 of one cut
-  pub cut-claim : CutClaim base end
-  cut-claim = record { expressible = cut-expressible; contains = cut-contains; least = cut-least; exact = cut-exact }
-
--- ---- the cut lies inside a tagged, unsealed authority with low ≤ high ≤ 2^32 that contains the request
-
-pub cut-authority : (c : Capability) (base end : ℕ) → Authority c → base < 2 ^ 32 → base ≤ end → Contains (low c) (high c) base end
-    → Contains (low c) (high c) (cutLow base end) (cutHigh base end)
-unfolding low high
-cut-authority c base end h word order k = cut-inside base end word order (omega (arith, h .top, k .to)) (c .address) (c .metadata) (h .address-fits) k

@@ -1,4 +1,4 @@
--- The properties of the encoding that the CHERIoT report checks, Appendix A.1, "SMT validation", each under its name there, as laws of the definitions.
+-- The properties that the report has a solver check of its own model, Appendix A.1, "SMT validation": here laws of the definitions, each under its name there.
 -- A request [c .address, c .address + n) that ends by 2^32 is the report's `saneTop`. Assumes nothing.
 use mathlib.Core.Path.{_≡_, refl, ap, _∙_}
 use mathlib.Core.Logic.{_⊎_, inr, _↔_}
@@ -23,12 +23,13 @@ use Rattle.capability.specs.declared.Capability.{Capability}
 use Rattle.capability_laws.specs.Decoded.{decompressOf, compressOf}
 use Rattle.capability_laws.proofs.Tests.{both-equal, kept}
 use Rattle.bounds.proofs.Limits.{top-of-cut, base-of-cut}
-use Rattle.capability_laws.proofs.Region.{of-fits, cut-exponent-again, cut-least-exponent, cut-low, cut-high, cut-contains, cut-expressible, cut-least, unrounded-exact, ≤up}
+use Rattle.capability_laws.proofs.Region.{of-fits, cut-exponent-again, cut-least-exponent, cut-low, cut-high, ≤up}
+use Rattle.capability_laws.proofs.Region.{cut-contains, cut-expressible, cut-least, unrounded-exact}
 use Rattle.capability_laws.proofs.Compressed.{field-of-exponent, type-again, retype}
 use Rattle.capability_laws.proofs.Windows.{set-low, set-high, stays, stayed, same-of-cut}
 use Rattle.capability_laws.proofs.Aligned.{mask-down, aligned, short, round-lt, round-end}
 
--- ---- prop_decEnc: "going from bits to Capability and back preserves bits. This is a vital property to ensure that memcpy works."
+-- ---- prop_decEnc: a word taken apart and put together again is the same word, so that a copy of memory keeps it
 
 pub prop-decEnc : (metadata : ℕ) → metadata < 2 ^ 32 → compressOf (decompressOf metadata) ≡ metadata
 unfolding compressOf decompressOf objectType fieldsOf
@@ -36,14 +37,12 @@ prop-decEnc w h =
     rw (code-of-rights (permissionsOf w) (permissions-lt w), field-of-exponent (scaleOf w) (scale-lt w))
     (retype (fieldsOf w) _ (type-again (sealed (capability 0 w 0) && not (grants (capability 0 w 0) EX)) (typeOf w)) ∙ same-word w h)
 
--- ---- prop_andperms: "for any capability and permissions mask CAndPerm will result in a capability whose permissions are a subset of the original
--- permissions and the mask"
+-- ---- prop_andperms: after CAndPerm every right is one that the capability had and one that the mask has
 
 pub prop-andperms : (metadata mask k : ℕ) → Has (wordRights (narrowWord metadata mask)) k → Has (wordRights metadata) k × Has mask k
 prop-andperms w mask k h = (omega (arith, narrow-inside w mask k), omega (arith, narrow-in-mask w mask k))
 
--- ---- prop_setbounds: "the basic properties of setBounds: that the resulting cap includes the requested region and that the exact flag is correct"; and that the
--- result is encodable: the fields read back are those that were computed
+-- ---- prop_setbounds: the bounds that are set contain the request, exactness is told rightly, and the fields read back are those that were computed
 
 pub record SetBounds (c : Capability) (n : ℕ) : Type 0 where
   pub same-exponent : exponentOf (scaleOf (setBoundsOf c n .metadata)) ≡ cutExponent (c .address) (c .address + n)
@@ -69,8 +68,8 @@ prop-setbounds c n word sane =
       exact = rw (unrounded-exact b (b + n) word order sane, l, h) (both-equal (cutLow b (b + n)) b (cutHigh b (b + n)) (b + n));
     }
 
--- ---- prop_setbounds_monotonic: "we perform all possible pairs of set bounds operation and check that the result respects monotonicity"
--- (the second cut may be of any capability d: only the request counts)
+-- ---- prop_setbounds_monotonic: of two cuts, where the first contains the second's request, it contains the second. The second may be of any capability d:
+-- only its request counts
 
 pub prop-setbounds-monotonic : (c d : Capability) (n m : ℕ) → c .address < 2 ^ 32 → c .address + n ≤ 2 ^ 32 → d .address < 2 ^ 32 → d .address + m ≤ 2 ^ 32
     → Contains (low (setBoundsOf c n)) (high (setBoundsOf c n)) (d .address) (d .address + m)
@@ -83,7 +82,7 @@ prop-setbounds-monotonic c d n m cw cs dw ds k =
     (cut-least (d .address) (d .address + m) dw p ds (cutLow b (b + n)) (cutHigh b (b + n)) (cut-expressible b (b + n) cw o cs)
     (rw (set-low c n cw cs, set-high c n cw cs) at k))
 
--- ---- prop_setaddr: the flag returned by setCapAddr, here the tag, says exactly whether the bounds remain unchanged. Of every tagged, unsealed capability.
+-- ---- prop_setaddr: a move keeps the tag of a tagged, unsealed capability exactly where it changes no bound
 
 pub prop-setaddr : (c : Capability) (a : ℕ) → unsealed c ≡ true → c .tag ≡ 1
     → (moveOf c a .tag ≡ 1) ↔ (boundsOf a (c .metadata) ≡ boundsOf (c .address) (c .metadata))
@@ -94,7 +93,7 @@ prop-setaddr c a u t =
       λ h. rw (u, e .1 (ap (λ r. r .low) h, ap (λ r. r .high) h)) t,
     )
 
--- ---- prop_repbounds: "the representable bounds match expectations from the encoding, namely [b, b + 2^(e+9))"; at the largest exponent they are the whole space
+-- ---- prop_repbounds: the addresses at which a cut's bounds stay are the 2^(e+9) from its low bound on; at exponent 24 they are all
 
 pub prop-repbounds : (c : Capability) (n a : ℕ) → c .address < 2 ^ 32 → c .address + n ≤ 2 ^ 32 → a < 2 ^ 32
     → ((cutExponent (c .address) (c .address + n) ≡ 24)
@@ -109,7 +108,7 @@ prop-repbounds c n a word sane new =
       λ h. stayed b (b + n) a word order sane new (cut-exponent b (b + n)) (s .0 h),
     )
 
--- ---- prop_repbounds_c: "the representable bounds match the minimum guarantee of the C language i.e. base..one past the end"
+-- ---- prop_repbounds_c: among them are those that C lets a pointer have, from the low bound to the high bound itself
 
 pub prop-repbounds-c : (c : Capability) (n a : ℕ) → c .address < 2 ^ 32 → c .address + n ≤ 2 ^ 32 → a < 2 ^ 32
     → low (setBoundsOf c n) ≤ a → a ≤ high (setBoundsOf c n) → sameBounds (setBoundsOf c n) a ≡ true
@@ -122,8 +121,8 @@ prop-repbounds-c c n a word sane new la ah =
     let h : high (setBoundsOf c n) ≡ roundUp e (b + n) = set-high c n word sane ∙ cut-high b (b + n) word order sane in
     prop-repbounds c n a word sane new .0 (inr (la, omega (arith, f, pow-add 2 e 9, pow-pos e)))
 
--- ---- prop_crrl_cram: "the CRRL and CRAM instructions can be used to derive a representable base and length for given requested base and length. Note that CRRL
--- returns zero for non-zero reqLen in the case of rounding up to the max length."
+-- ---- prop_crrl_cram: a base masked by what CRAM gives, and the length that CRRL gives, are cut exactly and are no shorter than asked; but where CRRL
+-- gives 0 for a length that is not 0
 
 pub prop-crrl-cram : (base n : ℕ) → base < 2 ^ 32 → n < 2 ^ 32 → base + n ≤ 2 ^ 32 → (n ≡ 0) ⊎ (0 < representableLength n)
     → (unrounded (bitAnd base (alignmentMask n)) (bitAnd base (alignmentMask n) + representableLength n) ≡ true) × (n ≤ representableLength n)
@@ -139,7 +138,7 @@ prop-crrl-cram base n word length sane h =
       ≤up 0 n (omega arith) (omega arith) (omega arith) e,
     )
 
--- the case that it leaves out: "CRoundRepresentableLength gives 0 where the rounded length is 2^32" (document 01)
+-- that case: the rounded length is 2^32 (document 01, "Cutting bounds", its last sentence)
 pub crrl-zero : (n : ℕ) → roundUp (cutExponent 0 n) n ≡ 2 ^ 32 → representableLength n ≡ 0
 unfolding representableLength
 crrl-zero n h = rw h

@@ -1,5 +1,5 @@
--- What the promise of a cut shuts out: it says that the answer is `cutOf`. Document 01, "Promises that pin the answer": "Show that each promise shuts out: ..
--- a cutter that always gives the whole space, or always an empty region". Assumes nothing.
+-- Which cutters cannot keep the promise of a cut: those that always answer the whole space, an empty region, one region, or a refusal.
+-- Document 01, "Promises that pin the answer". The claim shows it of every request, two worked cases of one program. Assumes nothing.
 use mathlib.Core.Path.{_≡_, ap, _∙_}
 use mathlib.Core.List.{List, [], _∷_}
 use Prim.Native.Nat.{ℕ, zero, suc, _+_, _^_, _≤_, _<_}
@@ -7,12 +7,12 @@ use native.Mathlib.Omega.{arith}
 use lib.Dec.{T, eqb→eq}
 use Rattle.metadata.proofs.Table.{and-left, and-right}
 use Rattle.bounds.specs.Bounds.{Expressible, Contains}
-use Rattle.bounds.specs.Cutting.{cutLow, cutHigh, cutOf, answerNumber, answerLow, answerHigh}
+use Rattle.bounds.specs.Cutting.{cutOf, answerNumber, answerLow, answerHigh, CutPromise}
 use Rattle.bounds.specs.declared.CutAnswer.{CutAnswer}
 use Rattle.bounds.specs.declared.CutAnswer.the-variants.{PastEnd}
-use Rattle.capability_laws.specs.Cases.{Case, bounds, rights, narrowed, cut, holds, all, cases, cases-hold}
-use Rattle.capability_laws.proofs.Region.{cut-contains, cut-least}
-use Rattle.capability_laws.proofs.Answers.{answer-region}
+use Rattle.capability_laws.specs.Cases.{Case, bounds, rights, narrowed, cut, holds, all, cases}
+use Rattle.capability_laws.proofs.Cases.{cases-hold}
+use Rattle.capability_laws.proofs.Answers.{cut-claim}
 
 -- the answer is [0, 2^32)
 abbrev pub WholeSpace : CutAnswer → Type 0
@@ -20,22 +20,16 @@ WholeSpace a = (answerLow a ≡ 0) × (answerHigh a ≡ 2 ^ 32)
 
 -- ---- of every request that ends by 2^32
 
-module _ (base n : ℕ) (word : base < 2 ^ 32) (sane : base + n ≤ 2 ^ 32) (a : CutAnswer) (promised : a ≡ cutOf base n) where
-  low-is : answerLow a ≡ cutLow base (base + n)
-  low-is = ap answerLow promised ∙ answer-region base n word sane .0
-
-  high-is : answerHigh a ≡ cutHigh base (base + n)
-  high-is = ap answerHigh promised ∙ answer-region base n word sane .1
-
+module _ (base n : ℕ) (word : base < 2 ^ 32) (sane : base + n ≤ 2 ^ 32) (a : CutAnswer) (promised : CutPromise base n a) where
   -- an empty region is answered only to an empty request
   pub empty-only : answerHigh a ≤ answerLow a → n ≡ 0
-  empty-only h = omega (arith, h, low-is, high-is, cut-contains base (base + n) word (omega arith) sane)
+  empty-only h = omega (arith, h, cut-claim base n word a promised .region sane .contains)
 
   -- the whole space is answered only where no smaller region is around the request
   pub whole-only : WholeSpace a → (low high : ℕ) → Expressible low high → Contains low high base (base + n) → (low ≡ 0) × (2 ^ 32 ≤ high)
   whole-only w low high r k =
-      let c = cut-least base (base + n) word (omega arith) sane low high r k in
-      (omega (arith, w .0, low-is, c), omega (arith, w .1, high-is, c))
+      let c = cut-claim base n word a promised .region sane .least low high r k in
+      (omega (arith, w .0, c), omega (arith, w .1, c))
 
 -- ---- two worked cases
 
@@ -84,31 +78,34 @@ row-512 = row-at cases 7 cases-hold
 
 -- ---- what no cutter that keeps the promise does
 
-module _ (a b : CutAnswer) (asked-511 : a ≡ cutOf 0x20000001 511) (asked-512 : b ≡ cutOf 0x20000001 512) where
-  -- "a cutter that always gives the whole space": neither request gets it
-  pub whole-space-shut-out : (WholeSpace a → ⊥) × (WholeSpace b → ⊥)
-  whole-space-shut-out = (
-    λ h. omega (arith, h .1, ap answerHigh asked-511, row-511 .high-at),
-    λ h. omega (arith, h .1, ap answerHigh asked-512, row-512 .high-at),
-  )
+module _ (a b : CutAnswer) (asked-511 : CutPromise 0x20000001 511 a) (asked-512 : CutPromise 0x20000001 512 b) where
+  low-511 : answerLow a ≡ 0x20000001
+  low-511 = ap answerLow (asked-511 .answer-is) ∙ row-511 .low-at
 
-  -- "or always an empty region": neither does
+  high-511 : answerHigh a ≡ 0x20000200
+  high-511 = ap answerHigh (asked-511 .answer-is) ∙ row-511 .high-at
+
+  low-512 : answerLow b ≡ 0x20000000
+  low-512 = ap answerLow (asked-512 .answer-is) ∙ row-512 .low-at
+
+  high-512 : answerHigh b ≡ 0x20000202
+  high-512 = ap answerHigh (asked-512 .answer-is) ∙ row-512 .high-at
+
+  -- the whole space: neither request gets it
+  pub whole-space-shut-out : (WholeSpace a → ⊥) × (WholeSpace b → ⊥)
+  whole-space-shut-out = (λ h. omega (arith, h .1, high-511), λ h. omega (arith, h .1, high-512))
+
+  -- an empty region: neither does
   pub empty-region-shut-out : (answerHigh a ≤ answerLow a → ⊥) × (answerHigh b ≤ answerLow b → ⊥)
-  empty-region-shut-out = (
-    λ h. omega (arith, h, ap answerLow asked-511, ap answerHigh asked-511, row-511 .low-at, row-511 .high-at),
-    λ h. omega (arith, h, ap answerLow asked-512, ap answerHigh asked-512, row-512 .low-at, row-512 .high-at),
-  )
+  empty-region-shut-out = (λ h. omega (arith, h, low-511, high-511), λ h. omega (arith, h, low-512, high-512))
 
   -- nor is any one region, low or high, that of both
   pub one-region-shut-out : (answerLow a ≡ answerLow b → ⊥) × (answerHigh a ≡ answerHigh b → ⊥)
-  one-region-shut-out = (
-    λ h. omega (arith, h, ap answerLow asked-511, ap answerLow asked-512, row-511 .low-at, row-512 .low-at),
-    λ h. omega (arith, h, ap answerHigh asked-511, ap answerHigh asked-512, row-511 .high-at, row-512 .high-at),
-  )
+  one-region-shut-out = (λ h. omega (arith, h, low-511, low-512), λ h. omega (arith, h, high-511, high-512))
 
   -- nor a refusal
   pub refusing-cut-shut-out : (a ≡ PastEnd → ⊥) × (b ≡ PastEnd → ⊥)
   refusing-cut-shut-out = (
-    λ h. omega (arith, ap answerNumber h, ap answerNumber asked-511, row-511 .number-is),
-    λ h. omega (arith, ap answerNumber h, ap answerNumber asked-512, row-512 .number-is),
+    λ h. omega (arith, ap answerNumber h, ap answerNumber (asked-511 .answer-is), row-511 .number-is),
+    λ h. omega (arith, ap answerNumber h, ap answerNumber (asked-512 .answer-is), row-512 .number-is),
   )

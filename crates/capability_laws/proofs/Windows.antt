@@ -1,4 +1,4 @@
--- The bounds that CSetBounds leaves, and the addresses at which they stay. Assumes nothing.
+-- The bounds that CSetBounds leaves, and the addresses at which they stay: the first 512 units from the low bound, or all at exponent 24. Assumes nothing.
 use mathlib.Core.Path.{_≡_}
 use mathlib.Core.Logic.{_⊎_, inl, inr, _↔_}
 use mathlib.Core.Bool.{true}
@@ -62,7 +62,8 @@ module _ (base end a : ℕ) (word : base < 2 ^ 32) (order : base ≤ end) (sane 
   pub stayed : Exponent (cutExponent base end) → Same (cutExponent base end) (cutTop base end) (cutBase base end) base a
       → (cutExponent base end ≡ 24) ⊎ ((cutLow base end ≤ a) × (a < cutLow base end + 2 ^ (cutExponent base end + 9)))
   stayed (inl x) s =
-      inr (window .1 (block-of-same (cutExponent base end) (cutTop base end) (cutBase base end) base a x (cut-top-lt base end) (cut-base-lt base end) word new s))
+      inr (window .1
+      (block-of-same (cutExponent base end) (cutTop base end) (cutBase base end) base a x (cut-top-lt base end) (cut-base-lt base end) word new s))
   stayed (inr z) s = inl z
 
 -- the test of a move, of what CSetBounds gives

@@ -8,7 +8,7 @@ use Rattle.bounds.specs.Bounds.{Contains}
 use Rattle.capability.specs.Capability.{low, high, rights, tagged, unsealed}
 use Rattle.capability.specs.declared.Capability.{Capability}
 
--- "a tagged, unsealed (type 0) capability with low <= high <= 2^32"
+-- tagged, unsealed, and with bounds in order and in the address space
 pub record Authority (c : Capability) : Type 0 where
   pub address-fits : c .address < 2 ^ 32
   pub is-tagged : tagged c ≡ true

@@ -3,11 +3,10 @@
 use mathlib.Core.Bool.{Bool, true, _&&_}
 use mathlib.Core.List.{List, [], _∷_}
 use Prim.Native.Nat.{ℕ, _-_, _^_}
-use lib.Dec.{T, eqb}
-use Rattle.metadata.specs.Word.{permissionsOf, scaleOf, topOf, baseOf, withBounds, withPermissions}
-use Rattle.metadata.specs.Rights.{SD, LD, rightsOf, codeOf, wordRights, narrowWord}
-use Rattle.bounds.specs.Bounds.{exponentOf, lowOf, highOf, lowAt, highAt}
-use Rattle.bounds.specs.Cutting.{floorAt, ceilAt, fits, firstFit, cutExponent, scaleField, cutBase, cutTop, withCut, cutLow, cutHigh, cutExact, cutOf, answerNumber, answerLow, answerHigh, answerExact}
+use lib.Dec.{eqb}
+use Rattle.metadata.specs.Rights.{SD, LD, wordRights, narrowWord}
+use Rattle.bounds.specs.Bounds.{lowAt, highAt}
+use Rattle.bounds.specs.Cutting.{cutOf, answerNumber, answerLow, answerHigh, answerExact}
 
 pub data Case : Type 0 where
   -- metadata with an address is [low, high)
@@ -46,7 +45,3 @@ cases =
     ∷ cut 0x20000000 8372225 0x20000000 0x21000000 0
     ∷ cut 0x20000000 0 0x20000000 0x20000000 1
     ∷ []
-
-pub cases-hold : T (all cases)
-unfolding all holds cases lowAt highAt cutLow cutHigh cutExact cutOf exponentOf scaleField lowOf highOf floorAt ceilAt fits firstFit cutExponent cutBase cutTop permissionsOf scaleOf topOf baseOf withBounds withPermissions withCut rightsOf codeOf narrowWord
-cases-hold = tt

@@ -1,4 +1,4 @@
--- A metadata word decompressed and compressed again. CHERIoT report, Appendix A, encCapabilityToCapability and capToEncCap.
+-- A metadata word decompressed and compressed again. The report, Appendix A, encCapabilityToCapability and capToEncCap.
 -- Assumes nothing.
 use Prim.Native.Nat.{ℕ}
 use Rattle.metadata.specs.Word.{reservedOf, scaleOf, topOf, baseOf, wordOf}
@@ -28,7 +28,7 @@ decompressOf w =
       base = baseOf w;
     }
 
--- "truncate otype when compressing": `wordOf` takes the three low bits
+-- of the 4-bit type the three low bits are stored: `wordOf` takes these
 unfoldable pub compressOf : Decoded → ℕ
 compressOf d =
     wordOf (record {

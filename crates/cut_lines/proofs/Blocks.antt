@@ -22,7 +22,8 @@ unfolding taken
 taken-le s [] room = omega arith
 taken-le s (b ∷ l) room = go (ltb room longest) (taken-le (stepped s b) l (room - length (stepText s b)))
   where
-    go : (t : Bool) → taken (stepped s b) l (room - length (stepText s b)) ≤ length l → cond t 0 (suc (taken (stepped s b) l (room - length (stepText s b)))) ≤ suc (length l)
+    go : (t : Bool) → taken (stepped s b) l (room - length (stepText s b)) ≤ length l
+        → cond t 0 (suc (taken (stepped s b) l (room - length (stepText s b)))) ≤ suc (length l)
     go true r = omega arith
     go false r = omega arith
 

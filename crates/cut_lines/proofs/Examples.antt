@@ -8,29 +8,38 @@ use native.Mathlib.Omega.{arith}
 use lib.ListN.{length, length-append}
 use Rattle.metadata.specs.Word.{scaleOf, topOf, baseOf, withBounds}
 use Rattle.bounds.specs.Bounds.{exponentOf, lowOf, highOf, lowAt, highAt}
-use Rattle.bounds.specs.Cutting.{floorAt, ceilAt, fits, firstFit, cutExponent, scaleField, cutBase, cutTop, withCut, cutLow, cutHigh, cutExact, cutOf}
+use Rattle.bounds.specs.Cutting.{floorAt, ceilAt, fitsAt, firstFit, cutExponent, scaleField, cutBase, cutTop, withCut, cutLow, cutHigh, cutExact, cutOf}
 use Rattle.bounds.specs.declared.CutAnswer.{CutAnswer}
 use Rattle.bounds.specs.declared.CutAnswer.the-variants.{Cut, PastEnd}
 use Rattle.cut_lines.specs.Digits.{digitOf, allDigits, numberFrom, glyph, digits, placesWithin, placesOf, decimal}
-use Rattle.cut_lines.specs.Lines.{tab, headerText, badText, yesText, noText, wellFormed, requested, cutText, lineText, startLine, linesOf, linesText, textOf}
+use Rattle.cut_lines.specs.Lines.{tab, newline, headerText, badText, yesText, noText}
+use Rattle.cut_lines.specs.Lines.{wellFormed, requested, cutText, lineText, startLine, linesOf, linesText, textOf}
 use Rattle.cut_lines.specs.Writing.{longest}
 use Rattle.cut_lines.proofs.Numbers.{length-digits, decimal-le}
 
--- `20000001<TAB>00000200`, newline, `ffffffff<TAB>00000002`, and no newline
-abbrev pub input : List ℕ
-input =
-    50 ∷ 48 ∷ 48 ∷ 48 ∷ 48 ∷ 48 ∷ 48 ∷ 49 ∷ 9 ∷ 48 ∷ 48 ∷ 48 ∷ 48 ∷ 48 ∷ 50 ∷ 48 ∷ 48 ∷ 10 ∷ 102 ∷ 102 ∷ 102 ∷ 102 ∷ 102 ∷ 102 ∷ 102 ∷ 102 ∷ 9 ∷ 48 ∷ 48 ∷ 48 ∷ 48 ∷ 48 ∷ 48 ∷ 48 ∷ 50 ∷ []
+-- `20000001<TAB>00000200` and `ffffffff<TAB>00000002`
+abbrev pub request1 : List ℕ
+request1 = 50 ∷ 48 ∷ 48 ∷ 48 ∷ 48 ∷ 48 ∷ 48 ∷ 49 ∷ tab ∷ 48 ∷ 48 ∷ 48 ∷ 48 ∷ 48 ∷ 50 ∷ 48 ∷ 48 ∷ []
 
--- `1<TAB>20000000<TAB>020000202<TAB>no` and `2<TAB>bad<TAB>6`
-abbrev pub output : List ℕ
-output =
-    49 ∷ 9 ∷ 50 ∷ 48 ∷ 48 ∷ 48 ∷ 48 ∷ 48 ∷ 48 ∷ 48 ∷ 9 ∷ 48 ∷ 50 ∷ 48 ∷ 48 ∷ 48 ∷ 48 ∷ 50 ∷ 48 ∷ 50 ∷ 9 ∷ 110 ∷ 111 ∷ 10 ∷ 50 ∷ 9 ∷ 98 ∷ 97 ∷ 100 ∷ 9 ∷ 54 ∷ 10 ∷ []
+abbrev pub request2 : List ℕ
+request2 = 102 ∷ 102 ∷ 102 ∷ 102 ∷ 102 ∷ 102 ∷ 102 ∷ 102 ∷ tab ∷ 48 ∷ 48 ∷ 48 ∷ 48 ∷ 48 ∷ 48 ∷ 48 ∷ 50 ∷ []
 
-pub example : textOf input ≡ headerText ++ output
-unfolding textOf linesOf startLine linesText lineText wellFormed requested cutText digitOf allDigits numberFrom glyph digits placesWithin placesOf decimal cutOf cutLow cutHigh cutExact withCut cutTop cutBase scaleField cutExponent firstFit fits ceilAt floorAt lowAt highAt lowOf highOf exponentOf withBounds scaleOf topOf baseOf
+-- `1<TAB>20000000<TAB>020000202<TAB>no` and `2<TAB>bad<TAB>6`, each with its newline
+abbrev pub line1 : List ℕ
+line1 =
+    49 ∷ tab ∷ 50 ∷ 48 ∷ 48 ∷ 48 ∷ 48 ∷ 48 ∷ 48 ∷ 48 ∷ tab ∷ 48 ∷ 50 ∷ 48 ∷ 48 ∷ 48 ∷ 48 ∷ 50 ∷ 48 ∷ 50 ∷ tab ∷ 110 ∷ 111 ∷ newline ∷ []
+
+abbrev pub line2 : List ℕ
+line2 = 50 ∷ tab ∷ 98 ∷ 97 ∷ 100 ∷ tab ∷ 54 ∷ newline ∷ []
+
+-- the second request has no newline
+pub example : textOf (request1 ++ (newline ∷ request2)) ≡ headerText ++ line1 ++ line2
+unfolding textOf linesOf startLine linesText lineText wellFormed requested cutText digitOf allDigits numberFrom glyph digits placesWithin placesOf decimal
+    cutOf cutLow cutHigh cutExact withCut cutTop cutBase scaleField cutExponent firstFit fitsAt ceilAt floorAt lowAt highAt lowOf highOf exponentOf withBounds
+    scaleOf topOf baseOf
 example = refl
 
--- "empty input gives the header alone"
+-- of an empty input the header alone is written
 pub empty-input : textOf [] ≡ headerText
 unfolding textOf linesOf linesText
 empty-input = refl

@@ -25,7 +25,8 @@ bound-free zero (suc g) n h k = rw (lt-ltb n 10 (omega arith))
 bound-free (suc f) zero n h k = rw (lt-ltb n 10 (omega arith))
 bound-free (suc f) (suc g) n h k = go (ltb n 10) refl (bound-free f g (n / 10))
   where
-    go : (t : Bool) → ltb n 10 ≡ t → (n / 10 ≤ f → n / 10 ≤ g → placesWithin f (n / 10) ≡ placesWithin g (n / 10)) → placesWithin (suc f) n ≡ placesWithin (suc g) n
+    go : (t : Bool) → ltb n 10 ≡ t → (n / 10 ≤ f → n / 10 ≤ g → placesWithin f (n / 10) ≡ placesWithin g (n / 10))
+        → placesWithin (suc f) n ≡ placesWithin (suc g) n
     go true e r = rw e
     go false e r = let l = ltb-false n 10 e in rw (e, r (omega arith) (omega arith))
 

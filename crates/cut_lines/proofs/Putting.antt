@@ -31,7 +31,8 @@ put-then : (o : List ℕ) (at : ℕ) (a b : List ℕ) → at + length a + length
 unfolding put
 put-then o at a b h =
     let n : length (take at o ++ a) ≡ at + length a = length-front o at a (omega arith) in
-    let front : take (at + length a) (take at o ++ a ++ drop (at + length a) o) ≡ take at o ++ a = take-at (take at o ++ a) (drop (at + length a) o) (at + length a) n in
+    let front : take (at + length a) (take at o ++ a ++ drop (at + length a) o) ≡ take at o ++ a
+    = take-at (take at o ++ a) (drop (at + length a) o) (at + length a) n in
     let back : drop (at + length a + length b) (take at o ++ a ++ drop (at + length a) o) ≡ drop (at + length a + length b) o
     = drop-past (take at o ++ a) (drop (at + length a) o) (at + length a) (length b) n ∙ drop-drop (length b) (at + length a) o in
     rw (front, back, length-append, append-assoc (take at o) a b, ← (add-assoc at (length a) (length b)))
@@ -117,7 +118,7 @@ room-left n at h = go (leb (at + longest) n) refl
 
 -- a writer's answer: with room for the longest line, and without
 pub wrote : {o o₁ text : List ℕ} {at n : ℕ} → hasRoom o at ≡ true → Puts o at text o₁ n → Writes o at text o₁ (End n)
-wrote h p = record { answer-is = rw (h, p .ends); after-is = rw h (p .bytes) }
+wrote h p = record { answer-is = rw (h, p .ends); number-is = rw h; end-is = rw h (p .ends); after-is = rw h (p .bytes) }
 
 pub refused : (o : List ℕ) (at : ℕ) (text : List ℕ) → hasRoom o at ≡ false → Writes o at text o NoRoom
-refused o at text h = record { answer-is = rw h; after-is = rw h }
+refused o at text h = record { answer-is = rw h; number-is = rw h; end-is = rw h; after-is = rw h }

@@ -6,6 +6,7 @@ use Prim.Native.Nat.{ℕ, suc}
 use lib.Dec.{eqb}
 use lib.ListN.{length, getD, take, drop}
 use Rattle.bounds.specs.Cutting.{cutOf}
+use Rattle.bounds.specs.declared.Region.{Region}
 use Rattle.bounds.specs.declared.CutAnswer.{CutAnswer}
 use Rattle.bounds.specs.declared.CutAnswer.the-variants.{Cut, PastEnd}
 use Rattle.cut_lines.specs.Digits.{allDigits, numberOf, digits, decimal}
@@ -33,7 +34,7 @@ refusedText = 98 ∷ 97 ∷ 100 ∷ tab ∷ 54 ∷ newline ∷ []
 abbrev pub badText : List ℕ
 badText = 98 ∷ 97 ∷ 100 ∷ tab ∷ 108 ∷ 105 ∷ 110 ∷ 101 ∷ newline ∷ []
 
--- "lines of base, tab, length, eight lower-case hex digits each"
+-- a well-formed line: eight digits, a tab, eight digits
 unfoldable pub wellFormed : (line : List ℕ) → Bool
 wellFormed l = eqb (length l) 17 && (allDigits (take 8 l) && (eqb (getD l 8 0) tab && allDigits (drop 9 l)))
 
@@ -41,16 +42,19 @@ wellFormed l = eqb (length l) 17 && (allDigits (take 8 l) && (eqb (getD l 8 0) t
 unfoldable pub requested : (line : List ℕ) → CutAnswer
 requested l = cutOf (numberOf (take 8 l)) (numberOf (drop 9 l))
 
--- "Low has eight digits, high nine; exact is `yes` or `no`"
+-- a region's low in eight digits and its high in nine, and whether it is exact
+abbrev pub regionText : (r : Region) (exact : Bool) → List ℕ
+regionText r exact = digits 16 8 (r .low) ++ (tab ∷ digits 16 9 (r .high)) ++ (tab ∷ cond exact yesText noText)
+
 unfoldable pub cutText : CutAnswer → List ℕ
-cutText (Cut r exact) = digits 16 8 (r .low) ++ (tab ∷ digits 16 9 (r .high)) ++ (tab ∷ cond exact yesText noText)
+cutText (Cut r exact) = regionText r exact
 cutText PastEnd = refusedText
 
--- what is written for line n; "an ill-formed line n, of any length, is `n<TAB>bad<TAB>line`"
+-- what is written for line n, well-formed or not
 unfoldable pub lineText : (n : ℕ) (line : List ℕ) → List ℕ
 lineText n l = decimal n ++ (tab ∷ cond (wellFormed l) (cutText (requested l)) badText)
 
--- the lines of an input: "a last input line without [a newline] still counts"
+-- the lines of an input; a last one without a newline is one too
 unfoldable pub startLine : (byte : ℕ) → List (List ℕ) → List (List ℕ)
 startLine b [] = (b ∷ []) ∷ []
 startLine b (l ∷ ls) = (b ∷ l) ∷ ls
@@ -63,6 +67,6 @@ unfoldable pub linesText : (n : ℕ) (lines : List (List ℕ)) → List ℕ
 linesText n [] = []
 linesText n (l ∷ ls) = lineText n l ++ linesText (suc n) ls
 
--- what is written for a whole input: "lines count from 1"; "empty input gives the header alone"
+-- what is written for a whole input: the header, and its lines, numbered from 1
 unfoldable pub textOf : (input : List ℕ) → List ℕ
 textOf input = headerText ++ linesText 1 (linesOf input)

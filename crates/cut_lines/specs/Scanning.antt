@@ -51,9 +51,9 @@ unfoldable pub stepText : (s : Scan) (byte : ℕ) → List ℕ
 stepText s b = cond (eqb b newline) (answered s) []
 
 -- the bytes of a line, the bytes of an input, and what is written for these
-unfoldable pub lineRead : Scan → (line : List ℕ) → Scan
-lineRead s [] = s
-lineRead s (b ∷ l) = lineRead (advanced s b) l
+unfoldable pub readLine : Scan → (line : List ℕ) → Scan
+readLine s [] = s
+readLine s (b ∷ l) = readLine (advanced s b) l
 
 unfoldable pub scanned : Scan → (input : List ℕ) → Scan
 scanned s [] = s
@@ -78,8 +78,8 @@ pub record Processed (s : Scan) (input before after : List ℕ) (p : Progress) :
   pub scan-is : p .scan ≡ scanned s (take (p .read) input)
   pub text-is : Puts before 0 (scanText s (take (p .read) input)) after (p .written)
 
--- A run over an input: each call of `process` gets a block that goes on where the one before stopped, and what it says it wrote is kept; at the end comes the last line.
--- The index has what was read in all, and what was written in all.
+-- A run over an input: each call of `process` gets a block that goes on where the one before stopped, and what it says it wrote is kept; at the
+-- end comes the last line. The index has what was read in all, and what was written in all.
 pub data Session : Scan → (input text : List ℕ) → Type 0 where
   ended : {s : Scan} → Session s [] (lastText s)
   block : {s : Scan} {bytes before after rest text : List ℕ} {p : Progress} → Processed s bytes before after p → Session (p .scan) rest text

@@ -6,14 +6,22 @@ ghost use Rattle.cut_lines.specs.Digits.{digitOf, digits, placesOf, deci
 ghost use Rattle.cut_lines.specs.Digits.{glyph as Digits·glyph};
 ghost use Rattle.cut_lines.specs.Writing.{Puts};
 
+// The bases in which numbers are written.
+pub(crate) const HEX: u64 = 16;
+
+const DECIMAL: u64 = 10;
+
+// What the byte of a letter is above its digit: `a` is ten.
+const LETTERS: u8 = 87;
+
 // The value of a lower-case hexadecimal digit, and 16 for any other byte.
 pub(crate) fn digit_of(b: u8) -> u64
     ensures { λ r. ⌜ (r ≡ digitOf b) × (r ≤ 16) ⌝ }
 {
     match b {
-        48..=57 => (b - 48) as u64,
-        97..=102 => (b - 87) as u64,
-        _ => 16,
+        b'0'..=b'9' => (b - b'0') as u64,
+        b'a'..=b'f' => (b - LETTERS) as u64,
+        _ => HEX,
     }
 }
 
@@ -22,17 +30,21 @@ fn glyph(d: u64) -> u8
     requires { ⌜ d < 16 ⌝ }
     ensures { λ r. ⌜ r ≡ Digits·glyph d ⌝ }
 {
-    if d < 10 { 48 + d as u8 } else { 87 + d as u8 }
+    if d < DECIMAL {
+        b'0' + d as u8
+    } else {
+        LETTERS + d as u8
+    }
 }
 
 // How many decimal digits n has.
-fn places(n: u64) -> usize
+fn places_of(n: u64) -> usize
     ensures { λ r. ⌜ (r ≡ placesOf n) × (r ≤ 20) ⌝ }
 {
     let mut k = 1;
     let mut rest = n;
-    while rest > 9 {
-        rest /= 10;
+    while rest >= DECIMAL {
+        rest /= DECIMAL;
         k += 1;
     }
     k
@@ -58,6 +70,6 @@ pub(crate) fn put_decimal(out: &mut [u8], at: usize, n: u64) -> usize
     requires { ⌜ at + 20 ≤ length (now out) ⌝ }
     ensures { λ r. ⌜ (r ≤ at + 20) × Puts (now (out .entry)) at (decimal n) (now (out .exit)) r ⌝ }
 {
-    let k = places(n);
-    put_digits(out, at, 10, k, n)
+    let k = places_of(n);
+    put_digits(out, at, DECIMAL, k, n)
 }

@@ -1,26 +1,36 @@
 // What belongs to a line, written into a buffer. Each function writes from index `at` on and returns
 // the index after what it wrote.
+use crate::LINE;
+use crate::LONGEST;
 use crate::Scan;
+use crate::digits::HEX;
 use crate::digits::put_decimal;
 use crate::digits::put_digits;
 use bounds::CutAnswer;
 use bounds::Region;
 ghost use mathlib.Core.Bool.{cond};
-ghost use mathlib.Core.List.{[], _∷_, _++_};
+ghost use mathlib.Core.List.{[], _∷_};
 ghost use mathlib.Core.Path.{_≡_};
 ghost use Prim.Native.Nat.{_+_, _<_, _≤_};
 ghost use lib.ListN.{length};
-ghost use Rattle.cut_lines.specs.Digits.{digits};
-ghost use Rattle.cut_lines.specs.Lines.{cutText, noText, tab, yesText};
+ghost use Rattle.cut_lines.specs.Lines.{cutText, noText, regionText, yesText};
 ghost use Rattle.cut_lines.specs.Scanning.{answered, lastText, outcome, stepText};
-ghost use Rattle.cut_lines.specs.Writing.{hasRoom, Puts};
+ghost use Rattle.cut_lines.specs.Writing.{hasRoom, longest, Puts};
+
+// The hexadecimal digits of a low bound, and of a high bound of 33 bits.
+const LOW_DIGITS: usize = 8;
+
+const HIGH_DIGITS: usize = 9;
+
+// A line's value has the length in its lower word and the base above that.
+const WORD: u64 = 0x1_0000_0000;
 
 // Whether the buffer has room for the longest line.
 pub(crate) fn has_room(out: &[u8], at: usize) -> bool
     ensures { λ r. ⌜ r ≡ hasRoom (now (out .entry)) at ⌝ }
 {
     if at <= out.len() {
-        out.len() - at >= 44
+        out.len() - at >= LONGEST
     } else {
         false
     }
@@ -60,12 +70,12 @@ fn put_exact(out: &mut [u8], at: usize, exact: bool) -> usize
 // A region's bounds and whether they are exact.
 fn put_region(out: &mut [u8], at: usize, region: Region, exact: bool) -> usize
     requires { ⌜ at + 23 ≤ length (now out) ⌝ }
-    ensures { λ r. ⌜ Puts (now (out .entry)) at (digits 16 8 (region .low) ++ (tab ∷ digits 16 9 (region .high)) ++ (tab ∷ cond exact yesText noText)) (now (out .exit)) r ⌝ }
+    ensures { λ r. ⌜ Puts (now (out .entry)) at (regionText region exact) (now (out .exit)) r ⌝ }
 {
-    let a = put_digits(out, at, 16, 8, region.low as u64);
-    let b = put_byte(out, a, 9);
-    let c = put_digits(out, b, 16, 9, region.high);
-    let d = put_byte(out, c, 9);
+    let a = put_digits(out, at, HEX, LOW_DIGITS, region.low as u64);
+    let b = put_byte(out, a, b'\t');
+    let c = put_digits(out, b, HEX, HIGH_DIGITS, region.high);
+    let d = put_byte(out, c, b'\t');
     put_exact(out, d, exact)
 }
 
@@ -84,9 +94,9 @@ fn put_outcome(out: &mut [u8], at: usize, s: Scan) -> usize
     requires { ⌜ at + 23 ≤ length (now out) ⌝ }
     ensures { λ r. ⌜ Puts (now (out .entry)) at (outcome s) (now (out .exit)) r ⌝ }
 {
-    if s.place == 17 {
-        let base = (s.value / 4294967296) as u32;
-        let length = (s.value % 4294967296) as u32;
+    if s.place == LINE {
+        let base = (s.value / WORD) as u32;
+        let length = (s.value % WORD) as u32;
         put_cut(out, at, bounds::cut(base, length))
     } else {
         put_bytes(out, at, b"bad\tline\n")
@@ -95,25 +105,25 @@ fn put_outcome(out: &mut [u8], at: usize, s: Scan) -> usize
 
 // The whole output line.
 pub(crate) fn put_line(out: &mut [u8], at: usize, s: Scan) -> usize
-    requires { ⌜ at + 44 ≤ length (now out) ⌝ }
+    requires { ⌜ at + longest ≤ length (now out) ⌝ }
     ensures { λ r. ⌜ Puts (now (out .entry)) at (answered s) (now (out .exit)) r ⌝ }
 {
     let a = put_decimal(out, at, s.number);
-    let b = put_byte(out, a, 9);
+    let b = put_byte(out, a, b'\t');
     put_outcome(out, b, s)
 }
 
 // What belongs to a byte of the input: the output line where the byte ends a line, else nothing.
 pub(crate) fn put_step(out: &mut [u8], at: usize, s: Scan, b: u8) -> usize
-    requires { ⌜ at + 44 ≤ length (now out) ⌝ }
+    requires { ⌜ at + longest ≤ length (now out) ⌝ }
     ensures { λ r. ⌜ Puts (now (out .entry)) at (stepText s b) (now (out .exit)) r ⌝ }
 {
-    if b == 10 { put_line(out, at, s) } else { at }
+    if b == b'\n' { put_line(out, at, s) } else { at }
 }
 
 // What belongs to the end of the input.
 pub(crate) fn put_last(out: &mut [u8], at: usize, s: Scan) -> usize
-    requires { ⌜ at + 44 ≤ length (now out) ⌝ }
+    requires { ⌜ at + longest ≤ length (now out) ⌝ }
     ensures { λ r. ⌜ Puts (now (out .entry)) at (lastText s) (now (out .exit)) r ⌝ }
 {
     if s.place == 0 {

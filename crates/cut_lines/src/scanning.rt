@@ -1,19 +1,23 @@
 // The state after one more byte of the input.
+use crate::LINE;
+use crate::SPOILED;
 use crate::Scan;
+use crate::TAB_PLACE;
+use crate::digits::HEX;
 use crate::digits::digit_of;
 ghost use mathlib.Core.Bool.{true};
 ghost use mathlib.Core.Path.{_≡_};
-ghost use Rattle.cut_lines.specs.Scanning.{advanced, lineRead, stepped, valueWith};
+ghost use Rattle.cut_lines.specs.Scanning.{advanced, readLine, stepped, valueWith};
 ghost use Rattle.cut_lines.specs.Scanning.{expected as Scanning·expected};
 
 // Whether a line may have the byte at a place.
 fn expected(place: u32, b: u8) -> bool
     ensures { λ r. ⌜ r ≡ Scanning·expected place b ⌝ }
 {
-    if place == 8 {
-        b == 9
+    if place == TAB_PLACE {
+        b == b'\t'
     } else {
-        digit_of(b) < 16 && place < 17
+        digit_of(b) < HEX && place < LINE
     }
 }
 
@@ -22,7 +26,7 @@ fn value_with(place: u32, value: u64, b: u8) -> u64
     requires { ⌜ Scanning·expected place b ≡ true ⌝ }
     ensures { λ r. ⌜ r ≡ valueWith place value b ⌝ }
 {
-    if place == 8 {
+    if place == TAB_PLACE {
         value
     } else {
         (value << 4) + digit_of(b)
@@ -43,7 +47,7 @@ fn advance(s: Scan, b: u8) -> Scan
     } else {
         Scan {
             number: s.number,
-            place: 18,
+            place: SPOILED,
             value: s.value,
         }
     }
@@ -53,7 +57,7 @@ fn advance(s: Scan, b: u8) -> Scan
 pub(crate) fn step(s: Scan, b: u8) -> Scan
     ensures { λ r. ⌜ r ≡ stepped s b ⌝ }
 {
-    if b == 10 {
+    if b == b'\n' {
         crate::start(std::num::wrapping_add_u64(s.number, 1))
     } else {
         advance(s, b)
@@ -62,7 +66,7 @@ pub(crate) fn step(s: Scan, b: u8) -> Scan
 
 // The bytes of a line.
 pub(crate) fn read_line(s: Scan, line: &[u8]) -> Scan
-    ensures { λ r. ⌜ r ≡ lineRead s (now (line .entry)) ⌝ }
+    ensures { λ r. ⌜ r ≡ readLine s (now (line .entry)) ⌝ }
 {
     let mut t = s;
     let mut i = 0;

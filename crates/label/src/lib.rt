@@ -1,12 +1,18 @@
 // The cutter and the bounds lookup for C, asked by plain numbers. `include/oddersnow.h` declares
-// them. A refused cut has the number 6, and each of its other values is 0.
+// them. A refused cut has a number of its own, and each of its other values is 0.
 use bounds::CutAnswer;
 use bounds::Region;
-ghost use mathlib.Core.Bool.{cond};
+use choices::one_if;
 ghost use mathlib.Core.Path.{_≡_};
 ghost use Rattle.bounds.specs.Bounds.{boundsOf};
 ghost use Rattle.bounds.specs.Cutting.{answerExact, answerHigh, answerLow, answerNumber, cutOf};
 ghost use Rattle.label.specs.Answers.{Says};
+
+// Document 01's number of what is not refused.
+const ANSWERED: u32 = 0;
+
+// Document 01's number of a request that ends past 2^32.
+const PAST_END: u32 = 6;
 
 // A cut's answer as numbers.
 struct Numbers {
@@ -16,24 +22,18 @@ struct Numbers {
     exact: u32,
 }
 
-fn one_if(t: bool) -> u32
-    ensures { λ r. ⌜ r ≡ cond t 1 0 ⌝ }
-{
-    if t { 1 } else { 0 }
-}
-
 fn numbers_of(answer: CutAnswer) -> Numbers
     ensures { λ r. ⌜ Says r answer ⌝ }
 {
     match answer {
         CutAnswer::Cut { region, exact } => Numbers {
-            number: 0,
+            number: ANSWERED,
             low: region.low,
             high: region.high,
             exact: one_if(exact),
         },
         CutAnswer::PastEnd => Numbers {
-            number: 6,
+            number: PAST_END,
             low: 0,
             high: 0,
             exact: 0,
@@ -47,7 +47,7 @@ fn cut_numbers(base: u32, length: u32) -> Numbers
     numbers_of(bounds::cut(base, length))
 }
 
-// 0, or the refusal 6.
+// 0, or 6 where the request ends past 2^32.
 #[no_mangle]
 pub extern "C" fn oddersnow_cut_number(base: u32, length: u32) -> u32
     ensures { λ r. ⌜ r ≡ answerNumber (cutOf base length) ⌝ }

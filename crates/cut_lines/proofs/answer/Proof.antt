@@ -1,5 +1,4 @@
--- `answer` meets its contract.
--- Assumes nothing.
+-- `answer`: with room, what the line's bytes lead to, read from its start; without, nothing. Assumes nothing.
 use mathlib.Core.Path.{sym, _∙_}
 use Prim.Native.Nat.{_+_}
 use native.Mathlib.Omega.{arith}
@@ -8,6 +7,7 @@ use borrow.Author.Tests.{leb-true}
 use lib.ListN.{length}
 use denote.Ref.{now}
 use Rattle.cut_lines.specs.Lines.{lineText}
+use Rattle.cut_lines.specs.Writing.{longest}
 use Rattle.cut_lines.proofs.Putting.{wrote, refused}
 use Rattle.cut_lines.proofs.Reading.{answered-line}
 use Rattle.cut_lines.proofs.answer.Statement.{statement}
@@ -17,14 +17,17 @@ put-line-requires : tie.Need-put-line-requires
 put-line-requires c κs =
     let at-if = c .before .before .before in
     let a = at-if .before .before .before .before .before .args in
-    omega (arith, leb-true (a .at + 44) (length (now (a .output))) (sym (at-if .before .has-room .ensures) ∙ at-if .if1 .taken))
+    omega (arith, leb-true (a .at + longest) (length (now (a .output))) (sym (at-if .before .has-room .ensures) ∙ at-if .if1 .taken))
 
 returns : tie.Need-returns
 returns c =
-    let at-if = c .before .before .before .before .before .before in
+    let at-line = c .before .before in
+    let at-read = at-line .before in
+    let at-if = at-read .before .before .before in
     let a = at-if .before .before .before .before .before .args in
-    let b = c .before .before .before in
-    wrote (sym (at-if .before .has-room .ensures) ∙ at-if .if1 .taken) (rw (b .read-line .ensures, b .before .start .ensures, answered-line (a .number) (now (a .line))) at (c .before .before .put-line .ensures))
+    let text = answered-line (a .number) (now (a .line)) in
+    wrote (sym (at-if .before .has-room .ensures) ∙ at-if .if1 .taken)
+    (rw (at-read .read-line .ensures, at-read .before .start .ensures, text) at (at-line .put-line .ensures))
 
 returns-2 : tie.Need-returns-2
 returns-2 c =
@@ -32,4 +35,6 @@ returns-2 c =
     refused (now (a .output)) (a .at) (lineText (a .number) (now (a .line))) (sym (c .before .has-room .ensures) ∙ c .if1 .left)
 
 pub answer-spec : {M : Type 1} → statement M
-answer-spec = tie.close (tie.spec (λ c κs. search needs) (λ c κs. search needs) (λ c κs. search needs) put-line-requires (λ c. search needs) returns (λ c. search needs) returns-2)
+answer-spec =
+    tie.close
+    (tie.spec (λ c κs. search needs) (λ c κs. search needs) (λ c κs. search needs) put-line-requires (λ c. search needs) returns (λ c. search needs) returns-2)

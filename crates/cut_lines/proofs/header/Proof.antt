@@ -1,5 +1,4 @@
--- `header` meets its contract.
--- Assumes nothing.
+-- `header`: with room, the header; without, nothing. Assumes nothing.
 use mathlib.Core.Path.{sym, _∙_}
 use Prim.Native.Nat.{_+_}
 use native.Mathlib.Omega.{arith}
@@ -8,6 +7,7 @@ use borrow.Author.Tests.{leb-true}
 use lib.ListN.{length}
 use denote.Ref.{now}
 use Rattle.cut_lines.specs.Lines.{headerText}
+use Rattle.cut_lines.specs.Writing.{longest}
 use Rattle.cut_lines.proofs.Putting.{wrote, refused}
 use Rattle.cut_lines.proofs.header.Statement.{statement}
 use Rattle.cut_lines.proofs.header.Tie as tie
@@ -16,7 +16,7 @@ put-bytes-requires : tie.Need-put-bytes-requires
 put-bytes-requires c κs =
     let at-if = c .before .before in
     let a = at-if .before .before .before .before .args in
-    omega (arith, leb-true (a .at + 44) (length (now (a .output))) (sym (at-if .before .has-room .ensures) ∙ at-if .if1 .taken))
+    omega (arith, leb-true (a .at + longest) (length (now (a .output))) (sym (at-if .before .has-room .ensures) ∙ at-if .if1 .taken))
 
 returns : tie.Need-returns
 returns c =

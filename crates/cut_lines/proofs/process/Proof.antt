@@ -1,5 +1,4 @@
--- `process` meets its contract. The invariant is `Going`: the state and the text are those of the bytes taken, and what is still taken makes up the whole.
--- Assumes nothing.
+-- `process`: the loop keeps `Going`: the state and the text are those of the bytes taken, and what is still taken makes up the whole. Assumes nothing.
 use mathlib.Core.Path.{_≡_, refl, sym, _∙_}
 use Prim.Native.Nat.{_+_, _-_, _≤_}
 use native.Mathlib.Omega.{arith}
@@ -50,10 +49,12 @@ loop-less c = omega arith
 
 loop-again : tie.Need-loop-again Inv-loop μ-loop
 loop-again c =
-    let b = c .before .before .before in
-    let t = b .before .before .before .before .before .before in
-    let g = t .before .loop .inv in
-    (puts-length (b .put-step .ensures) ∙ g .0, going-turn (g .1) (t .loop-test .taken) (roomy (b .before .before .before)) (b .put-step .ensures) (c .step .ensures))
+    let at-put = c .before .before .before in
+    let at-room = at-put .before .before .before in
+    let at-test = at-room .before .before .before in
+    let g = at-test .before .loop .inv in
+    let put = at-put .put-step .ensures in
+    (puts-length put ∙ g .0, going-turn (g .1) (at-test .loop-test .taken) (roomy at-room) put (c .step .ensures))
 
 same-length : tie.Need-same-length Inv-loop μ-loop
 same-length c = c .before .loop .inv .0

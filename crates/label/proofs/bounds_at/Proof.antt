@@ -1,5 +1,4 @@
--- `bounds_at` meets its contract.
--- Assumes nothing.
+-- `bounds_at`: each bound of the region that `bounds` promises. Assumes nothing.
 use borrow.Author.Needs.{needs}
 use Rattle.label.proofs.bounds_at.Statement.{statement}
 use Rattle.label.proofs.bounds_at.Tie as tie

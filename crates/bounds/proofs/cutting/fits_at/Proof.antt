@@ -1,10 +1,11 @@
-use Rattle.bounds.specs.Cutting.{fits, floorAt}
+-- `fits_at`: both ends in whole units. Assumes nothing.
+use Rattle.bounds.specs.Cutting.{fitsAt, floorAt}
 use borrow.Author.Needs.{needs}
 use Rattle.bounds.proofs.cutting.fits_at.Statement.{statement}
 use Rattle.bounds.proofs.cutting.fits_at.Tie as tie
 
 returns : tie.Need-returns
-unfolding fits floorAt
+unfolding fitsAt floorAt
 returns c = simp (c .scaled .ensures .0, c .before .block .ensures .0, c .before .before .round-up .ensures .0)
 
 pub fits-at-spec : {M : Type 1} → statement M

@@ -1,3 +1,4 @@
+-- `scale_field`: the test is the definition's. Assumes nothing.
 use borrow.Author.Tests.{eq-eqb, ne-eqb}
 use Rattle.bounds.specs.Cutting.{scaleField}
 use Rattle.bounds.proofs.cutting.scale_field.Statement.{statement}

@@ -1,3 +1,4 @@
+-- `bounds`: the base's unit is its block's and the field's, the top's stands a span above it, and both are placed from one block below 0. Assumes nothing.
 use native.Mathlib.Omega.{arith}
 use mathlib.Core.Path.{_≡_}
 use Prim.Native.Nat.{_+_, _*_, _/_, _^_}
@@ -10,16 +11,18 @@ use Rattle.bounds.proofs.decoding.bounds.Tie as tie
 returns : tie.Need-returns
 unfolding boundsOf lowAt highAt
 returns c =
-    let u = c .before .before .before in
-    let x = u .before .before .before in
-    let a = x .before .before .args .address in
-    let e = x .exponent in
-    let b = u .before .base-of in
-    let t = u .before .before .top-of in
+    let at-unit = c .before .before .before in
+    let at-exponent = at-unit .before .before .before in
+    let a = at-exponent .before .before .args .address in
+    let e = at-exponent .exponent in
+    let b = at-unit .before .base-of in
+    let t = at-unit .before .before .top-of in
+    let unit = at-unit .base-unit in
     let s = c .before .span in
-    let high-unit : u .base-unit .result + s .result ≡ (blockOf (a / 2 ^ e .result) (b .result) + less (t .result) (b .result)) * 512 + t .result = omega (arith, u .base-unit .ensures .0, s .ensures .0) in
+    let high-unit : unit .result + s .result ≡ (blockOf (a / 2 ^ e .result) (b .result) + less (t .result) (b .result)) * 512 + t .result =
+    omega (arith, unit .ensures .0, s .ensures .0) in
     simp (
-      ← (x .before .scale-of .ensures .0),
+      ← (at-exponent .before .scale-of .ensures .0),
       ← (e .ensures .0),
       ← (t .ensures .0),
       ← (b .ensures .0),
@@ -28,7 +31,7 @@ returns c =
       c .placed2 .ensures,
       c .before .before .placed .ensures,
       ← high-unit,
-      ← (u .base-unit .ensures .0),
+      ← (unit .ensures .0),
     )
 
 pub bounds-spec : {M : Type 1} → statement M

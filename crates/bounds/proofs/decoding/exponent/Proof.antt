@@ -1,3 +1,4 @@
+-- `exponent`: the test is the definition's. Assumes nothing.
 use borrow.Author.Tests.{eq-eqb, ne-eqb}
 use Rattle.bounds.specs.Bounds.{exponentOf}
 use borrow.Author.Needs.{needs}

@@ -1,3 +1,4 @@
+-- `same_bounds`: the law that both bounds stay exactly at exponent 24 or in the same block, as a test. Assumes nothing.
 use native.Mathlib.Omega.{arith}
 use borrow.Author.Tests.{eq-eqb, ne-eqb}
 use Rattle.bounds.proofs.Blocks.{same-test}

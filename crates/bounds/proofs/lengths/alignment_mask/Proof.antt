@@ -1,3 +1,4 @@
+-- `alignment_mask`: ones above the exponent are what is left above 2^e - 1 ones. Assumes nothing.
 use native.Mathlib.Omega.{arith}
 use native.Mathlib.Nat.{zero-add}
 use lib.Pow.{pow-pos}

@@ -1,3 +1,4 @@
+-- `representable_length`: the rounding at the exponent of the cut of [0, length). Assumes nothing.
 use native.Mathlib.Nat.{zero-add}
 use Rattle.bounds.specs.Lengths.{representableLength}
 use borrow.Author.Needs.{needs}
@@ -6,7 +7,7 @@ use Rattle.bounds.proofs.lengths.representable_length.Tie as tie
 
 returns : tie.Need-returns
 unfolding representableLength
-returns c = rw (c .round-up .ensures .0, c .before .cut-exponent .ensures .0, zero-add)
+returns c = simp (c .round-up .ensures .0, c .before .cut-exponent .ensures .0, zero-add)
 
 pub representable-length-spec : {M : Type 1} → statement M
 representable-length-spec =

@@ -1,3 +1,4 @@
+-- `base_block`: the address in units and a block more is far below 2^64. Assumes nothing.
 use native.Mathlib.Nat.{div-le-self}
 use native.Mathlib.Omega.{arith}
 use Prim.Native.Nat.{_^_}

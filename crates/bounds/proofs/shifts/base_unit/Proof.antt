@@ -1,3 +1,4 @@
+-- `base_unit`: what the remainder takes away leaves the field in the last nine bits. Assumes nothing.
 use native.Mathlib.Nat.{div-le-self}
 use native.Mathlib.Omega.{arith}
 use Prim.Native.Nat.{_^_}

@@ -1,3 +1,4 @@
+-- `block`: shifted down and up again a number is no larger, so that nothing is lost above 2^64. Assumes nothing.
 use native.Mathlib.Nat.{mod-eq-of-lt, div-mul-le-self}
 use native.Mathlib.Omega.{arith}
 use Prim.Native.Nat.{_*_, _/_, _^_}

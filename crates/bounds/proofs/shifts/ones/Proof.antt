@@ -1,3 +1,4 @@
+-- `ones`: 2^e is at least 1 and at most 2^24. Assumes nothing.
 use native.Mathlib.Omega.{arith}
 use lib.Pow.{pow-pos}
 use Rattle.bounds.proofs.Program.{one-shl, unit-le}

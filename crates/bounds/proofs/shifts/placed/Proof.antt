@@ -1,3 +1,4 @@
+-- `placed`: a unit below 2^33 shifted by at most 24 is below 2^57, and a block's 512 units are at most 2^33. Assumes nothing.
 use Prim.Native.Nat.{_+_}
 use lib.Pow.{pow-mono, shl-exact, shl-lt}
 use native.Mathlib.Nat.{lt-of-lt-of-le}

@@ -1,3 +1,4 @@
+-- `round_up`: the block of the number and one less than a unit. Assumes nothing.
 use Rattle.bounds.specs.Cutting.{ceilAt}
 use borrow.Author.Needs.{needs}
 use Rattle.bounds.proofs.shifts.round_up.Statement.{statement}

@@ -1,3 +1,4 @@
+-- `scaled`: nine bits shifted by at most 24 are below 2^33. Assumes nothing.
 use Prim.Native.Nat.{_+_}
 use lib.Pow.{pow-mono, shl-exact, shl-lt}
 use native.Mathlib.Nat.{lt-of-lt-of-le}

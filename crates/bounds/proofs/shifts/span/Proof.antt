@@ -1,3 +1,4 @@
+-- `span`: the difference modulo 512 is that of the definition, with t blocks. Assumes nothing.
 use borrow.Author.Needs.{needs}
 use Rattle.bounds.proofs.Program.{span-is}
 use native.Mathlib.Omega.{arith}

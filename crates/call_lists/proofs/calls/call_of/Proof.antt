@@ -1,21 +1,25 @@
--- `call_of`: one arm a kind. Assumes nothing.
+-- `call_of`: an arm a kind. Assumes nothing.
 use borrow.Author.Tests.{ne-eqb}
 use Rattle.call_lists.specs.Lists.{callOf}
 use Rattle.call_lists.proofs.calls.call_of.Statement.{statement}
 use Rattle.call_lists.proofs.calls.call_of.Tie as tie
 
+-- a cut
 returns : tie.Need-returns
 unfolding callOf
 returns c = simp (c .match .keys1)
 
+-- an exact cut
 returns-2 : tie.Need-returns-2
 unfolding callOf
 returns-2 c = simp (c .match .keys2)
 
+-- a move
 returns-3 : tie.Need-returns-3
 unfolding callOf
 returns-3 c = simp (c .match .keys3)
 
+-- a narrowing
 returns-4 : tie.Need-returns-4
 unfolding callOf
 returns-4 c =

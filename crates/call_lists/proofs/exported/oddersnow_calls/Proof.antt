@@ -5,7 +5,7 @@ use Rattle.call_lists.proofs.exported.oddersnow_calls.Statement.{statem
 use Rattle.call_lists.proofs.exported.oddersnow_calls.Tie as tie
 
 returns : tie.Need-returns
-returns c = listed-number _ _ _ _ _ _ _ (c .before .before .before .run-calls .ensures) (c .number .ensures)
+returns c = listed-number _ _ _ _ _ _ _ (c .before .before .before .run-calls .ensures) (c .answer-number .ensures)
 
 pub oddersnow-calls-spec : {M : Type 1} → statement M
 oddersnow-calls-spec = tie.close (tie.spec (λ c κs. search needs) (λ c κs. search needs) (λ c. search needs) returns)

@@ -1,11 +1,12 @@
--- `all_known`: the kinds left to check give the whole. Assumes nothing.
+-- `all_known`: the loop keeps that the kinds left are all known exactly if all are. Assumes nothing.
 use mathlib.Core.Path.{_≡_, refl, sym, _∙_}
 use mathlib.Core.Bool.{true, false}
-use Prim.Native.Nat.{_≤_, _-_, zero-le}
+use Prim.Native.Nat.{_≤_, _-_}
+use native.Mathlib.Omega.{arith}
 use borrow.Author.Needs.{needs}
 use borrow.Author.Tests.{not-true, not-false}
 use lib.ListN.{length, getD, drop}
-use Rattle.call_lists.specs.Lists.{known, allKnown}
+use Rattle.call_lists.specs.Lists.{isKnown, allKnown}
 use Rattle.call_lists.proofs.Turns.{known-turn, known-end}
 use Rattle.call_lists.proofs.lists.all_known.Statement.{statement}
 use Rattle.call_lists.proofs.lists.all_known.Tie as tie
@@ -17,22 +18,28 @@ abbrev μ-loop : tie.MeasureT-loop
 μ-loop kinds i₀ i = length kinds - i
 
 loop-holds : tie.Need-loop-holds Inv-loop μ-loop
-loop-holds c = (zero-le, refl)
+loop-holds c = (omega arith, refl)
 
+-- a kind that is not known
 returns : tie.Need-returns Inv-loop μ-loop
 returns c =
-    let ks = c .before .before .before .before .before .before .args .kinds .now in
-    let l = c .before .before .before .before .loop in
-    let f : known (getD ks (l .i) 0) ≡ false = sym (c .before .is-known .ensures) ∙ not-true (c .before .is-known .result) (c .if1 .taken) in
+    let at-loop = c .before .before .before .before in
+    let ks = at-loop .before .before .args .kinds .now in
+    let l = at-loop .loop in
+    let k = c .before .is-known in
+    let f : isKnown (getD ks (l .i) 0) ≡ false = sym (k .ensures) ∙ not-true (k .result) (c .if1 .taken) in
     sym (rw f at (known-turn ks (l .i) (search needs))) ∙ l .inv .1
 
 loop-again : tie.Need-loop-again Inv-loop μ-loop
 loop-again c =
-    let ks = c .before .before .before .before .before .before .args .kinds .now in
-    let l = c .before .before .before .before .loop in
-    let f : known (getD ks (l .i) 0) ≡ true = sym (c .before .is-known .ensures) ∙ not-false (c .before .is-known .result) (c .if1 .left) in
+    let at-loop = c .before .before .before .before in
+    let ks = at-loop .before .before .args .kinds .now in
+    let l = at-loop .loop in
+    let k = c .before .is-known in
+    let f : isKnown (getD ks (l .i) 0) ≡ true = sym (k .ensures) ∙ not-false (k .result) (c .if1 .left) in
     (search needs, sym (rw f at (known-turn ks (l .i) (search needs))) ∙ l .inv .1)
 
+-- all are
 returns-2 : tie.Need-returns-2 Inv-loop μ-loop
 returns-2 c =
     let l = c .before .loop in

@@ -1,4 +1,4 @@
--- `one_call`: the two promises. Assumes nothing.
+-- `one_call`: the call that the kind and the value stand for, made. Assumes nothing.
 use borrow.Author.Needs.{needs}
 use Rattle.call_lists.proofs.lists.one_call.Statement.{statement}
 use Rattle.call_lists.proofs.lists.one_call.Tie as tie

@@ -1,4 +1,4 @@
--- `write_calls`: the calls left to run give the whole. Assumes nothing.
+-- `write_calls`: the loop keeps `Turn`: the words of the calls made stand in front, and the calls left lead on to the whole. Assumes nothing.
 use mathlib.Core.Path.{_≡_, refl}
 use Prim.Native.Nat.{_≤_, _+_, _*_, _-_, zero-le}
 use native.Mathlib.Omega.{arith}
@@ -19,19 +19,24 @@ loop-holds c = (zero-le, refl, first-turn _ _ _ _)
 
 loop-again : tie.Need-loop-again Inv-loop μ-loop
 loop-again c =
-    let b = c .before .before .before .before .before .before .before .before in
-    let a = b .before .before .before .before .args in
-    let l = b .loop in
+    let at-put = c .before .before in
+    let at-call = at-put .before .before in
+    let at-loop = at-call .before .before .before .before in
+    let a = at-loop .before .before .before .before .args in
+    let l = at-loop .loop in
     let w : 3 * l .n + 3 ≤ length (l .out) = omega arith in
-    let t = next-turn (a .kinds .now) (a .values .now) (a .c) (l .n) (l .s) (l .out) (search needs) (search needs) w (l .inv .2) in
-    let r = c .before .before .before .before .one-call .ensures in
-    (search needs, search needs, rw (c .before .before .put .ensures, r) t)
+    let made = at-call .one-call in (
+      search needs,
+      search needs,
+      next-turn (a .kinds .now) (a .values .now) (a .c) (l .n) (l .s) (made .result) (l .out) _
+          (search needs) (search needs) w (made .ensures) (at-put .put-words .ensures) (l .inv .2),
+    )
 
 returns : tie.Need-returns Inv-loop μ-loop
 returns c =
     let a = c .before .before .before .before .before .args in
     let l = c .before .loop in
-    last-turn (a .kinds .now) (a .values .now) (a .c) (l .n) (l .s) (l .out) (search needs) (omega arith) (l .inv .2)
+    last-turn (a .kinds .now) (a .values .now) (a .c) (l .n) (l .s) (l .out) (omega arith) (omega arith) (l .inv .2)
 
 pub write-calls-spec : {M : Type 1} → statement M
 write-calls-spec =

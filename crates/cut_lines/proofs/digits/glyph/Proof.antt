@@ -1,5 +1,4 @@
--- `digits::glyph` meets its contract.
--- Assumes nothing.
+-- `glyph`: the test is the definition's. Assumes nothing.
 use borrow.Author.Needs.{needs}
 use Rattle.cut_lines.specs.Digits.{glyph}
 use Rattle.cut_lines.proofs.Tests.{tests}

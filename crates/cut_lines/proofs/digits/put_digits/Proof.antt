@@ -1,5 +1,4 @@
--- `digits::put_digits` meets its contract. The invariant: with the first i digits, those of the rest, the buffer is as it is to be in the end.
--- Assumes nothing.
+-- `put_digits`: the loop keeps that with the first i digits, those of the rest, the buffer is as it is to be in the end. Assumes nothing.
 use mathlib.Core.Path.{_≡_, refl, sym, ap, _∙_}
 use Prim.Native.Nat.{_+_, _≤_, _%_, _/_}
 use native.Mathlib.Nat.{mod-lt}

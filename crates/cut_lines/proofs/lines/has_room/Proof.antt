@@ -1,5 +1,4 @@
--- `lines::has_room` meets its contract.
--- Assumes nothing.
+-- `has_room`: the room left is compared, so that no sum can pass 2^64. Assumes nothing.
 use mathlib.Core.Path.{sym}
 use Prim.Native.Nat.{_+_}
 use native.Mathlib.Omega.{arith}

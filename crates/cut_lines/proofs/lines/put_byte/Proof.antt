@@ -1,5 +1,4 @@
--- `lines::put_byte` meets its contract.
--- Assumes nothing.
+-- `put_byte`: one store. Assumes nothing.
 use borrow.Author.Needs.{needs}
 use denote.Ref.{now}
 use Rattle.cut_lines.proofs.Putting.{puts-byte}

@@ -1,5 +1,4 @@
--- `lines::put_bytes` meets its contract. The invariant: the text's first i bytes are written.
--- Assumes nothing.
+-- `put_bytes`: the loop keeps that the text's first i bytes are written. Assumes nothing.
 use mathlib.Core.Path.{_≡_, refl, sym, ap, _∙_}
 use Prim.Native.Nat.{_+_, _-_, _≤_}
 use native.Mathlib.Nat.{add-zero, add-assoc}

@@ -1,5 +1,4 @@
--- `lines::put_cut` meets its contract.
--- Assumes nothing.
+-- `put_cut`: an arm an answer, each with its text. Assumes nothing.
 use borrow.Author.Needs.{needs}
 use Rattle.cut_lines.specs.Lines.{cutText}
 use Rattle.cut_lines.proofs.lines.put_cut.Statement.{statement}
@@ -18,4 +17,7 @@ returns-2 c =
     rw (b .before .before .before .enum-told .given .1) (b .put-bytes .ensures)
 
 pub put-cut-spec : {M : Type 1} → statement M
-put-cut-spec = tie.close (tie.spec (λ c. search needs) (λ c κs. search needs) (λ c. search needs) (λ c. search needs) (λ c κs. search needs) (λ c. search needs) returns (λ c. search needs) returns-2)
+put-cut-spec =
+    tie.close
+    (tie.spec (λ c. search needs) (λ c κs. search needs) (λ c. search needs) (λ c. search needs) (λ c κs. search needs) (λ c. search needs) returns
+    (λ c. search needs) returns-2)

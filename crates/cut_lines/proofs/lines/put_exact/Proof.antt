@@ -1,5 +1,4 @@
--- `lines::put_exact` meets its contract.
--- Assumes nothing.
+-- `put_exact`: one of two texts. Assumes nothing.
 use borrow.Author.Needs.{needs}
 use Rattle.cut_lines.proofs.lines.put_exact.Statement.{statement}
 use Rattle.cut_lines.proofs.lines.put_exact.Tie as tie
@@ -15,4 +14,6 @@ returns-2 c =
     rw (b .before .before .before .if1 .left) (b .put-bytes2 .ensures)
 
 pub put-exact-spec : {M : Type 1} → statement M
-put-exact-spec = tie.close (tie.spec (λ c. search needs) (λ c κs. search needs) (λ c. search needs) (λ c κs. search needs) (λ c. search needs) returns (λ c. search needs) returns-2)
+put-exact-spec =
+    tie.close
+    (tie.spec (λ c. search needs) (λ c κs. search needs) (λ c. search needs) (λ c κs. search needs) (λ c. search needs) returns (λ c. search needs) returns-2)

@@ -1,5 +1,4 @@
--- `lines::put_last` meets its contract.
--- Assumes nothing.
+-- `put_last`: nothing for a line that has not begun, else its line. Assumes nothing.
 use native.Mathlib.Omega.{arith}
 use borrow.Author.Needs.{needs}
 use borrow.Author.Tests.{eq-eqb, ne-eqb}

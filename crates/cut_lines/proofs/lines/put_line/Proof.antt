@@ -1,5 +1,4 @@
--- `lines::put_line` meets its contract.
--- Assumes nothing.
+-- `put_line`: the number, a tab and the outcome, one after the other. Assumes nothing.
 use borrow.Author.Needs.{needs}
 use Rattle.cut_lines.specs.Scanning.{answered}
 use Rattle.cut_lines.proofs.Putting.{puts-between}

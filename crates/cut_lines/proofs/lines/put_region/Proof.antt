@@ -1,5 +1,4 @@
--- `lines::put_region` meets its contract.
--- Assumes nothing.
+-- `put_region`: two bounds and a word, with a tab between each two, one after the other. Assumes nothing.
 use borrow.Author.Needs.{needs}
 use Rattle.cut_lines.proofs.Putting.{puts-between}
 use Rattle.cut_lines.proofs.lines.put_region.Statement.{statement}
@@ -16,4 +15,7 @@ returns c =
     (at-exact .put-exact .ensures)
 
 pub put-region-spec : {M : Type 1} → statement M
-put-region-spec = tie.close (tie.spec (λ c. search needs) (λ c κs. search needs) (λ c κs. search needs) (λ c κs. search needs) (λ c κs. search needs) (λ c κs. search needs) (λ c. search needs) returns)
+put-region-spec =
+    tie.close
+    (tie.spec (λ c. search needs) (λ c κs. search needs) (λ c κs. search needs) (λ c κs. search needs) (λ c κs. search needs) (λ c κs. search needs)
+    (λ c. search needs) returns)

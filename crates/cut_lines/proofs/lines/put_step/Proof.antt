@@ -1,5 +1,4 @@
--- `lines::put_step` meets its contract.
--- Assumes nothing.
+-- `put_step`: a line where the byte ends one, else nothing. Assumes nothing.
 use native.Mathlib.Omega.{arith}
 use borrow.Author.Needs.{needs}
 use borrow.Author.Tests.{eq-eqb, ne-eqb}

@@ -1,5 +1,4 @@
--- `scanning::advance` meets its contract.
--- Assumes nothing.
+-- `advance`: a byte that a line may have there is taken, any other spoils the line. Assumes nothing.
 use mathlib.Core.Path.{_≡_, sym, _∙_}
 use borrow.Author.Needs.{needs}
 use native.Mathlib.Omega.{arith}

@@ -1,5 +1,4 @@
--- `scanning::expected` meets its contract.
--- Assumes nothing.
+-- `expected`: a tab at its place, a digit at each other before the line's end. Assumes nothing.
 use borrow.Author.Needs.{needs}
 use borrow.Author.Tests.{ne-eqb, lt-ltb, le-ltb}
 use Rattle.cut_lines.specs.Scanning.{expected}

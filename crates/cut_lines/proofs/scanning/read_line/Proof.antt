@@ -1,18 +1,17 @@
--- `scanning::read_line` meets its contract. The invariant: reading what is left from the present state gives the whole.
--- Assumes nothing.
+-- `read_line`: the loop keeps that reading what is left from the present state gives the whole. Assumes nothing.
 use mathlib.Core.Path.{_≡_, refl, sym, ap, _∙_}
 use Prim.Native.Nat.{_+_, _-_, _≤_}
 use native.Mathlib.Omega.{arith}
 use borrow.Author.Needs.{needs}
 use lib.ListN.{length, drop}
 use denote.Ref.{now}
-use Rattle.cut_lines.specs.Scanning.{lineRead}
+use Rattle.cut_lines.specs.Scanning.{readLine}
 use Rattle.cut_lines.proofs.Reading.{read-turn, read-end}
 use Rattle.cut_lines.proofs.scanning.read_line.Statement.{statement}
 use Rattle.cut_lines.proofs.scanning.read_line.Tie as tie
 
 abbrev Inv-loop : tie.InvT-loop
-Inv-loop line t₀ i₀ t i = (i ≤ length line) × (lineRead t (drop i line) ≡ lineRead t₀ line)
+Inv-loop line t₀ i₀ t i = (i ≤ length line) × (readLine t (drop i line) ≡ readLine t₀ line)
 
 abbrev μ-loop : tie.MeasureT-loop
 μ-loop line t₀ i₀ t i = length line - i

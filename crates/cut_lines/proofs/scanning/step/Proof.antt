@@ -1,5 +1,4 @@
--- `scanning::step` meets its contract.
--- Assumes nothing.
+-- `step`: a newline starts the next line, any other byte is one of this line. Assumes nothing.
 use borrow.Author.Needs.{needs}
 use Rattle.cut_lines.specs.Scanning.{stepped}
 use Rattle.cut_lines.proofs.scanning.step.Statement.{statement}

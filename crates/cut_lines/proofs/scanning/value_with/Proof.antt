@@ -1,5 +1,4 @@
--- `scanning::value_with` meets its contract.
--- Assumes nothing.
+-- `value_with`: a digit that is below 16 fits below the sixteenfold value. Assumes nothing.
 use borrow.Author.Needs.{needs}
 use borrow.Author.Tests.{ne-eqb}
 use native.Mathlib.Omega.{arith}

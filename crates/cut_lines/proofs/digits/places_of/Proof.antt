@@ -1,12 +1,11 @@
--- `digits::places` meets its contract. The invariant: what was counted and the places of the rest are one more than the places of n.
--- Assumes nothing.
+-- `places_of`: the loop keeps that what was counted and the places of the rest are one more than the places of n. Assumes nothing.
 use mathlib.Core.Path.{_≡_, _∙_, sym}
 use Prim.Native.Nat.{_+_, _≤_, _^_, suc}
 use native.Mathlib.Omega.{arith}
 use Rattle.cut_lines.specs.Digits.{placesOf}
 use Rattle.cut_lines.proofs.Numbers.{places-one, places-more, places-le}
-use Rattle.cut_lines.proofs.digits.places.Statement.{statement}
-use Rattle.cut_lines.proofs.digits.places.Tie as tie
+use Rattle.cut_lines.proofs.digits.places_of.Statement.{statement}
+use Rattle.cut_lines.proofs.digits.places_of.Tie as tie
 
 abbrev Inv-loop : tie.InvT-loop
 Inv-loop n k₀ rest₀ k rest = (k + placesOf rest ≡ placesOf n + 1) × (k + rest ≤ n + 1)
@@ -29,5 +28,5 @@ loop-again c = omega (arith, places-more (c .before .loop .rest) (c .loop-test .
 returns : tie.Need-returns Inv-loop μ-loop
 returns c = omega (arith, places-one (c .before .loop .rest) (omega arith), places-le 19 (c .before .before .args .n) (omega arith))
 
-pub places-spec : {M : Type 1} → statement M
-places-spec = tie.close (tie.spec Inv-loop μ-loop loop-holds add-k loop-less loop-again returns)
+pub places-of-spec : {M : Type 1} → statement M
+places-of-spec = tie.close (tie.spec Inv-loop μ-loop loop-holds add-k loop-less loop-again returns)

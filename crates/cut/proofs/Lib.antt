@@ -1,0 +1,2 @@
+-- Laws of blocks and turns.
+pub mod Blocks
