@@ -11,13 +11,11 @@ use instructions::Csr;
 use instructions::Scr;
 use instructions::StoreKind;
 use state::Effect;
+use state::GRANULE;
 use state::MEPCC_INDEX;
 use state::MTCC_INDEX;
 use state::PCC_INDEX;
 use std::num::wrapping_add_u32;
-
-// The bytes of a granule, as an index of a buffer.
-const GRANULE: usize = 8;
 
 // PCC after an instruction of some bytes.
 pub fn advance(regs: &mut [u32], bytes: u32)

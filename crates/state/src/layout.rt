@@ -22,7 +22,7 @@ pub fn scr_index(scr: Scr) -> u32
     }
 }
 
-// A special register's own number.
+// A special register's own number, as the decoder has them.
 pub fn scr_number(scr: Scr) -> u32
     ensures { λ r. ⌜ (r ≡ scrNumber scr) × (r < 32) ⌝ }
 {

@@ -73,8 +73,10 @@ pub const TARGET_ALIGNMENT: u32 = 4;
 // What the addresses in MTCC and MEPCC are multiples of.
 pub const VECTOR_ALIGNMENT: u32 = 4;
 
-// The bytes of a granule, which has one tag and one revocation bit.
+// The bytes of a granule, which has one tag and one revocation bit; and as an index of a buffer.
 pub const GRANULE_BYTES: u32 = 8;
+
+pub const GRANULE: usize = 8;
 
 // mcause.
 pub const FETCH_MISALIGNED: u32 = 0;

@@ -1,5 +1,6 @@
 // Places in the lent memory, capabilities in it, and revocation.
 use crate::Board;
+use crate::GRANULE;
 use crate::Place;
 use capability::Capability;
 use instructions::LoadKind;
@@ -81,7 +82,7 @@ pub fn capability_in(mem: &[u8], tags: &[u8], at: u32) -> Capability
     Capability {
         address: words::load32(mem, i),
         metadata: words::load32(mem, i + 4),
-        tag: words::get_bit(tags, i / 8),
+        tag: words::get_bit(tags, i / GRANULE),
     }
 }
 
@@ -93,7 +94,7 @@ pub fn revoked_at(board: Board, size: usize, revoked: &[u8], address: u32) -> bo
     if start <= address {
         let at = (address - start) as usize;
         if at < size {
-            words::get_bit(revoked, at / 8) == 1
+            words::get_bit(revoked, at / GRANULE) == 1
         } else {
             false
         }

@@ -4,31 +4,40 @@ ghost use Rattle.words.specs.Words.{withBit};
 ghost use Rattle.metadata.specs.Rights.{bit};
 ghost use Rattle.state.specs.Status.{MIE, MPIE, trapStatus, returnStatus, writtenStatus};
 
+// What bit 3, MIE, and bit 7, MPIE, weigh, and the next bit.
+const MIE_WEIGHT: u32 = 8;
+
+const ABOVE_MIE: u32 = 16;
+
+const MPIE_WEIGHT: u32 = 128;
+
+const ABOVE_MPIE: u32 = 256;
+
 // mstatus with another MIE.
 pub fn with_mie(mstatus: u32, v: u32) -> u32
     ensures { λ r. ⌜ r ≡ withBit mstatus MIE v ⌝ }
 {
-    (mstatus / 16 * 2 + v % 2) * 8 + mstatus % 8
+    (mstatus / ABOVE_MIE * 2 + v % 2) * MIE_WEIGHT + mstatus % MIE_WEIGHT
 }
 
 // mstatus with another MPIE.
 fn with_mpie(mstatus: u32, v: u32) -> u32
     ensures { λ r. ⌜ r ≡ withBit mstatus MPIE v ⌝ }
 {
-    (mstatus / 256 * 2 + v % 2) * 128 + mstatus % 128
+    (mstatus / ABOVE_MPIE * 2 + v % 2) * MPIE_WEIGHT + mstatus % MPIE_WEIGHT
 }
 
 // Whether interrupts are enabled: MIE, as 0 or 1.
 pub fn mie_of(mstatus: u32) -> u32
     ensures { λ r. ⌜ r ≡ bit mstatus MIE ⌝ }
 {
-    mstatus / 8 % 2
+    mstatus / MIE_WEIGHT % 2
 }
 
 fn mpie_of(mstatus: u32) -> u32
     ensures { λ r. ⌜ r ≡ bit mstatus MPIE ⌝ }
 {
-    mstatus / 128 % 2
+    mstatus / MPIE_WEIGHT % 2
 }
 
 // mstatus on trap entry: MPIE := MIE, MIE := 0.

@@ -4,6 +4,7 @@ use borrow.Author.Needs.{needs}
 use Rattle.commit.proofs.commit_effect.Statement.{statement}
 use Rattle.commit.proofs.commit_effect.Tie as tie
 
+-- Advance
 returns : tie.Need-returns
 unfolding applyEffect retires
 returns c =
@@ -12,6 +13,7 @@ returns c =
       simp (c .before .before .advance .ensures, c3 .before .enum-told .given .1),
     )
 
+-- Write
 returns-2 : tie.Need-returns-2
 unfolding applyEffect retires
 returns-2 c =
@@ -22,6 +24,7 @@ returns-2 c =
       simp (c .before .before .advance2 .ensures, c6 .write-register .ensures, c9 .e .given .1),
     )
 
+-- Store
 returns-3 : tie.Need-returns-3
 unfolding applyEffect retires
 returns-3 c =
@@ -33,6 +36,7 @@ returns-3 c =
       simp (c .before .before .advance3 .ensures, c6 .before .before .store .ensures .0, c6 .before .before .store .ensures .1, c12 .e2 .given .1),
     )
 
+-- StoreCapability
 returns-4 : tie.Need-returns-4
 unfolding applyEffect retires
 returns-4 c =
@@ -49,6 +53,7 @@ returns-4 c =
       ),
     )
 
+-- Jump
 returns-5 : tie.Need-returns-5
 unfolding applyEffect retires
 returns-5 c =
@@ -57,6 +62,7 @@ returns-5 c =
       simp (c .before .before .jump .ensures, c3 .before .before .e4 .given .1),
     )
 
+-- WriteScr
 returns-6 : tie.Need-returns-6
 unfolding applyEffect retires
 returns-6 c =
@@ -65,6 +71,7 @@ returns-6 c =
       simp (c .before .before .write-scr .ensures, c3 .before .before .e5 .given .1),
     )
 
+-- WriteCsr
 returns-7 : tie.Need-returns-7
 unfolding applyEffect retires
 returns-7 c =
@@ -73,6 +80,7 @@ returns-7 c =
       simp (c .before .before .write-csr .ensures, c3 .before .before .e6 .given .1),
     )
 
+-- Trap
 returns-8 : tie.Need-returns-8
 unfolding applyEffect retires
 returns-8 c =

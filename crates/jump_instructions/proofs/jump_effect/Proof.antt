@@ -4,12 +4,14 @@ use borrow.Author.Needs.{needs}
 use Rattle.jump_instructions.proofs.jump_effect.Statement.{statement}
 use Rattle.jump_instructions.proofs.jump_effect.Tie as tie
 
+-- Jal
 returns : tie.Need-returns
 unfolding jumpEffect
 returns c =
     let c3 = c .before .before .before in
     simp (c .jal .ensures, c .before .before .i .given .1)
 
+-- Jalr
 returns-2 : tie.Need-returns-2
 unfolding jumpEffect
 returns-2 c =
@@ -22,6 +24,7 @@ returns-2 c =
       c3 .before .i2 .given .1,
     )
 
+-- Branch
 returns-3 : tie.Need-returns-3
 unfolding jumpEffect
 returns-3 c =
@@ -35,6 +38,7 @@ returns-3 c =
       c3 .before .before .i3 .given .1,
     )
 
+-- Mret
 returns-4 : tie.Need-returns-4
 unfolding jumpEffect
 returns-4 c = simp (c .mret .ensures, c .before .enum-told .given .1)

@@ -4,12 +4,14 @@ use borrow.Author.Needs.{needs}
 use Rattle.memory_instructions.proofs.memory_effect.Statement.{statement}
 use Rattle.memory_instructions.proofs.memory_effect.Tie as tie
 
+-- Load
 returns : tie.Need-returns
 unfolding memoryEffect
 returns c =
     let c3 = c .before .before .before in
     simp (integer-is, c .load .ensures, c .before .address-of .ensures, c .before .before .register-at .ensures, c3 .before .i .given .1)
 
+-- Store
 returns-2 : tie.Need-returns-2
 unfolding memoryEffect
 returns-2 c =
@@ -23,6 +25,7 @@ returns-2 c =
       c3 .before .before .i2 .given .1,
     )
 
+-- LoadCapability
 returns-3 : tie.Need-returns-3
 unfolding memoryEffect
 returns-3 c =
@@ -35,6 +38,7 @@ returns-3 c =
       c3 .before .i3 .given .1,
     )
 
+-- StoreCapability
 returns-4 : tie.Need-returns-4
 unfolding memoryEffect
 returns-4 c =
