@@ -96,7 +96,8 @@ pub extern "C" fn oddersnow_step(
     tags: &mut [u8],
     revoked: &[u8],
 ) -> u64
-    ensures { λ r. ⌜ StepPacked (boardOf start) (now (revoked .entry)) (state (now (regs .entry)) (now (mem .entry)) (now (tags .entry))) (state (now (regs .exit)) (now (mem .exit)) (now (tags .exit))) r ⌝ }
+    ensures { λ r. ⌜ StepPacked (boardOf start) (now (revoked .entry)) (state (now (regs .entry)) (now (mem .entry)) (now (tags .entry)))
+        (state (now (regs .exit)) (now (mem .exit)) (now (tags .exit))) r ⌝ }
 {
     let board = Board { start };
     let a = machine::step(regs, board, mem, tags, revoked);
@@ -113,7 +114,8 @@ pub extern "C" fn oddersnow_run(
     revoked: &[u8],
     steps: u32,
 ) -> u64
-    ensures { λ r. ⌜ RunPacked steps (boardOf start) (now (revoked .entry)) (state (now (regs .entry)) (now (mem .entry)) (now (tags .entry))) (state (now (regs .exit)) (now (mem .exit)) (now (tags .exit))) r ⌝ }
+    ensures { λ r. ⌜ RunPacked steps (boardOf start) (now (revoked .entry)) (state (now (regs .entry)) (now (mem .entry)) (now (tags .entry)))
+        (state (now (regs .exit)) (now (mem .exit)) (now (tags .exit))) r ⌝ }
 {
     let board = Board { start };
     let a = machine::run(regs, board, mem, tags, revoked, steps);

@@ -6,18 +6,21 @@ use native.Mathlib.Omega.{arith}
 use Rattle.bounds.proofs.Fits.{alignment-mask-word, representable-length-word}
 use Rattle.capability.specs.Capability.{Good, high}
 use Rattle.capability.specs.declared.Capability.{Capability}
-use Rattle.capability.proofs.Laws.{low-lt, rights-lt, object-type-lt, integer-good, clear-good, move-good, set-bounds-good, set-bounds-exact-good, narrow-good, seal-good, unseal-good}
+use Rattle.capability.proofs.Laws.{low-lt, rights-lt, object-type-lt, integer-good, clear-good, move-good, set-bounds-good, set-bounds-exact-good}
+use Rattle.capability.proofs.Laws.{narrow-good, seal-good, unseal-good}
 use Rattle.instructions.specs.Range.{Word}
 use Rattle.instructions.specs.declared.Inspection.{Inspection}
 use Rattle.instructions.specs.declared.Inspection.the-variants.{GetPerm, GetType, GetBase, GetLen, GetTag, RoundLength, AlignmentMask, GetAddr, GetHigh, GetTop}
 use Rattle.instructions.specs.declared.Combination.{Combination}
-use Rattle.instructions.specs.declared.Combination.the-variants.{SetBounds, SetBoundsExact, Seal, Unseal, AndPerm, SetAddr, IncAddr, SubAddr, SetHigh, TestSubset, SetEqualExact}
+use Rattle.instructions.specs.declared.Combination.the-variants.{SetBounds, SetBoundsExact, Seal, Unseal, AndPerm, SetAddr, IncAddr, SubAddr, SetHigh}
+use Rattle.instructions.specs.declared.Combination.the-variants.{TestSubset, SetEqualExact}
 use Rattle.instructions.specs.declared.CapabilityInstruction.{CapabilityInstruction}
 use Rattle.instructions.specs.declared.CapabilityInstruction.the-variants.{AuiPcc, AuiCgp, IncAddrImm, SetBoundsImm, Move, ClearTag, Inspect, Combine}
 use Rattle.state.specs.Registers.{registerAt, pccOf}
 use Rattle.state.specs.Fits.{FitsRegisters, FitsEffect}
 use Rattle.state.proofs.Fits.{register-fits, pcc-fits}
-use Rattle.capability_instructions.specs.Derivation.{movedBy, atMostWord, lengthOf, inspected, subset, equalExact, truth, combined, globalPointer, capabilityEffect}
+use Rattle.capability_instructions.specs.Derivation.{movedBy, atMostWord, lengthOf, inspected, subset, equalExact, truth, combined, globalPointer}
+use Rattle.capability_instructions.specs.Derivation.{capabilityEffect}
 
 at-most-word : (x : ℕ) → Word (atMostWord x)
 at-most-word x = omega arith

@@ -9,7 +9,8 @@ use Rattle.capability.specs.Sealing.{sealOf, unsealOf}
 use Rattle.capability.specs.declared.Capability.{Capability}
 use Rattle.capability.proofs.Laws.{clear-kept, move-kept, set-bounds-kept, set-bounds-exact-kept, narrow-kept, seal-kept, unseal-kept}
 use Rattle.instructions.specs.declared.Combination.{Combination}
-use Rattle.instructions.specs.declared.Combination.the-variants.{SetBounds, SetBoundsExact, Seal, Unseal, AndPerm, SetAddr, IncAddr, SubAddr, SetHigh, TestSubset, SetEqualExact}
+use Rattle.instructions.specs.declared.Combination.the-variants.{SetBounds, SetBoundsExact, Seal, Unseal, AndPerm, SetAddr, IncAddr, SubAddr, SetHigh}
+use Rattle.instructions.specs.declared.Combination.the-variants.{TestSubset, SetEqualExact}
 use Rattle.instructions.specs.declared.CapabilityInstruction.{CapabilityInstruction}
 use Rattle.instructions.specs.declared.CapabilityInstruction.the-variants.{AuiPcc, AuiCgp, IncAddrImm, SetBoundsImm, Move, ClearTag, Inspect, Combine}
 use Rattle.state.specs.Registers.{registerAt, pccOf}

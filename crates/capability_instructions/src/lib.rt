@@ -1,7 +1,8 @@
 // What the instructions that inspect, derive and compare capabilities do. None of them traps.
 ghost use mathlib.Core.Path.{_≡_};
 ghost use Rattle.capability.specs.Capability.{low, high};
-ghost use Rattle.capability_instructions.specs.Derivation.{movedBy, atMostWord, lengthOf, inspected, subset, equalExact, truth, combined, capabilityEffect};
+ghost use Rattle.capability_instructions.specs.Derivation.{movedBy, atMostWord, lengthOf, inspected, subset, equalExact, truth, combined};
+ghost use Rattle.capability_instructions.specs.Derivation.{capabilityEffect};
 use capability::Capability;
 use instructions::CapabilityInstruction;
 use instructions::Combination;

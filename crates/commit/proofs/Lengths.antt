@@ -16,7 +16,8 @@ use Rattle.state.specs.Effects.{Stored, nothing, bytes, whole, storedBy}
 use Rattle.state.specs.declared.Effect.{Effect}
 use Rattle.state.specs.declared.Effect.the-variants.{Advance, Write, Store, StoreCapability, Jump, WriteScr, WriteCsr, Trap}
 use Rattle.state.proofs.Laws.{cond-holds}
-use Rattle.commit.specs.Commit.{advanced, trapped, jumped, withScr, withCsr, registersAfter, stored, retagged, storedCapability, memoryAfter, tagsAfter, applyEffect}
+use Rattle.commit.specs.Commit.{advanced, trapped, jumped, withScr, withCsr, registersAfter, stored, retagged, storedCapability, memoryAfter, tagsAfter}
+use Rattle.commit.specs.Commit.{applyEffect}
 
 abbrev Long : (n : ℕ) → List ℕ → Type 0
 Long n l = length l ≡ n

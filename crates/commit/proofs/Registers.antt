@@ -83,7 +83,12 @@ module _ (P : ℕ → ℕ → Type 0) where
 
   read : (l : List ℕ) (i : ℕ) → Each P l → Holds P i (capabilityAt l i)
   unfolding capabilityAt
-  read l i e = record { address-holds = e .word (i * capabilityWords); metadata-holds = e .word (i * capabilityWords + 1); tag-holds = e .word (i * capabilityWords + 2) }
+  read l i e =
+      record {
+        address-holds = e .word (i * capabilityWords);
+        metadata-holds = e .word (i * capabilityWords + 1);
+        tag-holds = e .word (i * capabilityWords + 2);
+      }
 
   module _ (rule : Rule P) where
     pub each-advanced : (n : ℕ) (l : List ℕ) → Each P l → Each P (advanced n l)

@@ -30,7 +30,8 @@ pub fn advance(regs: &mut [u32], bytes: u32)
 
 // The three CSRs on trap entry.
 fn set_csrs(regs: &mut [u32], mstatus: u32, cause: u32, value: u32)
-    ensures { λ _. ⌜ now (regs .exit) ≡ set (set (set (now (regs .entry)) (csrIndex Csr.Mstatus) mstatus) (csrIndex Csr.Mcause) cause) (csrIndex Csr.Mtval) value ⌝ }
+    ensures { λ _. ⌜ now (regs .exit) ≡ set
+        (set (set (now (regs .entry)) (csrIndex Csr.Mstatus) mstatus) (csrIndex Csr.Mcause) cause) (csrIndex Csr.Mtval) value ⌝ }
 {
     state::set_csr(regs, Csr::Mstatus, mstatus);
     state::set_csr(regs, Csr::Mcause, cause);
@@ -89,7 +90,8 @@ fn put_bytes(mem: &mut [u8], kind: StoreKind, at: usize, value: u32)
 
 // A store's bytes, and the tag of their granule cleared.
 pub fn store(mem: &mut [u8], tags: &mut [u8], kind: StoreKind, at: u32, value: u32)
-    ensures { λ _. ⌜ (now (mem .exit) ≡ stored (now (mem .entry)) (storeWidth kind) at value) × (now (tags .exit) ≡ retagged (now (mem .entry)) (now (tags .entry)) (storeWidth kind) at 0) ⌝ }
+    ensures { λ _. ⌜ (now (mem .exit) ≡ stored (now (mem .entry)) (storeWidth kind) at value)
+        × (now (tags .exit) ≡ retagged (now (mem .entry)) (now (tags .entry)) (storeWidth kind) at 0) ⌝ }
 {
     if at as usize + state::store_width(kind) as usize <= mem.len() {
         put_bytes(mem, kind, at as usize, value);
@@ -99,7 +101,8 @@ pub fn store(mem: &mut [u8], tags: &mut [u8], kind: StoreKind, at: u32, value: u
 
 // A capability's words, and its tag.
 pub fn store_capability(mem: &mut [u8], tags: &mut [u8], at: u32, c: Capability)
-    ensures { λ _. ⌜ (now (mem .exit) ≡ storedCapability (now (mem .entry)) at c) × (now (tags .exit) ≡ retagged (now (mem .entry)) (now (tags .entry)) granuleBytes at (c .tag)) ⌝ }
+    ensures { λ _. ⌜ (now (mem .exit) ≡ storedCapability (now (mem .entry)) at c)
+        × (now (tags .exit) ≡ retagged (now (mem .entry)) (now (tags .entry)) granuleBytes at (c .tag)) ⌝ }
 {
     let i = at as usize;
     if i + GRANULE <= mem.len() {
@@ -117,7 +120,8 @@ pub fn commit_effect(
     bytes: u32,
     e: Effect,
 ) -> bool
-    ensures { λ r. ⌜ (r ≡ retires e) × (state (now (regs .exit)) (now (mem .exit)) (now (tags .exit)) ≡ applyEffect bytes e (state (now (regs .entry)) (now (mem .entry)) (now (tags .entry)))) ⌝ }
+    ensures { λ r. ⌜ (r ≡ retires e) × (state (now (regs .exit)) (now (mem .exit)) (now (tags .exit))
+        ≡ applyEffect bytes e (state (now (regs .entry)) (now (mem .entry)) (now (tags .entry)))) ⌝ }
 {
     match e {
         Effect::Advance => {

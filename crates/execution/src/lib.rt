@@ -128,7 +128,9 @@ pub fn take_step(
     tags: &mut [u8],
     revoked: &[u8],
 ) -> bool
-    ensures { λ r. ⌜ (r ≡ retires (effectAt board (now (revoked .entry)) (state (now (regs .entry)) (now (mem .entry)) (now (tags .entry))))) × (state (now (regs .exit)) (now (mem .exit)) (now (tags .exit)) ≡ stepOf board (now (revoked .entry)) (state (now (regs .entry)) (now (mem .entry)) (now (tags .entry)))) ⌝ }
+    ensures { λ r. ⌜ (r ≡ retires (effectAt board (now (revoked .entry)) (state (now (regs .entry)) (now (mem .entry)) (now (tags .entry)))))
+        × (state (now (regs .exit)) (now (mem .exit)) (now (tags .exit))
+        ≡ stepOf board (now (revoked .entry)) (state (now (regs .entry)) (now (mem .entry)) (now (tags .entry)))) ⌝ }
 {
     let e = next_effect(regs, board, mem, tags, revoked);
     commit::commit_effect(regs, mem, tags, INSTRUCTION_BYTES, e)

@@ -55,12 +55,16 @@ link-tag bytes pcc mstatus h = typed-tag _ _ (moved-tag pcc _ h)
 
 jal-good : (bytes rd target : ℕ) (regs : List ℕ) → GoodTags regs → GoodEffect (jalEffect bytes rd target regs)
 unfolding jalEffect
-jal-good bytes rd target regs h = targeted GoodEffect _ _ target _ (λ n v. tt) (link-tag bytes (pccOf regs) (mstatusOf regs) (pcc-tag regs h), moved-tag (pccOf regs) target (pcc-tag regs h))
+jal-good bytes rd target regs h =
+    targeted GoodEffect _ _ target _ (λ n v. tt)
+    (link-tag bytes (pccOf regs) (mstatusOf regs) (pcc-tag regs h), moved-tag (pccOf regs) target (pcc-tag regs h))
 
-jalr-good : (bytes rd rs1 offset target : ℕ) (c : Capability) (regs : List ℕ) → GoodTag c → GoodTags regs → GoodEffect (jalrEffect bytes rd rs1 offset target c regs)
+jalr-good : (bytes rd rs1 offset target : ℕ) (c : Capability) (regs : List ℕ) → GoodTag c → GoodTags regs
+    → GoodEffect (jalrEffect bytes rd rs1 offset target c regs)
 unfolding jalrEffect
 jalr-good bytes rd rs1 offset target c regs g h =
-    targeted GoodEffect _ _ target _ (λ n v. tt) (link-tag bytes (pccOf regs) (mstatusOf regs) (pcc-tag regs h), moved-tag (withObjectType c 0) target (typed-tag c 0 g))
+    targeted GoodEffect _ _ target _ (λ n v. tt)
+    (link-tag bytes (pccOf regs) (mstatusOf regs) (pcc-tag regs h), moved-tag (withObjectType c 0) target (typed-tag c 0 g))
 
 taken-good : (target : ℕ) (regs : List ℕ) → GoodTags regs → GoodEffect (takenEffect target regs)
 unfolding takenEffect

@@ -53,7 +53,8 @@ module _ (board : Board) (revoked : List ℕ) (s : State) where
         tags-are = rw f;
       }
 
-  module _ (after : State) (b : Bool) (good : 0 ≡ stepRefusal board revoked s) (retired : b ≡ retires (effectAt board revoked s)) (left : after ≡ stepOf board revoked s) where
+  module _ (after : State) (b : Bool) (good : 0 ≡ stepRefusal board revoked s) (retired : b ≡ retires (effectAt board revoked s))
+      (left : after ≡ stepOf board revoked s) where
     -- of an answer that is Retired or Trapped as the effect says
     step-done : (a : StepAnswer) → a ≡ cond b StepAnswer.Retired StepAnswer.Trapped → stepNumber a ≡ 0 → stepRetired a ≡ cond b 1 0 → stepTrapped a ≡ cond b 0 1
         → StepPromise board revoked s after a
@@ -132,7 +133,9 @@ module _ (n : ℕ) (board : Board) (revoked : List ℕ) (s : State) where
   -- a run that is not refused asks no more than is allowed
   pub few-steps : refusalOf n board revoked s ≡ 0 → n ≤ mostSteps
   unfolding refusalOf
-  few-steps h = go (not (eqb (length (s .regs)) registerWords)) (not (goodMemory board (length (s .mem)))) (not (goodBits revoked s)) (not (goodWords (s .regs))) (ltb mostSteps n) refl h
+  few-steps h =
+      go (not (eqb (length (s .regs)) registerWords)) (not (goodMemory board (length (s .mem)))) (not (goodBits revoked s)) (not (goodWords (s .regs)))
+      (ltb mostSteps n) refl h
     where
       go : (a b c d e : Bool) → ltb mostSteps n ≡ e → failIf a 1 (failIf b 2 (failIf c 3 (failIf d 4 (failIf e 5 0)))) ≡ 0 → n ≤ mostSteps
       go false false false false false q z = ltb-false mostSteps n q

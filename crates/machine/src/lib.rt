@@ -152,7 +152,8 @@ pub fn step(
     tags: &mut [u8],
     revoked: &[u8],
 ) -> StepAnswer
-    ensures { λ r. ⌜ StepPromise board (now (revoked .entry)) (state (now (regs .entry)) (now (mem .entry)) (now (tags .entry))) (state (now (regs .exit)) (now (mem .exit)) (now (tags .exit))) r ⌝ }
+    ensures { λ r. ⌜ StepPromise board (now (revoked .entry)) (state (now (regs .entry)) (now (mem .entry)) (now (tags .entry)))
+        (state (now (regs .exit)) (now (mem .exit)) (now (tags .exit))) r ⌝ }
 {
     let no = refusal(1, regs, board, mem, tags, revoked);
     if no != 0 {
@@ -180,7 +181,8 @@ fn take_steps(
     revoked: &[u8],
     n: u32,
 ) -> Counts
-    ensures { λ r. ⌜ ran (state (now (regs .exit)) (now (mem .exit)) (now (tags .exit))) (r .retired) (r .trapped) ≡ iterate n board (now (revoked .entry)) (ran (state (now (regs .entry)) (now (mem .entry)) (now (tags .entry))) 0 0) ⌝ }
+    ensures { λ r. ⌜ ran (state (now (regs .exit)) (now (mem .exit)) (now (tags .exit))) (r .retired) (r .trapped)
+        ≡ iterate n board (now (revoked .entry)) (ran (state (now (regs .entry)) (now (mem .entry)) (now (tags .entry))) 0 0) ⌝ }
 {
     let mut retired: u32 = 0;
     let mut trapped: u32 = 0;
@@ -203,7 +205,8 @@ pub fn run(
     revoked: &[u8],
     n: u32,
 ) -> RunAnswer
-    ensures { λ r. ⌜ RunPromise n board (now (revoked .entry)) (state (now (regs .entry)) (now (mem .entry)) (now (tags .entry))) (state (now (regs .exit)) (now (mem .exit)) (now (tags .exit))) r ⌝ }
+    ensures { λ r. ⌜ RunPromise n board (now (revoked .entry)) (state (now (regs .entry)) (now (mem .entry)) (now (tags .entry)))
+        (state (now (regs .exit)) (now (mem .exit)) (now (tags .exit))) r ⌝ }
 {
     let no = refusal(n, regs, board, mem, tags, revoked);
     if no != 0 {

@@ -45,10 +45,12 @@ fetched-holds P board revoked s t h =
     let at : Place → Type 0 = λ p. P (fetchedAt p (s .regs) (seen board revoked s)) in
     checked-holds P _ _ _ t
     (cond-holds at (eqb (pc % instructionBytes) 0) _ Misaligned
-    (cond-holds at (leb (board .start) pc && leb (pc + instructionBytes) (board .start + length (s .mem))) (At (pc - board .start)) Outside h (t fetchFault pc)) (t fetchMisaligned pc))
+    (cond-holds at (leb (board .start) pc && leb (pc + instructionBytes) (board .start + length (s .mem))) (At (pc - board .start))
+    Outside h (t fetchFault pc)) (t fetchMisaligned pc))
 
 -- every store of an instruction lies in one granule of memory
-effect-within : (n : ℕ) (i : Instruction) (word : ℕ) (regs : List ℕ) (m : Lent) → m .board .start % granuleBytes ≡ 0 → StoresWithin (length (m .mem)) (effectOf n i word regs m)
+effect-within : (n : ℕ) (i : Instruction) (word : ℕ) (regs : List ℕ) (m : Lent) → m .board .start % granuleBytes ≡ 0
+    → StoresWithin (length (m .mem)) (effectOf n i word regs m)
 unfolding effectOf
 effect-within n (Integer i) word regs m h = storeless-within _ (integerEffect i regs) (integer-storeless i regs)
 effect-within n (Jump i) word regs m h = storeless-within _ (jumpEffect n i regs) (jump-storeless n i regs)
@@ -59,7 +61,8 @@ effect-within n Illegal word regs m h = tt
 
 pub next-within : (board : Board) (revoked : List ℕ) (s : State) → board .start % granuleBytes ≡ 0 → StoresWithin (length (s .mem)) (effectAt board revoked s)
 next-within board revoked s h =
-    fetched-holds (StoresWithin (length (s .mem))) board revoked s (λ n v. tt) (effect-within instructionBytes (decodeOf (wordAt board s)) _ (s .regs) (seen board revoked s) h)
+    fetched-holds (StoresWithin (length (s .mem))) board revoked s (λ n v. tt)
+    (effect-within instructionBytes (decodeOf (wordAt board s)) _ (s .regs) (seen board revoked s) h)
 
 -- every tag that an instruction writes is 0 or 1
 effect-good : (n : ℕ) (i : Instruction) (word : ℕ) (regs : List ℕ) (m : Lent) → GoodTags regs → GoodEffect (effectOf n i word regs m)

@@ -1,4 +1,5 @@
--- An instruction whose result is an integer leaves no metadata and no tag in its register. Document 01, "Tempting mistakes"; CHERIoT report, 7.3. Assumes nothing.
+-- An instruction whose result is an integer leaves no metadata and no tag in its register. Document 01, "Tempting mistakes"; CHERIoT report, 7.3. Assumes
+-- nothing.
 use mathlib.Core.Path.{_≡_, refl, sym, _∙_}
 use mathlib.Core.Bool.{Bool, true, false, cond, true≢false}
 use mathlib.Core.List.{List}
@@ -30,7 +31,8 @@ use Rattle.commit.specs.Commit.{advanced, withCsr, applyEffect, retires}
 use Rattle.execution.specs.Step.{effectOf, seen, effectAt, stepOf}
 use Rattle.machine.specs.Run.{stepRefusal}
 use Rattle.machine_laws.specs.Steps.{wordAt}
-use Rattle.machine_laws.specs.Integers.{WritesInteger, IsInteger, by-lui, by-op-imm, by-op, by-load, by-inspection, by-difference, by-subset, by-equality, by-csr, by-csr-immediate}
+use Rattle.machine_laws.specs.Integers.{WritesInteger, IsInteger, by-lui, by-op-imm, by-op, by-load, by-inspection, by-difference, by-subset}
+use Rattle.machine_laws.specs.Integers.{by-equality, by-csr, by-csr-immediate}
 use Rattle.machine_laws.proofs.Fetch.{fetched-holds}
 use Rattle.machine_laws.proofs.Refusals.{good-of}
 use Rattle.machine_laws.proofs.Kept.{csr-place}
@@ -75,14 +77,17 @@ Cleared r l = (getD l (r * capabilityWords + 1) 0 ≡ 0) × (getD l (r * capabil
 set-cleared : (l : List ℕ) (r : ℕ) (c : Capability) → r * capabilityWords + 2 < length l → IsInteger c → Cleared r (setCapability l r c)
 unfolding setCapability
 set-cleared l r c h k = (
-  getD-set-other (set (set l (r * capabilityWords) (c .address)) (r * capabilityWords + 1) (c .metadata)) (r * capabilityWords + 2) (r * capabilityWords + 1) (c .tag) 0 (λ e. absurd (omega arith))
+  getD-set-other (set (set l (r * capabilityWords) (c .address)) (r * capabilityWords + 1) (c .metadata)) (r * capabilityWords + 2) (r * capabilityWords + 1)
+      (c .tag) 0 (λ e. absurd (omega arith))
       ∙ getD-set-same (set l (r * capabilityWords) (c .address)) (r * capabilityWords + 1) (c .metadata) 0 (simp length-set (omega arith))
       ∙ k .no-metadata,
-  getD-set-same (set (set l (r * capabilityWords) (c .address)) (r * capabilityWords + 1) (c .metadata)) (r * capabilityWords + 2) (c .tag) 0 (simp length-set (omega arith)) ∙ k .no-tag,
+  getD-set-same (set (set l (r * capabilityWords) (c .address)) (r * capabilityWords + 1) (c .metadata)) (r * capabilityWords + 2) (c .tag) 0
+      (simp length-set (omega arith)) ∙ k .no-tag,
 )
 
 -- c0 stays NULL, another register takes the integer
-write-cleared : (l : List ℕ) (rd : ℕ) (c : Capability) → length l ≡ registerWords → Cleared 0 l → IsInteger c → Cleared (rd % generalCount) (writeRegister l rd c)
+write-cleared : (l : List ℕ) (rd : ℕ) (c : Capability) → length l ≡ registerWords → Cleared 0 l → IsInteger c
+    → Cleared (rd % generalCount) (writeRegister l rd c)
 unfolding writeRegister
 write-cleared l rd c h z k = go (eqb (rd % generalCount) 0) refl
   where
@@ -91,7 +96,8 @@ write-cleared l rd c h z k = go (eqb (rd % generalCount) 0) refl
     go false e = set-cleared l (rd % generalCount) c (omega arith) k
 
 advanced-cleared : (n : ℕ) (l : List ℕ) (r : ℕ) → r < generalCount → Cleared r l → Cleared r (advanced n l)
-advanced-cleared n l r h k = (advanced-same n l (r * capabilityWords + 1) (omega arith) ∙ k .0, advanced-same n l (r * capabilityWords + 2) (omega arith) ∙ k .1)
+advanced-cleared n l r h k =
+    (advanced-same n l (r * capabilityWords + 1) (omega arith) ∙ k .0, advanced-same n l (r * capabilityWords + 2) (omega arith) ∙ k .1)
 
 csr-cleared : (l : List ℕ) (csr : Csr) (r v : ℕ) → r < generalCount → Cleared r l → Cleared r (set l (csrIndex csr) v)
 csr-cleared l csr r v h k =
@@ -112,7 +118,8 @@ applied n rd (Effect.Jump r link target mstatus) s i h l z = absurd i
 applied n rd (Effect.WriteScr r old scr value) s i h l z = absurd i
 applied n rd (Effect.WriteCsr r old csr value) s i h l z =
     rw (sym i) (advanced-cleared n (set (writeRegister (s .regs) r (integer old)) (csrIndex csr) value) (r % generalCount) (omega arith)
-    (csr-cleared (writeRegister (s .regs) r (integer old)) csr (r % generalCount) value (omega arith) (write-cleared (s .regs) r (integer old) l z (plain old))))
+    (csr-cleared (writeRegister (s .regs) r (integer old)) csr (r % generalCount) value (omega arith)
+    (write-cleared (s .regs) r (integer old) l z (plain old))))
 applied n rd (Effect.Trap cause value) s i h l z = absurd (true≢false (sym h))
 
 -- an integer result leaves no metadata and no tag
@@ -124,5 +131,6 @@ integer-results board revoked s good rd i h =
     let g = good-of board revoked s good in
     let e = fetched-holds (ToInteger rd) board revoked s (λ n v. tt)
     (effect-integer instructionBytes (decodeOf (wordAt board s)) rd (wordAt board s) (s .regs) (seen board revoked s) i) in
-    let k = applied instructionBytes rd (effectAt board revoked s) s e h (g .registers) (g .words .c0-words 1 (omega arith), g .words .c0-words 2 (omega arith)) in
+    let k = applied instructionBytes rd (effectAt board revoked s) s e h (g .registers)
+    (g .words .c0-words 1 (omega arith), g .words .c0-words 2 (omega arith)) in
     record { no-metadata = k .0; no-tag = k .1 }

@@ -39,7 +39,10 @@ record Computed : Type 0 where
   third-stays : next third ≡ third
 
 computed : Computed
-unfolding before top-of-memory stepAfter refusalOf goodMemory goodTags goodZero goodWords goodBits stepOf nextEffect fetchedAt effectOf applyEffect setCapability writeRegister advanced trapped Integers.aluOf Integers.integerEffect checked accessCause placeOf capabilityAt integerAt trapStatus legalized aluOf opImmOf decodeOf immediateI low high rights sealed tagged covers sameBounds moveOf exponentOf lowOf highOf lowAt highAt rightsOf permissionsOf typeOf scaleOf topOf baseOf signExtend leBytes setBytes withBit
+unfolding before top-of-memory stepAfter refusalOf goodMemory goodTags goodZero goodWords goodBits stepOf nextEffect fetchedAt effectOf applyEffect
+    setCapability writeRegister advanced trapped Integers.aluOf Integers.integerEffect checked accessCause placeOf capabilityAt integerAt trapStatus
+    legalized aluOf opImmOf decodeOf immediateI low high rights sealed tagged covers sameBounds moveOf exponentOf lowOf highOf lowAt highAt rightsOf
+    permissionsOf typeOf scaleOf topOf baseOf signExtend leBytes setBytes withBit
 computed = record { second-pcc = refl; third-pcc = refl; third-stays = refl }
 
 later-stays : (n : ℕ) → stepsAfter n (boardIn top-of-memory) (top-of-memory .revoked ∷ []) third ≡ third
@@ -48,7 +51,8 @@ later-stays zero = refl
 later-stays (suc n) = ap (stepsAfter n (boardIn top-of-memory) (top-of-memory .revoked ∷ [])) (computed .third-stays) ∙ later-stays n
 
 -- after two steps and more PCC is at the handler
-pub later-pcc : (n : ℕ) → getD (stepsAfter (suc (suc n)) (boardIn top-of-memory) (top-of-memory .revoked ∷ []) (before top-of-memory) .regs) (pccIndex * 3) 0 ≡ 0x20000020
+pub later-pcc : (n : ℕ)
+    → getD (stepsAfter (suc (suc n)) (boardIn top-of-memory) (top-of-memory .revoked ∷ []) (before top-of-memory) .regs) (pccIndex * 3) 0 ≡ 0x20000020
 unfolding stepsAfter
 later-pcc zero = computed .second-pcc
 later-pcc (suc n) = ap (λ (s : State). getD (s .regs) (pccIndex * 3) 0) (later-stays n) ∙ computed .third-pcc

@@ -17,7 +17,8 @@ use Rattle.machine.specs.Refusals.{blockBytes, mostMemory, mostSteps, goodMemor
 use Rattle.machine.specs.Run.{stepRefusal, stepAnswer, stepAfter, runAnswer, runAfter}
 use Rattle.machine.specs.declared.StepAnswer.the-variants.{Refused}
 use Rattle.machine.specs.declared.RunAnswer.the-variants as RunAnswer
-use Rattle.machine_laws.specs.Lent.{LentRegisters, LentMemory, LentBits, ZeroRegister, LentWords, GoodState, Refusal, none, bad-registers, bad-memory, bad-bits, bad-words, too-long}
+use Rattle.machine_laws.specs.Lent.{LentRegisters, LentMemory, LentBits, ZeroRegister, LentWords, GoodState, Refusal, none, bad-registers, bad-memory}
+use Rattle.machine_laws.specs.Lent.{bad-bits, bad-words, too-long}
 
 -- ---- each test says what it means
 

@@ -86,7 +86,8 @@ module _ (board : Board) (revoked : List ℕ) where
 
     pub run-answer : runAnswer n board revoked s ≡ RunAnswer.Ran (retiredIn n board revoked s) (trappedIn n board revoked s)
     unfolding runAnswer
-    run-answer = rw (not-too-many board revoked s good n few) (ap (λ (r : Ran). RunAnswer.Ran (r .retired) (r .trapped)) (run-is-steps n s 0 0 good) ∙ simp zero-add)
+    run-answer =
+        rw (not-too-many board revoked s good n few) (ap (λ (r : Ran). RunAnswer.Ran (r .retired) (r .trapped)) (run-is-steps n s 0 0 good) ∙ simp zero-add)
 
   -- a public run of 0 steps changes nothing, and counts 0 and 0
   pub run-of-none : (s : State) → stepRefusal board revoked s ≡ 0 → (runAfter 0 board revoked s ≡ s) × (runAnswer 0 board revoked s ≡ RunAnswer.Ran 0 0)

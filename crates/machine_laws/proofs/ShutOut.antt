@@ -17,7 +17,8 @@ use Rattle.commit.specs.Commit.{retires}
 use Rattle.execution.specs.Step.{effectAt}
 use Rattle.state.specs.declared.Board.{Board}
 use Rattle.machine.specs.Refusals.{refusalOf, mostSteps}
-use Rattle.machine.specs.Run.{stepRefusal, retiredOf, trappedOf, stepTrapped, stepAnswer, stepAfter, StepPromise, runAnswer, runAfter, RunPromise, stepNumber, stepRetired, runNumber, runRetired, runTrapped}
+use Rattle.machine.specs.Run.{stepRefusal, retiredOf, trappedOf, stepTrapped, stepAnswer, stepAfter, StepPromise, runAnswer, runAfter, RunPromise, stepNumber}
+use Rattle.machine.specs.Run.{stepRetired, runNumber, runRetired, runTrapped}
 use Rattle.machine.specs.declared.StepAnswer.{StepAnswer}
 use Rattle.machine.specs.declared.StepAnswer.the-variants.{Retired, Trapped, Refused}
 use Rattle.machine.specs.declared.RunAnswer.{RunAnswer}
@@ -228,7 +229,8 @@ pcc-of-one (suc (suc m)) h =
   where
     past : leb (suc (suc m)) mostSteps ≡ false → ranTo (suc (suc m)) ≡ before top-of-memory
     past t =
-        let r = too-many (boardIn top-of-memory) (top-of-memory .revoked ∷ []) (before top-of-memory) top-good (suc (suc m)) (leb-false (suc (suc m)) mostSteps t) in
+        let r = too-many (boardIn top-of-memory) (top-of-memory .revoked ∷ []) (before top-of-memory) top-good (suc (suc m))
+        (leb-false (suc (suc m)) mostSteps t) in
         refused-run (boardIn top-of-memory) (top-of-memory .revoked ∷ []) (before top-of-memory) (suc (suc m)) (λ z. omega (arith, r, z))
 
 -- there is a start state from which no other number of steps leaves what one step leaves

@@ -81,7 +81,8 @@ memory-held word (Access.Store kind rs1 rs2 offset) regs m d =
 memory-held word (Access.LoadCapability rd rs1 offset) regs m d =
     let a : ℕ = addressOf regs rs1 offset in
     checked-holds (HeldBy word regs) _ _ _ (λ n v. tt)
-    (placed (HeldBy word regs) (λ p. loadCapabilityAt p rd a (registerAt regs rs1) m) tt tt (λ i. tt) (placeOf (m .board .start) (length (m .mem)) a granuleBytes))
+    (placed (HeldBy word regs) (λ p. loadCapabilityAt p rd a (registerAt regs rs1) m) tt tt (λ i. tt)
+    (placeOf (m .board .start) (length (m .mem)) a granuleBytes))
 memory-held word (Access.StoreCapability rs1 rs2 offset) regs m d =
     let a : ℕ = addressOf regs rs1 offset in
     checked-holds (HeldBy word regs) _ _ _ (λ n v. tt)

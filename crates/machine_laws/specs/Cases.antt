@@ -1,4 +1,5 @@
--- Single steps, with the answer, the registers and the tag byte that they leave, in one table with one statement. Document 01, "Cases" and "Tempting mistakes". Memory is 64 bytes, one tag byte.
+-- Single steps, with the answer, the registers and the tag byte that they leave, in one table with one statement. Document 01, "Cases" and "Tempting
+-- mistakes". Memory is 64 bytes, one tag byte.
 -- Assumes nothing.
 use mathlib.Core.Bool.{Bool, true, _&&_}
 use mathlib.Core.List.{List, [], _∷_}
@@ -62,7 +63,8 @@ boardIn c = record { start = c .start }
 unfoldable pub before : Case → State
 before c =
     state
-    (setCapability (setCapability (setCapability (set (replicate registerWords 0) (csrIndex Mstatus) (c .mstatus)) 1 (c .c1)) pccIndex (c .pcc)) mtccIndex handler)
+    (setCapability (setCapability (setCapability (set (replicate registerWords 0) (csrIndex Mstatus) (c .mstatus)) 1 (c .c1)) pccIndex (c .pcc))
+    mtccIndex handler)
     (set32 (set32 (set32 (replicate 64 0) 8 (c .held .address)) 12 (c .held .metadata)) (c .pcc .address - c .start) (c .instruction))
     (c .tags ∷ [])
 
@@ -101,7 +103,8 @@ plain c1 held tags revoked instruction retired after tagsAfter =
 
 -- the words of a trap: MEPCC, PCC at the handler, MPIE := MIE and MIE := 0, mcause and mtval
 abbrev trap : (mepcc : Capability) → (cause value : ℕ) → List Word
-trap mepcc cause value = register mepccIndex mepcc (register pccIndex handler ((csrIndex Mstatus is 0x80) ∷ (csrIndex Mcause is cause) ∷ (csrIndex Mtval is value) ∷ []))
+trap mepcc cause value =
+    register mepccIndex mepcc (register pccIndex handler ((csrIndex Mstatus is 0x80) ∷ (csrIndex Mcause is cause) ∷ (csrIndex Mtval is value) ∷ []))
 
 -- a no-op in the last word of the address space, PCC's bounds ending there: the next PCC is untagged, at 0
 unfoldable pub top-of-memory : Case

@@ -25,7 +25,8 @@ use Rattle.state.specs.Fits.{FitsRegisters, FitsEffect}
 use Rattle.state.specs.declared.Place.{Place}
 use Rattle.state.specs.declared.Place.the-variants.{At, Misaligned, Outside}
 use Rattle.state.proofs.Fits.{checked-fits, register-fits, integer-fits, capability-in-fits}
-use Rattle.memory_instructions.specs.Access.{loadedValue, loadAt, loadEffect, storeAt, storeEffect, revokedValue, filtered, loadCapabilityAt, loadCapabilityEffect, storeCapabilityAt, storeCapabilityEffect, memoryEffect}
+use Rattle.memory_instructions.specs.Access.{loadedValue, loadAt, loadEffect, storeAt, storeEffect, revokedValue, filtered, loadCapabilityAt}
+use Rattle.memory_instructions.specs.Access.{loadCapabilityEffect, storeCapabilityAt, storeCapabilityEffect, memoryEffect}
 
 pub loaded-word : (kind : LoadKind) (mem : List ℕ) (i : ℕ) → Bytes mem → Word (loadedValue kind mem i)
 unfolding loadedValue
@@ -39,7 +40,8 @@ loaded-word Lhu mem i b = omega (arith, leBytes-lt 2 mem i b)
 pub filtered-fits : (authority value : Capability) (m : Lent) → Good value → Good (filtered authority value m)
 unfolding filtered
 filtered-fits authority value m g =
-    keep-tag-good (not (revokedValue (m .board) (length (m .mem)) (m .revoked) (loadedOf authority value))) (loadedOf authority value) (loaded-good authority value g)
+    keep-tag-good (not (revokedValue (m .board) (length (m .mem)) (m .revoked) (loadedOf authority value))) (loadedOf authority value)
+    (loaded-good authority value g)
 
 -- the address of an access is a word
 module _ (address : ℕ) (a : Word address) where

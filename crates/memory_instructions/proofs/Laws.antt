@@ -20,7 +20,8 @@ use Rattle.state.specs.Effects.{StoresWithin, GoodTag, GoodTags, GoodEffect}
 use Rattle.state.specs.declared.Place.{Place}
 use Rattle.state.specs.declared.Place.the-variants.{At, Misaligned, Outside}
 use Rattle.state.proofs.Laws.{Placed, checked-holds, place-within, store-width, granule-width, kept-good, register-tag, capability-in-tag}
-use Rattle.memory_instructions.specs.Access.{loadAt, loadEffect, storeAt, storeEffect, filtered, revokedValue, loadCapabilityAt, loadCapabilityEffect, storeCapabilityAt, storeCapabilityEffect, memoryEffect}
+use Rattle.memory_instructions.specs.Access.{loadAt, loadEffect, storeAt, storeEffect, filtered, revokedValue, loadCapabilityAt, loadCapabilityEffect}
+use Rattle.memory_instructions.specs.Access.{storeCapabilityAt, storeCapabilityEffect, memoryEffect}
 
 -- ---- stores
 
@@ -30,34 +31,40 @@ load-within size Misaligned kind rd address mem = tt
 load-within size Outside kind rd address mem = tt
 load-within size (At i) kind rd address mem = tt
 
-load-capability-within : (size : ℕ) (p : Place) (rd address : ℕ) (authority : Capability) (m : Lent) → StoresWithin size (loadCapabilityAt p rd address authority m)
+load-capability-within : (size : ℕ) (p : Place) (rd address : ℕ) (authority : Capability) (m : Lent)
+    → StoresWithin size (loadCapabilityAt p rd address authority m)
 unfolding loadCapabilityAt
 load-capability-within size Misaligned rd address authority m = tt
 load-capability-within size Outside rd address authority m = tt
 load-capability-within size (At i) rd address authority m = tt
 
-store-within : (size : ℕ) (p : Place) (kind : StoreKind) (address value : ℕ) → Placed p (storeWidth kind) size → StoresWithin size (storeAt p kind address value)
+store-within : (size : ℕ) (p : Place) (kind : StoreKind) (address value : ℕ) → Placed p (storeWidth kind) size
+    → StoresWithin size (storeAt p kind address value)
 unfolding storeAt
 store-within size Misaligned kind address value h = tt
 store-within size Outside kind address value h = tt
 store-within size (At i) kind address value h = h
 
-store-capability-within : (size : ℕ) (p : Place) (address : ℕ) (value : Capability) → Placed p granuleBytes size → StoresWithin size (storeCapabilityAt p address value)
+store-capability-within : (size : ℕ) (p : Place) (address : ℕ) (value : Capability) → Placed p granuleBytes size
+    → StoresWithin size (storeCapabilityAt p address value)
 unfolding storeCapabilityAt
 store-capability-within size Misaligned address value h = tt
 store-capability-within size Outside address value h = tt
 store-capability-within size (At i) address value h = h
 
-pub memory-within : (i : MemoryInstruction) (regs : List ℕ) (m : Lent) → m .board .start % granuleBytes ≡ 0 → StoresWithin (length (m .mem)) (memoryEffect i regs m)
+pub memory-within : (i : MemoryInstruction) (regs : List ℕ) (m : Lent) → m .board .start % granuleBytes ≡ 0
+    → StoresWithin (length (m .mem)) (memoryEffect i regs m)
 unfolding memoryEffect loadEffect storeEffect loadCapabilityEffect storeCapabilityEffect
 memory-within (Instruction.Load kind rd rs1 offset) regs m h =
     checked-holds (StoresWithin (length (m .mem))) _ _ _ (λ n v. tt) (load-within _ _ kind rd _ (m .mem))
 memory-within (Instruction.Store kind rs1 rs2 offset) regs m h =
-    checked-holds (StoresWithin (length (m .mem))) _ _ _ (λ n v. tt) (store-within _ _ kind _ _ (place-within (m .board .start) (length (m .mem)) _ (storeWidth kind) (store-width kind) h))
+    checked-holds (StoresWithin (length (m .mem))) _ _ _ (λ n v. tt)
+    (store-within _ _ kind _ _ (place-within (m .board .start) (length (m .mem)) _ (storeWidth kind) (store-width kind) h))
 memory-within (Instruction.LoadCapability rd rs1 offset) regs m h =
     checked-holds (StoresWithin (length (m .mem))) _ _ _ (λ n v. tt) (load-capability-within _ _ rd _ _ m)
 memory-within (Instruction.StoreCapability rs1 rs2 offset) regs m h =
-    checked-holds (StoresWithin (length (m .mem))) _ _ _ (λ n v. tt) (store-capability-within _ _ _ _ (place-within (m .board .start) (length (m .mem)) _ granuleBytes granule-width h))
+    checked-holds (StoresWithin (length (m .mem))) _ _ _ (λ n v. tt)
+    (store-capability-within _ _ _ _ (place-within (m .board .start) (length (m .mem)) _ granuleBytes granule-width h))
 
 -- ---- tags
 
@@ -72,7 +79,8 @@ pub filtered-tag : (authority value : Capability) (m : Lent) → GoodTag value �
 unfolding filtered
 filtered-tag authority value m h =
     let v = loadedOf authority value in
-    kept-good v (keepTagIf (not (revokedValue (m .board) (length (m .mem)) (m .revoked) v)) v) (kept (not (revokedValue (m .board) (length (m .mem)) (m .revoked) v)) (v .tag)) (kept-good value v (loaded-kept authority value) h)
+    kept-good v (keepTagIf (not (revokedValue (m .board) (length (m .mem)) (m .revoked) v)) v)
+    (kept (not (revokedValue (m .board) (length (m .mem)) (m .revoked) v)) (v .tag)) (kept-good value v (loaded-kept authority value) h)
 
 load-capability-good : (p : Place) (rd address : ℕ) (authority : Capability) (m : Lent) → GoodEffect (loadCapabilityAt p rd address authority m)
 unfolding loadCapabilityAt

@@ -16,7 +16,8 @@ use Rattle.instructions.specs.declared.MemoryInstruction.the-variants as Instru
 use Rattle.state.specs.Registers.{registerAt, integerAt}
 use Rattle.state.specs.Lent.{Lent}
 use Rattle.state.specs.Memory.{loadWidth, storeWidth, placeOf, capabilityIn, revokedAt, granuleBytes}
-use Rattle.state.specs.Checks.{checked, failIf, accessCause, inBounds, noCause, tagCause, sealCause, boundsCause, loadCause, storeCause, storeCapabilityCause, storeLocalCause}
+use Rattle.state.specs.Checks.{checked, failIf, accessCause, inBounds, noCause, tagCause, sealCause, boundsCause, loadCause, storeCause, storeCapabilityCause}
+use Rattle.state.specs.Checks.{storeLocalCause}
 use Rattle.state.specs.Checks.{loadMisaligned, loadFault, storeMisaligned, storeFault}
 use Rattle.state.specs.declared.Board.{Board}
 use Rattle.state.specs.declared.Place.{Place}

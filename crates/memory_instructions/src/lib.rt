@@ -6,7 +6,8 @@ ghost use Rattle.words.specs.Words.{wrap};
 ghost use Rattle.state.specs.Lent.{lent};
 ghost use Rattle.state.specs.Checks.{failIf, noCause, tagCause, sealCause, boundsCause, storeCause, storeCapabilityCause, storeLocalCause};
 ghost use Rattle.capability.specs.Capability.{keepTagIf};
-ghost use Rattle.memory_instructions.specs.Access.{loadedValue, loadAt, loadEffect, storeAt, storeEffect, filtered, revokedValue, loadCapabilityAt, loadCapabilityEffect, storeCapabilityCheck, storeCapabilityAt, storeCapabilityEffect, memoryEffect};
+ghost use Rattle.memory_instructions.specs.Access.{loadedValue, loadAt, loadEffect, storeAt, storeEffect, filtered, revokedValue, loadCapabilityAt};
+ghost use Rattle.memory_instructions.specs.Access.{loadCapabilityEffect, storeCapabilityCheck, storeCapabilityAt, storeCapabilityEffect, memoryEffect};
 use capability::Capability;
 use instructions::LoadKind;
 use instructions::MemoryInstruction;
@@ -231,7 +232,8 @@ fn first_store_cause(
     escaping: bool,
     inside: bool,
 ) -> u32
-    ensures { λ r. ⌜ r ≡ failIf (not tagged) tagCause (failIf sealed sealCause (failIf (not stores) storeCause (failIf lacking storeCapabilityCause (failIf escaping storeLocalCause (failIf (not inside) boundsCause noCause))))) ⌝ }
+    ensures { λ r. ⌜ r ≡ failIf (not tagged) tagCause (failIf sealed sealCause (failIf (not stores) storeCause
+        (failIf lacking storeCapabilityCause (failIf escaping storeLocalCause (failIf (not inside) boundsCause noCause))))) ⌝ }
 {
     if !tagged {
         return TAG_CAUSE;

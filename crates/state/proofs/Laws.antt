@@ -69,7 +69,8 @@ Placed Misaligned width size = Unit {0}
 Placed Outside width size = Unit {0}
 Placed (At i) width size = OneGranule i width size
 
-in-granule : (start address width : ℕ) → Width width → start % granuleBytes ≡ 0 → address % width ≡ 0 → start ≤ address → (address - start) % granuleBytes + width ≤ granuleBytes
+in-granule : (start address width : ℕ) → Width width → start % granuleBytes ≡ 0 → address % width ≡ 0 → start ≤ address
+    → (address - start) % granuleBytes + width ≤ granuleBytes
 in-granule start address width (inl e) h k l = omega arith
 in-granule start address width (inr (inl e)) h k l = omega (arith, rw e at k)
 in-granule start address width (inr (inr (inl e))) h k l = omega (arith, rw e at k)

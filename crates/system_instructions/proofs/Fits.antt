@@ -67,4 +67,5 @@ module _ (regs : List ℕ) (h : FitsRegisters regs) where
   system-fits (CsrImmediate kind csr rd value) r = effect-fits kind csr rd value (omega (arith, r .1))
   system-fits (SpecialRw scr rd rs1) r =
       checked-fits _ _ _
-      (write-fits scr rd rs1 _ _ (scr-fits scr (capabilityAt regs (scrIndex scr)) (special-fits scr)) (scr-fits scr (registerAt regs rs1) (register-fits regs h rs1)))
+      (write-fits scr rd rs1 _ _ (scr-fits scr (capabilityAt regs (scrIndex scr)) (special-fits scr))
+      (scr-fits scr (registerAt regs rs1) (register-fits regs h rs1)))

@@ -1,4 +1,5 @@
--- FENCE, WFI, ECALL, EBREAK, the CSR instructions and CSpecialRW. RISC-V standards; CHERIoT report, 7.9, 7.10 and 9.4; document 01, "In and out". Assumes nothing.
+-- FENCE, WFI, ECALL, EBREAK, the CSR instructions and CSpecialRW. RISC-V standards; CHERIoT report, 7.9, 7.10 and 9.4; document 01, "In and out". Assumes
+-- nothing.
 use mathlib.Core.Bool.{Bool, cond}
 use mathlib.Core.List.{List}
 use Prim.Native.Nat.{ℕ, _+_, _-_, _%_, _^_}

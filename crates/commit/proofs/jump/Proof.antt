@@ -5,7 +5,11 @@ use Rattle.commit.proofs.jump.Tie as tie
 
 returns : tie.Need-returns
 unfolding jumped
-returns c = simp (c .before .before .set-csr .ensures, c .before .before .before .before .before .before .set-capability .ensures, c .before .before .before .before .before .before .before .before .before .before .write-register .ensures)
+returns c =
+    let c3 = c .before .before .before in
+    let c6 = c3 .before .before .before in
+    let c9 = c6 .before .before .before in
+    simp (c .before .before .set-csr .ensures, c6 .set-capability .ensures, c9 .before .write-register .ensures)
 
 pub jump-spec : {M : Type 1} → statement M
 jump-spec =

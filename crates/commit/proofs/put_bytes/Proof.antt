@@ -3,13 +3,19 @@ use Rattle.commit.proofs.put_bytes.Statement.{statement}
 use Rattle.commit.proofs.put_bytes.Tie as tie
 
 returns : tie.Need-returns
-returns c = simp (c .before .before .store8 .ensures, c .before .before .before .before .enum-told .given .1)
+returns c =
+    let c3 = c .before .before .before in
+    simp (c .before .before .store8 .ensures, c3 .before .enum-told .given .1)
 
 returns-2 : tie.Need-returns-2
-returns-2 c = simp (c .before .before .store16 .ensures, c .before .before .before .before .enum-told2 .given .1)
+returns-2 c =
+    let c3 = c .before .before .before in
+    simp (c .before .before .store16 .ensures, c3 .before .enum-told2 .given .1)
 
 returns-3 : tie.Need-returns-3
-returns-3 c = simp (c .before .before .store32 .ensures, c .before .before .before .before .enum-told3 .given .1)
+returns-3 c =
+    let c3 = c .before .before .before in
+    simp (c .before .before .store32 .ensures, c3 .before .enum-told3 .given .1)
 
 pub put-bytes-spec : {M : Type 1} → statement M
 put-bytes-spec =

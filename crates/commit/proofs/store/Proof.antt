@@ -6,7 +6,13 @@ use Rattle.commit.proofs.store.Tie as tie
 
 returns : tie.Need-returns
 unfolding stored retagged
-returns c = let e = le-leb _ _ (c .before .before .before .before .before .before .before .before .if1 .taken) in let w = c .before .before .before .before .before .before .before .before .before .store-width .ensures in (simp (← w, e, c .before .before .before .before .before .before .put-bytes .ensures), simp (← w, e) (c .before .before .put-bit .ensures))
+returns c =
+    let c3 = c .before .before .before in
+    let c6 = c3 .before .before .before in
+    let c9 = c6 .before .before .before in
+    let e = le-leb _ _ (c6 .before .before .if1 .taken) in
+    let w = c9 .store-width .ensures in
+    (simp (← w, e, c6 .put-bytes .ensures), simp (← w, e) (c .before .before .put-bit .ensures))
 
 returns-2 : tie.Need-returns-2
 unfolding stored retagged

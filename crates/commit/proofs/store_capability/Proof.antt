@@ -6,7 +6,13 @@ use Rattle.commit.proofs.store_capability.Tie as tie
 
 returns : tie.Need-returns
 unfolding storedCapability retagged
-returns c = let e = le-leb _ _ (c .before .before .before .before .before .before .before .before .before .before .before .before .if1 .taken) in (simp (e, c .before .before .before .before .before .before .store322 .ensures, c .before .before .before .before .before .before .before .before .before .before .store32 .ensures), simp (e, c .before .before .put-bit .ensures))
+returns c =
+    let c3 = c .before .before .before in
+    let c6 = c3 .before .before .before in
+    let c9 = c6 .before .before .before in
+    let c12 = c9 .before .before .before in
+    let e = le-leb _ _ (c12 .if1 .taken) in
+    (simp (e, c6 .store322 .ensures, c9 .before .store32 .ensures), simp (e, c .before .before .put-bit .ensures))
 
 returns-2 : tie.Need-returns-2
 unfolding storedCapability retagged

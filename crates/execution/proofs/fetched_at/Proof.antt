@@ -13,7 +13,9 @@ returns-2 c = simp (c .fetch-trap2 .ensures, c .before .enum-told2 .given .1)
 
 returns-3 : tie.Need-returns-3
 unfolding fetchedAt
-returns-3 c = simp (c .execute .ensures, c .before .decode .ensures, c .before .before .load32 .ensures, c .before .before .before .before .p .given .1)
+returns-3 c =
+    let c3 = c .before .before .before in
+    simp (c .execute .ensures, c .before .decode .ensures, c .before .before .load32 .ensures, c3 .before .p .given .1)
 
 pub fetched-at-spec : {M : Type 1} → statement M
 fetched-at-spec =

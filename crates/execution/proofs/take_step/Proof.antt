@@ -5,7 +5,13 @@ use Rattle.execution.proofs.take_step.Tie as tie
 
 returns : tie.Need-returns
 unfolding stepOf
-returns c = let e = c .before .before .before .before .before .before .before .before .before .before .next-effect .ensures in let k = c .before .before .before .before .before .before .commit-effect .ensures in (rw (← e) (k .0), rw (← e) (k .1))
+returns c =
+    let c3 = c .before .before .before in
+    let c6 = c3 .before .before .before in
+    let c9 = c6 .before .before .before in
+    let e = c9 .before .next-effect .ensures in
+    let k = c6 .commit-effect .ensures in
+    (rw (← e) (k .0), rw (← e) (k .1))
 
 pub take-step-spec : {M : Type 1} → statement M
 take-step-spec =

@@ -9,11 +9,21 @@ returns c = simp (c .write-integer .ensures, c .before .before .i .given .1)
 
 returns-2 : tie.Need-returns-2
 unfolding integerEffect
-returns-2 c = simp (c .write-integer2 .ensures, c .before .alu .ensures, c .before .before .integer-at .ensures, c .before .before .before .before .i2 .given .1)
+returns-2 c =
+    let c3 = c .before .before .before in
+    simp (c .write-integer2 .ensures, c .before .alu .ensures, c .before .before .integer-at .ensures, c3 .before .i2 .given .1)
 
 returns-3 : tie.Need-returns-3
 unfolding integerEffect
-returns-3 c = simp (c .write-integer3 .ensures, c .before .alu2 .ensures, c .before .before .integer-at3 .ensures, c .before .before .before .integer-at2 .ensures, c .before .before .before .before .before .i3 .given .1)
+returns-3 c =
+    let c3 = c .before .before .before in
+    simp (
+      c .write-integer3 .ensures,
+      c .before .alu2 .ensures,
+      c .before .before .integer-at3 .ensures,
+      c3 .integer-at2 .ensures,
+      c3 .before .before .i3 .given .1,
+    )
 
 pub integer-effect-spec : {M : Type 1} → statement M
 integer-effect-spec =

@@ -5,7 +5,18 @@ use Rattle.jump_instructions.proofs.jalr_cause.Tie as tie
 
 returns : tie.Need-returns
 unfolding jalrCause
-returns c = simp (c .first-jalr-cause .ensures, c .before .target-cause .ensures, c .before .before .has-right .ensures, c .before .before .before .is-shut .ensures, c .before .before .before .before .is-sentry .ensures, c .before .before .before .before .before .is-sealed .ensures, c .before .before .before .before .before .before .is-tagged .ensures)
+returns c =
+    let c3 = c .before .before .before in
+    let c6 = c3 .before .before .before in
+    simp (
+      c .first-jalr-cause .ensures,
+      c .before .target-cause .ensures,
+      c .before .before .has-right .ensures,
+      c3 .is-shut .ensures,
+      c3 .before .is-sentry .ensures,
+      c3 .before .before .is-sealed .ensures,
+      c6 .is-tagged .ensures,
+    )
 
 pub jalr-cause-spec : {M : Type 1} → statement M
 jalr-cause-spec =

@@ -10,7 +10,9 @@ returns c = simp (c .with-mie .ensures, ← (c .before .before .otype .ensures .
 
 returns-2 : tie.Need-returns-2
 unfolding jumpStatus
-returns-2 c = simp (c .with-mie2 .ensures, ← (c .before .before .before .otype .ensures .0), ne-eqb _ _ (c .before .before .if1 .left), eq-eqb _ _ (c .before .if2 .taken))
+returns-2 c =
+    let c3 = c .before .before .before in
+    simp (c .with-mie2 .ensures, ← (c3 .otype .ensures .0), ne-eqb _ _ (c .before .before .if1 .left), eq-eqb _ _ (c .before .if2 .taken))
 
 returns-3 : tie.Need-returns-3
 unfolding jumpStatus

@@ -34,7 +34,8 @@ returns c =
     let r = c .before .before .before .before .before .args .regs .now in
     let i = c .before .before .before .loop .i in
     let unsound : 1 < getD r (i * capabilityWords + 2) 0 = omega (arith, c .if1 .taken, c .before .word-at .ensures) in
-    sym (rw (lt-leb (getD r (i * capabilityWords + 2) 0) 1 unsound) at (laws.tags-turn r i (c .before .before .loop-test .taken))) ∙ c .before .before .before .loop .inv .1
+    sym (rw (lt-leb (getD r (i * capabilityWords + 2) 0) 1 unsound) at (laws.tags-turn r i (c .before .before .loop-test .taken)))
+    ∙ c .before .before .before .loop .inv .1
 
 add-i : tie.Need-add-i Inv-loop μ-loop
 add-i c = search needs
@@ -47,7 +48,8 @@ loop-again c =
     let r = c .before .before .before .before .before .args .regs .now in
     let i = c .before .before .before .loop .i in
     let sound : getD r (i * capabilityWords + 2) 0 ≤ 1 = omega (arith, c .if1 .left, c .before .word-at .ensures) in
-    (search needs, sym (rw (le-leb (getD r (i * capabilityWords + 2) 0) 1 sound) at (laws.tags-turn r i (c .before .before .loop-test .taken))) ∙ c .before .before .before .loop .inv .1)
+    let turn = laws.tags-turn r i (c .before .before .loop-test .taken) in
+    (search needs, sym (rw (le-leb (getD r (i * capabilityWords + 2) 0) 1 sound) at turn) ∙ c .before .before .before .loop .inv .1)
 
 returns-2 : tie.Need-returns-2 Inv-loop μ-loop
 unfolding goodTags

@@ -52,7 +52,8 @@ loop-again c =
     let at-test = stepped .before .before .before .before in
     let taken = stepped .take-step .ensures in
     let one = c .one-if .ensures in
-    let turn = laws.run-turn _ _ _ _ _ _ _ _ _ (at-test .loop-test .taken) (taken .1) (one .0 ∙ ap (λ b. cond b 1 0) (taken .0)) (one .1 ∙ ap (λ b. cond b 0 1) (taken .0)) in
+    let turn = laws.run-turn _ _ _ _ _ _ _ _ _ (at-test .loop-test .taken) (taken .1) (one .0 ∙ ap (λ b. cond b 1 0) (taken .0))
+    (one .1 ∙ ap (λ b. cond b 0 1) (taken .0)) in
     (omega arith, omega arith, omega arith, omega arith, omega arith, omega arith, turn ∙ at-test .before .loop .inv .6)
 
 same-length : tie.Need-same-length Inv-loop μ-loop

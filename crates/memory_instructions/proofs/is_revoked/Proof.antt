@@ -5,7 +5,9 @@ use Rattle.memory_instructions.proofs.is_revoked.Tie as tie
 
 returns : tie.Need-returns
 unfolding revokedValue
-returns c = simp (c .both .ensures, c .before .revoked-at .ensures, c .before .before .is-revocable .ensures, c .before .before .before .bounds-of .ensures .0)
+returns c =
+    let c3 = c .before .before .before in
+    simp (c .both .ensures, c .before .revoked-at .ensures, c .before .before .is-revocable .ensures, c3 .bounds-of .ensures .0)
 
 pub is-revoked-spec : {M : Type 1} → statement M
 is-revoked-spec =

@@ -5,7 +5,15 @@ use Rattle.memory_instructions.proofs.load.Tie as tie
 
 returns : tie.Need-returns
 unfolding loadEffect
-returns c = simp (c .checked-effect .ensures, c .before .load-at .ensures, c .before .before .place-of .ensures, c .before .before .before .access-cause .ensures, c .before .before .before .before .load-width .ensures)
+returns c =
+    let c3 = c .before .before .before in
+    simp (
+      c .checked-effect .ensures,
+      c .before .load-at .ensures,
+      c .before .before .place-of .ensures,
+      c3 .access-cause .ensures,
+      c3 .before .load-width .ensures,
+    )
 
 pub load-spec : {M : Type 1} → statement M
 load-spec =

@@ -5,7 +5,9 @@ use Rattle.memory_instructions.proofs.load_capability.Tie as tie
 
 returns : tie.Need-returns
 unfolding loadCapabilityEffect
-returns c = simp (c .checked-effect .ensures, c .before .load-capability-at .ensures, c .before .before .place-of .ensures, c .before .before .before .access-cause .ensures)
+returns c =
+    let c3 = c .before .before .before in
+    simp (c .checked-effect .ensures, c .before .load-capability-at .ensures, c .before .before .place-of .ensures, c3 .access-cause .ensures)
 
 pub load-capability-spec : {M : Type 1} → statement M
 load-capability-spec =

@@ -6,19 +6,47 @@ use Rattle.memory_instructions.proofs.memory_effect.Tie as tie
 
 returns : tie.Need-returns
 unfolding memoryEffect
-returns c = simp (integer-is, c .load .ensures, c .before .address-of .ensures, c .before .before .register-at .ensures, c .before .before .before .before .i .given .1)
+returns c =
+    let c3 = c .before .before .before in
+    simp (integer-is, c .load .ensures, c .before .address-of .ensures, c .before .before .register-at .ensures, c3 .before .i .given .1)
 
 returns-2 : tie.Need-returns-2
 unfolding memoryEffect
-returns-2 c = simp (integer-is, c .store .ensures, c .before .address-of2 .ensures, c .before .before .integer-at .ensures, c .before .before .before .register-at2 .ensures, c .before .before .before .before .before .i2 .given .1)
+returns-2 c =
+    let c3 = c .before .before .before in
+    simp (
+      integer-is,
+      c .store .ensures,
+      c .before .address-of2 .ensures,
+      c .before .before .integer-at .ensures,
+      c3 .register-at2 .ensures,
+      c3 .before .before .i2 .given .1,
+    )
 
 returns-3 : tie.Need-returns-3
 unfolding memoryEffect
-returns-3 c = simp (integer-is, c .load-capability .ensures, c .before .address-of3 .ensures, c .before .before .register-at3 .ensures, c .before .before .before .before .i3 .given .1)
+returns-3 c =
+    let c3 = c .before .before .before in
+    simp (
+      integer-is,
+      c .load-capability .ensures,
+      c .before .address-of3 .ensures,
+      c .before .before .register-at3 .ensures,
+      c3 .before .i3 .given .1,
+    )
 
 returns-4 : tie.Need-returns-4
 unfolding memoryEffect
-returns-4 c = simp (integer-is, c .store-capability .ensures, c .before .address-of4 .ensures, c .before .before .register-at5 .ensures, c .before .before .before .register-at4 .ensures, c .before .before .before .before .before .i4 .given .1)
+returns-4 c =
+    let c3 = c .before .before .before in
+    simp (
+      integer-is,
+      c .store-capability .ensures,
+      c .before .address-of4 .ensures,
+      c .before .before .register-at5 .ensures,
+      c3 .register-at4 .ensures,
+      c3 .before .before .i4 .given .1,
+    )
 
 pub memory-effect-spec : {M : Type 1} → statement M
 memory-effect-spec =

@@ -5,7 +5,15 @@ use Rattle.memory_instructions.proofs.store.Tie as tie
 
 returns : tie.Need-returns
 unfolding storeEffect
-returns c = simp (c .checked-effect .ensures, c .before .store-at .ensures, c .before .before .place-of .ensures, c .before .before .before .access-cause .ensures, c .before .before .before .before .store-width .ensures)
+returns c =
+    let c3 = c .before .before .before in
+    simp (
+      c .checked-effect .ensures,
+      c .before .store-at .ensures,
+      c .before .before .place-of .ensures,
+      c3 .access-cause .ensures,
+      c3 .before .store-width .ensures,
+    )
 
 pub store-spec : {M : Type 1} → statement M
 store-spec =

@@ -5,7 +5,14 @@ use Rattle.memory_instructions.proofs.store_capability.Tie as tie
 
 returns : tie.Need-returns
 unfolding storeCapabilityEffect
-returns c = simp (c .checked-effect .ensures, c .before .store-capability-at .ensures, c .before .before .place-of .ensures, c .before .before .before .store-capability-cause .ensures)
+returns c =
+    let c3 = c .before .before .before in
+    simp (
+      c .checked-effect .ensures,
+      c .before .store-capability-at .ensures,
+      c .before .before .place-of .ensures,
+      c3 .store-capability-cause .ensures,
+    )
 
 pub store-capability-spec : {M : Type 1} → statement M
 store-capability-spec =

@@ -5,7 +5,16 @@ use Rattle.system_instructions.proofs.csr_effect.Tie as tie
 
 returns : tie.Need-returns
 unfolding csrEffect
-returns c = simp (c .checked-effect .ensures, c .before .system-access .ensures, c .before .before .pcc-of .ensures, c .before .before .before .csr-written .ensures, c .before .before .before .before .csr-asked .ensures, c .before .before .before .before .before .csr-at .ensures)
+returns c =
+    let c3 = c .before .before .before in
+    simp (
+      c .checked-effect .ensures,
+      c .before .system-access .ensures,
+      c .before .before .pcc-of .ensures,
+      c3 .csr-written .ensures,
+      c3 .before .csr-asked .ensures,
+      c3 .before .before .csr-at .ensures,
+    )
 
 pub csr-effect-spec : {M : Type 1} → statement M
 csr-effect-spec =

@@ -5,7 +5,22 @@ use Rattle.system_instructions.proofs.special.Tie as tie
 
 returns : tie.Need-returns
 unfolding specialEffect
-returns c = simp (c .checked-effect .ensures, c .before .special-write .ensures, c .before .before .scr-number .ensures .0, c .before .before .before .system-access .ensures, c .before .before .before .before .pcc-of .ensures, c .before .before .before .before .before .scr-value2 .ensures, c .before .before .before .before .before .before .register-at .ensures, c .before .before .before .before .before .before .before .scr-value .ensures, c .before .before .before .before .before .before .before .before .capability-at .ensures, c .before .before .before .before .before .before .before .before .before .scr-index .ensures)
+returns c =
+    let c3 = c .before .before .before in
+    let c6 = c3 .before .before .before in
+    let c9 = c6 .before .before .before in
+    simp (
+      c .checked-effect .ensures,
+      c .before .special-write .ensures,
+      c .before .before .scr-number .ensures .0,
+      c3 .system-access .ensures,
+      c3 .before .pcc-of .ensures,
+      c3 .before .before .scr-value2 .ensures,
+      c6 .register-at .ensures,
+      c6 .before .scr-value .ensures,
+      c6 .before .before .capability-at .ensures,
+      c9 .scr-index .ensures,
+    )
 
 pub special-spec : {M : Type 1} → statement M
 special-spec =

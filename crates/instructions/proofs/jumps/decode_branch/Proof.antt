@@ -8,32 +8,44 @@ use Rattle.instructions.proofs.jumps.decode_branch.Tie as tie
 -- Beq
 returns : tie.Need-returns
 unfolding branchOf
-returns c = rw (lt-ltb _ _ (c .before .before .before .if1 .taken), lt-ltb _ _ (c .before .before .if2 .taken), c .before .match .keys1) (c .branch .ensures)
+returns c =
+    let c3 = c .before .before .before in
+    rw (lt-ltb _ _ (c3 .if1 .taken), lt-ltb _ _ (c .before .before .if2 .taken), c .before .match .keys1) (c .branch .ensures)
 
 -- Bne
 returns-2 : tie.Need-returns-2
 unfolding branchOf
-returns-2 c = rw (lt-ltb _ _ (c .before .before .before .if1 .taken), lt-ltb _ _ (c .before .before .if2 .taken), c .before .match .keys2) (c .branch2 .ensures)
+returns-2 c =
+    let c3 = c .before .before .before in
+    rw (lt-ltb _ _ (c3 .if1 .taken), lt-ltb _ _ (c .before .before .if2 .taken), c .before .match .keys2) (c .branch2 .ensures)
 
 -- Blt
 returns-3 : tie.Need-returns-3
 unfolding branchOf
-returns-3 c = rw (lt-ltb _ _ (c .before .before .before .if1 .taken), lt-ltb _ _ (c .before .before .if2 .taken), c .before .match .keys3) (c .branch3 .ensures)
+returns-3 c =
+    let c3 = c .before .before .before in
+    rw (lt-ltb _ _ (c3 .if1 .taken), lt-ltb _ _ (c .before .before .if2 .taken), c .before .match .keys3) (c .branch3 .ensures)
 
 -- Bge
 returns-4 : tie.Need-returns-4
 unfolding branchOf
-returns-4 c = rw (lt-ltb _ _ (c .before .before .before .if1 .taken), lt-ltb _ _ (c .before .before .if2 .taken), c .before .match .keys4) (c .branch4 .ensures)
+returns-4 c =
+    let c3 = c .before .before .before in
+    rw (lt-ltb _ _ (c3 .if1 .taken), lt-ltb _ _ (c .before .before .if2 .taken), c .before .match .keys4) (c .branch4 .ensures)
 
 -- Bltu
 returns-5 : tie.Need-returns-5
 unfolding branchOf
-returns-5 c = rw (lt-ltb _ _ (c .before .before .before .if1 .taken), lt-ltb _ _ (c .before .before .if2 .taken), c .before .match .keys5) (c .branch5 .ensures)
+returns-5 c =
+    let c3 = c .before .before .before in
+    rw (lt-ltb _ _ (c3 .if1 .taken), lt-ltb _ _ (c .before .before .if2 .taken), c .before .match .keys5) (c .branch5 .ensures)
 
 -- Bgeu
 returns-6 : tie.Need-returns-6
 unfolding branchOf
-returns-6 c = rw (lt-ltb _ _ (c .before .before .before .if1 .taken), lt-ltb _ _ (c .before .before .if2 .taken), c .before .match .keys6) (c .branch6 .ensures)
+returns-6 c =
+    let c3 = c .before .before .before in
+    rw (lt-ltb _ _ (c3 .if1 .taken), lt-ltb _ _ (c .before .before .if2 .taken), c .before .match .keys6) (c .branch6 .ensures)
 
 -- illegal
 returns-7 : tie.Need-returns-7

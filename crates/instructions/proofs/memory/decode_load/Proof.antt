@@ -8,17 +8,23 @@ use Rattle.instructions.proofs.memory.decode_load.Tie as tie
 -- Lb
 returns : tie.Need-returns
 unfolding loadOf
-returns c = rw (lt-ltb _ _ (c .before .before .before .if1 .taken), lt-ltb _ _ (c .before .before .if2 .taken), c .before .match .keys1) (c .load .ensures)
+returns c =
+    let c3 = c .before .before .before in
+    rw (lt-ltb _ _ (c3 .if1 .taken), lt-ltb _ _ (c .before .before .if2 .taken), c .before .match .keys1) (c .load .ensures)
 
 -- Lh
 returns-2 : tie.Need-returns-2
 unfolding loadOf
-returns-2 c = rw (lt-ltb _ _ (c .before .before .before .if1 .taken), lt-ltb _ _ (c .before .before .if2 .taken), c .before .match .keys2) (c .load2 .ensures)
+returns-2 c =
+    let c3 = c .before .before .before in
+    rw (lt-ltb _ _ (c3 .if1 .taken), lt-ltb _ _ (c .before .before .if2 .taken), c .before .match .keys2) (c .load2 .ensures)
 
 -- Lw
 returns-3 : tie.Need-returns-3
 unfolding loadOf
-returns-3 c = rw (lt-ltb _ _ (c .before .before .before .if1 .taken), lt-ltb _ _ (c .before .before .if2 .taken), c .before .match .keys3) (c .load3 .ensures)
+returns-3 c =
+    let c3 = c .before .before .before in
+    rw (lt-ltb _ _ (c3 .if1 .taken), lt-ltb _ _ (c .before .before .if2 .taken), c .before .match .keys3) (c .load3 .ensures)
 
 -- LoadCapability
 returns-4 : tie.Need-returns-4
@@ -28,12 +34,16 @@ returns-4 c = rw (lt-ltb _ _ (c .before .before .if1 .taken), lt-ltb _ _ (c .bef
 -- Lbu
 returns-5 : tie.Need-returns-5
 unfolding loadOf
-returns-5 c = rw (lt-ltb _ _ (c .before .before .before .if1 .taken), lt-ltb _ _ (c .before .before .if2 .taken), c .before .match .keys5) (c .load4 .ensures)
+returns-5 c =
+    let c3 = c .before .before .before in
+    rw (lt-ltb _ _ (c3 .if1 .taken), lt-ltb _ _ (c .before .before .if2 .taken), c .before .match .keys5) (c .load4 .ensures)
 
 -- Lhu
 returns-6 : tie.Need-returns-6
 unfolding loadOf
-returns-6 c = rw (lt-ltb _ _ (c .before .before .before .if1 .taken), lt-ltb _ _ (c .before .before .if2 .taken), c .before .match .keys6) (c .load5 .ensures)
+returns-6 c =
+    let c3 = c .before .before .before in
+    rw (lt-ltb _ _ (c3 .if1 .taken), lt-ltb _ _ (c .before .before .if2 .taken), c .before .match .keys6) (c .load5 .ensures)
 
 -- illegal
 returns-7 : tie.Need-returns-7

@@ -8,17 +8,23 @@ use Rattle.instructions.proofs.memory.decode_store.Tie as tie
 -- Sb
 returns : tie.Need-returns
 unfolding storeOf
-returns c = rw (lt-ltb _ _ (c .before .before .before .if1 .taken), lt-ltb _ _ (c .before .before .if2 .taken), c .before .match .keys1) (c .store .ensures)
+returns c =
+    let c3 = c .before .before .before in
+    rw (lt-ltb _ _ (c3 .if1 .taken), lt-ltb _ _ (c .before .before .if2 .taken), c .before .match .keys1) (c .store .ensures)
 
 -- Sh
 returns-2 : tie.Need-returns-2
 unfolding storeOf
-returns-2 c = rw (lt-ltb _ _ (c .before .before .before .if1 .taken), lt-ltb _ _ (c .before .before .if2 .taken), c .before .match .keys2) (c .store2 .ensures)
+returns-2 c =
+    let c3 = c .before .before .before in
+    rw (lt-ltb _ _ (c3 .if1 .taken), lt-ltb _ _ (c .before .before .if2 .taken), c .before .match .keys2) (c .store2 .ensures)
 
 -- Sw
 returns-3 : tie.Need-returns-3
 unfolding storeOf
-returns-3 c = rw (lt-ltb _ _ (c .before .before .before .if1 .taken), lt-ltb _ _ (c .before .before .if2 .taken), c .before .match .keys3) (c .store3 .ensures)
+returns-3 c =
+    let c3 = c .before .before .before in
+    rw (lt-ltb _ _ (c3 .if1 .taken), lt-ltb _ _ (c .before .before .if2 .taken), c .before .match .keys3) (c .store3 .ensures)
 
 -- StoreCapability
 returns-4 : tie.Need-returns-4

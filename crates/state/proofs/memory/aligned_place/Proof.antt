@@ -6,10 +6,20 @@ use Rattle.state.proofs.memory.aligned_place.Statement.{statement}
 use Rattle.state.proofs.memory.aligned_place.Tie as tie
 
 returns : tie.Need-returns
-returns c = simp (le-leb _ _ (c .before .if1 .taken), le-leb (c .before .before .args .address + c .before .before .args .width) (c .before .before .args .start + c .before .before .args .size) (omega (arith, c .before .if1 .taken, c .if2 .taken)))
+returns c =
+    simp (
+      le-leb _ _ (c .before .if1 .taken),
+      le-leb (c .before .before .args .address + c .before .before .args .width) (c .before .before .args .start + c .before .before .args .size)
+          (omega (arith, c .before .if1 .taken, c .if2 .taken)),
+    )
 
 returns-2 : tie.Need-returns-2
-returns-2 c = simp (le-leb _ _ (c .before .if1 .taken), lt-leb (c .before .before .args .address + c .before .before .args .width) (c .before .before .args .start + c .before .before .args .size) (omega (arith, c .before .if1 .taken, c .if2 .left)))
+returns-2 c =
+    simp (
+      le-leb _ _ (c .before .if1 .taken),
+      lt-leb (c .before .before .args .address + c .before .before .args .width) (c .before .before .args .start + c .before .before .args .size)
+          (omega (arith, c .before .if1 .taken, c .if2 .left)),
+    )
 
 returns-3 : tie.Need-returns-3
 returns-3 c = simp (lt-leb _ _ (c .if1 .left))

@@ -8,11 +8,23 @@ use Rattle.state.proofs.memory.revoked_at.Tie as tie
 
 returns : tie.Need-returns
 unfolding revokedAt
-returns c = simp (le-leb _ _ (c .before .before .if1 .taken), lt-ltb (c .before .before .before .before .args .address) (c .before .before .before .before .args .board .start + c .before .before .before .before .args .size) (omega (arith, c .before .before .if1 .taken, c .before .if2 .taken)), c .get-bit .ensures)
+returns c =
+    let c3 = c .before .before .before in
+    simp (
+      le-leb _ _ (c .before .before .if1 .taken),
+      lt-ltb (c3 .before .args .address) (c3 .before .args .board .start + c3 .before .args .size)
+          (omega (arith, c .before .before .if1 .taken, c .before .if2 .taken)),
+      c .get-bit .ensures,
+    )
 
 returns-2 : tie.Need-returns-2
 unfolding revokedAt
-returns-2 c = simp (le-leb _ _ (c .before .if1 .taken), le-ltb (c .before .before .before .args .address) (c .before .before .before .args .board .start + c .before .before .before .args .size) (omega (arith, c .before .if1 .taken, c .if2 .left)))
+returns-2 c =
+    let c3 = c .before .before .before in
+    simp (
+      le-leb _ _ (c .before .if1 .taken),
+      le-ltb (c3 .args .address) (c3 .args .board .start + c3 .args .size) (omega (arith, c .before .if1 .taken, c .if2 .left)),
+    )
 
 returns-3 : tie.Need-returns-3
 unfolding revokedAt

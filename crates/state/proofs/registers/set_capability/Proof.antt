@@ -18,7 +18,11 @@ returns c = refl
 
 returns-2 : tie.Need-returns-2
 unfolding setCapability
-returns-2 c = simp (c .before .before .put-word3 .ensures, c .before .before .before .before .before .before .put-word2 .ensures, c .before .before .before .before .before .before .before .before .before .before .put-word .ensures)
+returns-2 c =
+    let c3 = c .before .before .before in
+    let c6 = c3 .before .before .before in
+    let c9 = c6 .before .before .before in
+    simp (c .before .before .put-word3 .ensures, c6 .put-word2 .ensures, c9 .before .put-word .ensures)
 
 pub set-capability-spec : {M : Type 1} → statement M
 set-capability-spec =

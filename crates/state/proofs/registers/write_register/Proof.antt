@@ -6,7 +6,9 @@ use Rattle.state.proofs.registers.write_register.Tie as tie
 
 returns : tie.Need-returns
 unfolding writeRegister
-returns c = simp (ne-eqb _ _ (c .before .before .before .before .if1 .taken), c .before .before .set-capability .ensures)
+returns c =
+    let c3 = c .before .before .before in
+    simp (ne-eqb _ _ (c3 .before .if1 .taken), c .before .before .set-capability .ensures)
 
 returns-2 : tie.Need-returns-2
 unfolding writeRegister

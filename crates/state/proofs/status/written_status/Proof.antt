@@ -5,7 +5,9 @@ use Rattle.state.proofs.status.written_status.Tie as tie
 
 returns : tie.Need-returns
 unfolding writtenStatus
-returns c = simp (c .with-mpie .ensures, c .before .mpie-of .ensures, c .before .before .with-mie .ensures, c .before .before .before .mie-of .ensures)
+returns c =
+    let c3 = c .before .before .before in
+    simp (c .with-mpie .ensures, c .before .mpie-of .ensures, c .before .before .with-mie .ensures, c3 .mie-of .ensures)
 
 pub written-status-spec : {M : Type 1} → statement M
 written-status-spec = tie.close (tie.spec (λ c κs. search needs) (λ c κs. search needs) (λ c κs. search needs) (λ c κs. search needs) returns)

@@ -21,10 +21,14 @@ add-result : tie.Need-add-result
 add-result c = omega (arith, div-le-self (c .before .args .b) (c .power .result))
 
 mul-result-2 : tie.Need-mul-result-2
-mul-result-2 c = let a = c .before .args in omega (arith, fits (a .b) (a .k) (a .v) (c .power .result) (c .power .ensures .0) (search needs) (search needs))
+mul-result-2 c =
+    let a = c .before .args in
+    omega (arith, fits (a .b) (a .k) (a .v) (c .power .result) (c .power .ensures .0) (search needs) (search needs))
 
 add-result-2 : tie.Need-add-result-2
-add-result-2 c = let a = c .before .args in omega (arith, fits (a .b) (a .k) (a .v) (c .power .result) (c .power .ensures .0) (search needs) (search needs))
+add-result-2 c =
+    let a = c .before .args in
+    omega (arith, fits (a .b) (a .k) (a .v) (c .power .result) (c .power .ensures .0) (search needs) (search needs))
 
 returns : tie.Need-returns
 unfolding withBit
