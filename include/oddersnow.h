@@ -45,8 +45,9 @@ uint64_t oddersnow_bounds_high(uint32_t address, uint32_t metadata);
  * exactly if every call kept it, and then the last capability lies inside the first and has no right that the
  * first lacked.
  *
- * The answer is 0, or a number of this function's own with nothing changed; the lower wins:
+ * The answer is 0, or one of these numbers with nothing changed; the lowest wins:
  *
+ *   4   tag is not 0 or 1 (document 01's number for such a word)
  *   11  values_len is not kinds_len, or out_len is not 3 * kinds_len
  *   12  a kind is not 0 to 3
  */

@@ -20,6 +20,8 @@ pub struct List {
 /// A program that makes the calls of a list.
 pub type Calls = fn(&mut List) -> u32;
 
+/// Document 01's number for a tag word that is not 0 or 1.
+pub const BAD_TAG: u32 = 4;
 // The refusals of this interface alone; documents 01 and 02 use the numbers below 11.
 pub const WRONG_SIZE: u32 = 11;
 pub const UNKNOWN_KIND: u32 = 12;
@@ -36,8 +38,12 @@ pub fn second(list: &mut List) -> u32 {
     lent(list, calls)
 }
 
-/// A list behind the lent interface: its two refusals, then the words of every call.
+/// A list behind the lent interface: its three refusals, the lowest number first, then the words
+/// of every call.
 pub fn lent(list: &mut List, calls: Plain) -> u32 {
+    if list.start.tag > 1 {
+        return BAD_TAG;
+    }
     let count = list.kinds.len();
     if list.values.len() != count || list.words.len() != 3 * count {
         return WRONG_SIZE;
@@ -126,7 +132,8 @@ fn list(random: &mut Random) -> List {
     }
 }
 
-/// Breaks a list in one or two of the ways that are refused.
+/// Breaks a list in the ways that are refused: an unknown kind, a wrong size, a start tag above 1,
+/// often several of them.
 fn spoil(random: &mut Random, list: &mut List) {
     if random.one_in(2) && !list.kinds.is_empty() {
         let at = random.below(list.kinds.len() as u32) as usize;
@@ -140,6 +147,9 @@ fn spoil(random: &mut Random, list: &mut List) {
         4 => list.words.clear(),
         _ => {}
     }
+    if random.one_in(4) {
+        list.start.tag = random.pick([2, 3, 0x100, 0x8000_0001, u32::MAX]);
+    }
 }
 
 /// What was compared: lists by their answer, calls of each kind that kept and that cleared a tag.
@@ -148,6 +158,7 @@ pub struct Totals {
     pub lists: u64,
     pub empty: u64,
     pub tagged_to_the_end: u64,
+    pub bad_tag: u64,
     pub wrong_size: u64,
     pub unknown_kind: u64,
     pub calls: u64,
@@ -161,17 +172,19 @@ impl Totals {
         let lists = [
             self.empty,
             self.tagged_to_the_end,
+            self.bad_tag,
             self.wrong_size,
             self.unknown_kind,
         ];
-        let all = [lists, self.kept, self.cleared];
-        all.as_flattened().iter().all(|&count| count > 0)
+        let mut all = lists.iter().chain(&self.kept).chain(&self.cleared);
+        all.all(|&count| count > 0)
     }
 
     fn count(&mut self, list: &List, number: u32) {
         self.lists += 1;
         match number {
             0 => self.count_calls(list),
+            BAD_TAG => self.bad_tag += 1,
             WRONG_SIZE => self.wrong_size += 1,
             _ => self.unknown_kind += 1,
         }
@@ -248,5 +261,41 @@ mod tests {
             number
         };
         assert!(compare(wrong, 1, 100).is_err());
+    }
+
+    /// A start of the whole address space with a tag, one cut, and so many words lent for it.
+    fn one_cut(tag: u32, words: usize) -> List {
+        let start = Capability {
+            address: 0,
+            metadata: 0x7E3E_0000,
+            tag,
+        };
+        List {
+            start,
+            kinds: vec![0],
+            values: vec![64],
+            words: vec![UNWRITTEN; words],
+        }
+    }
+
+    #[test]
+    fn a_start_tag_above_1_is_refused_before_all_else() {
+        for tag in [2, 3, u32::MAX] {
+            let mut list = one_cut(tag, 4);
+            list.kinds[0] = 4;
+            assert_eq!(second(&mut list), BAD_TAG);
+            assert!(list.words.iter().all(|&word| word == UNWRITTEN));
+        }
+        assert_eq!(second(&mut one_cut(1, 4)), WRONG_SIZE);
+        assert_eq!(second(&mut one_cut(1, 3)), 0);
+    }
+
+    #[test]
+    fn a_program_that_takes_any_start_tag_is_found() {
+        let wrong = |list: &mut List| {
+            list.start.tag = list.start.tag.min(1);
+            second(list)
+        };
+        assert!(compare(wrong, 1, 1_000).is_err());
     }
 }
