@@ -72,10 +72,11 @@ cutExact base end = eqb (cutLow base end) base && eqb (cutHigh base end) end
 abbrev pub pastEnd : (base length : ℕ) → Bool
 pastEnd base length = ltb (2 ^ 32) (base + length)
 
--- the answer to a cut asked by plain numbers: a refusal, or the region
+-- the region of a cut, and whether it is exact
 abbrev pub regionAnswer : (base end : ℕ) → CutAnswer
 regionAnswer base end = Cut (record { low = cutLow base end; high = cutHigh base end }) (cutExact base end)
 
+-- the answer to a cut asked by plain numbers: a refusal, or the region
 unfoldable pub cutOf : (base length : ℕ) → CutAnswer
 cutOf base length = cond (pastEnd base length) PastEnd (regionAnswer base (base + length))
 

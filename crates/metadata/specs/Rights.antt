@@ -74,8 +74,8 @@ rightsOf c =
     (cond (eqb (c / 8 % 4) 1) (right SR (bit c 2) + right LM (bit c 1) + right LG (bit c 0) + (2 ^ EX + 2 ^ LD + 2 ^ MC))
     (right U0 (bit c 2) + right SE (bit c 1) + right US (bit c 0))))))
 
--- The code that narrowing picks: GL, and of the rows, in document 01's order of preference, the first whose granted rights are all there.
--- What that row has no bit for is lost.
+-- The code that narrowing picks: GL, and of the rows, in document 01's order of preference, the first whose granted rights are all there; the row
+-- of LD and SD, which grants nothing, where one of the two is. What that row has no bit for is lost.
 unfoldable pub codeOf : (rights : ℕ) → ℕ
 codeOf r =
     bit r GL * 32

@@ -1,4 +1,4 @@
--- How long an instruction is, and at which addresses one may stand. Document 01, "Traps"; CHERIoT report, 7.5 and 7.14. Assumes nothing.
+-- How long an instruction is, and at which addresses one may stand. Document 01, "Traps"; CHERIoT report, 7.5 and 9.4. Assumes nothing.
 use Prim.Native.Nat.{ℕ, _+_, _*_, _/_}
 use mathlib.Core.List.{List}
 use Rattle.words.specs.Words.{wrap}
@@ -21,7 +21,7 @@ targetAlignment = 4
 abbrev pub nextAddress : (bytes : ℕ) → (regs : List ℕ) → ℕ
 nextAddress bytes regs = wrap (pcOf regs + bytes)
 
--- what the addresses in MTCC and MEPCC are multiples of
+-- what an address of MTCC or MEPCC is cut to where it is used
 abbrev pub vectorAlignment : ℕ
 vectorAlignment = 4
 

@@ -1,4 +1,4 @@
--- The register file: where each word stands. Document 01, "What is lent". Every number here follows from three counts. Assumes nothing.
+-- The register file: where each word stands. Document 01, "What is lent". Every place follows from four counts. Assumes nothing.
 use Prim.Native.Nat.{ℕ, _+_, _*_}
 use Rattle.instructions.specs.declared.Csr.{Csr}
 use Rattle.instructions.specs.declared.Csr.the-variants.{Mstatus, Mcause, Mtval}
@@ -13,8 +13,11 @@ capabilityWords = 3
 abbrev pub generalCount : ℕ
 generalCount = 16
 
+abbrev pub specialCount : ℕ
+specialCount = 5
+
 abbrev pub capabilityCount : ℕ
-capabilityCount = generalCount + 5
+capabilityCount = generalCount + specialCount
 
 -- mstatus, mcause, mtval
 abbrev pub controlCount : ℕ

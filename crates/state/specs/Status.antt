@@ -1,4 +1,4 @@
--- mstatus. Document 01, "What is lent": two of its bits are read and written, the others stay as they were lent. RISC-V privileged standard. Assumes nothing.
+-- mstatus. Document 01, "What is lent": two of its bits mean something, the others stay as they were lent. RISC-V privileged standard. Assumes nothing.
 use Prim.Native.Nat.{ℕ}
 use Rattle.words.specs.Words.{withBit}
 use Rattle.metadata.specs.Rights.{bit}

@@ -70,7 +70,7 @@ pub const TARGET_BYTES: u32 = 4;
 
 pub const TARGET_ALIGNMENT: u32 = 4;
 
-// What the addresses in MTCC and MEPCC are multiples of.
+// What an address of MTCC or MEPCC is cut to where it is used.
 pub const VECTOR_ALIGNMENT: u32 = 4;
 
 // The bytes of a granule, which has one tag and one revocation bit; and as an index of a buffer.
