@@ -1,4 +1,5 @@
--- A closed property of all that stands in registers and memory holds of each capability that an instruction writes: a clause for each instruction. Assumes nothing.
+-- A closed property of all that stands in registers and memory holds of each capability that an instruction writes. A clause for each instruction.
+-- Assumes nothing.
 use mathlib.Core.Path.{_≡_, refl}
 use mathlib.Core.Bool.{Bool, not}
 use mathlib.Core.List.{List}
@@ -162,8 +163,8 @@ module _ (P : Capability → Type 0) (closed : Closed P) where
         (scr-carried scr (registerAt regs rs1) (general rs1)))
 
     module _ (m : Lent) (start : m .board .start % granuleBytes ≡ 0) (memory : Granules P (m .mem) (m .tags)) where
-      abbrev place : (rs1 offset width : ℕ) → Place
-      place rs1 offset width = placeOf (m .board .start) (length (m .mem)) (addressOf regs rs1 offset) width
+      abbrev place : (address width : ℕ) → Place
+      place address width = placeOf (m .board .start) (length (m .mem)) address width
 
       loaded-carried : (p : Place) (rd address : ℕ) (authority : Capability) → Placed p granuleBytes (length (m .mem))
           → EachCapability P (loadCapabilityAt p rd address authority m)
@@ -175,15 +176,16 @@ module _ (P : Capability → Type 0) (closed : Closed P) where
       memory-carried : (i : MemoryInstruction) → EachCapability P (memoryEffect i regs m)
       unfolding memoryEffect loadEffect storeEffect loadCapabilityEffect storeCapabilityEffect loadAt storeAt storeCapabilityAt
       memory-carried (Access.Load kind rd rs1 offset) =
-          passes _ _ _ (placed (EachCapability P) (λ p. loadAt p kind rd (addressOf regs rs1 offset) (m .mem)) tt tt (λ i. number _) (place rs1 offset (loadWidth kind)))
+          let a : ℕ = addressOf regs rs1 offset in
+          passes _ _ _ (placed (EachCapability P) (λ p. loadAt p kind rd a (m .mem)) tt tt (λ i. number _) (place a (loadWidth kind)))
       memory-carried (Access.Store kind rs1 rs2 offset) =
-          passes _ _ _
-          (placed (EachCapability P) (λ p. storeAt p kind (addressOf regs rs1 offset) (integerAt regs rs2)) tt tt (λ i. tt) (place rs1 offset (storeWidth kind)))
+          let a : ℕ = addressOf regs rs1 offset in
+          passes _ _ _ (placed (EachCapability P) (λ p. storeAt p kind a (integerAt regs rs2)) tt tt (λ i. tt) (place a (storeWidth kind)))
       memory-carried (Access.LoadCapability rd rs1 offset) =
           passes _ _ _ (loaded-carried _ rd _ (registerAt regs rs1) (place-within (m .board .start) (length (m .mem)) _ granuleBytes granule-width start))
       memory-carried (Access.StoreCapability rs1 rs2 offset) =
-          passes _ _ _
-          (placed (EachCapability P) (λ p. storeCapabilityAt p (addressOf regs rs1 offset) (registerAt regs rs2)) tt tt (λ i. general rs2) (place rs1 offset granuleBytes))
+          let a : ℕ = addressOf regs rs1 offset in
+          passes _ _ _ (placed (EachCapability P) (λ p. storeCapabilityAt p a (registerAt regs rs2)) tt tt (λ i. general rs2) (place a granuleBytes))
 
       -- every instruction
       pub effect-carried : (bytes : ℕ) (i : Instruction) (word : ℕ) → EachCapability P (effectOf bytes i word regs m)

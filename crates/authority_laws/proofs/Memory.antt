@@ -37,12 +37,19 @@ each-stored P (Trap cause value) h = tt
 module _ (b a : State) where
   -- a store in one granule leaves the capabilities of the others
   module _ (i width tag : ℕ) (only : OnlyAt i width tag b a) (together : i % granuleBytes + width ≤ granuleBytes) where
-    bytes-other : (j p : ℕ) → j % granuleBytes ≡ 0 → (j / granuleBytes ≡ i / granuleBytes → ⊥) → j ≤ p → p ≤ j + 4 → leBytes 4 (a .mem) p ≡ leBytes 4 (b .mem) p
+    bytes-other : (j p : ℕ) → j % granuleBytes ≡ 0 → (j / granuleBytes ≡ i / granuleBytes → ⊥) → j ≤ p → p ≤ j + 4
+        → leBytes 4 (a .mem) p ≡ leBytes 4 (b .mem) p
     bytes-other j p g n l u = leBytes-same 4 (a .mem) (b .mem) p (λ k h. only .other-bytes (p + k) (λ x. omega arith))
 
-    granule-other : (j : ℕ) → j % granuleBytes ≡ 0 → (j / granuleBytes ≡ i / granuleBytes → ⊥) → capabilityIn (a .mem) (a .tags) j ≡ capabilityIn (b .mem) (b .tags) j
+    granule-other : (j : ℕ) → j % granuleBytes ≡ 0 → (j / granuleBytes ≡ i / granuleBytes → ⊥)
+        → capabilityIn (a .mem) (a .tags) j ≡ capabilityIn (b .mem) (b .tags) j
     unfolding capabilityIn
-    granule-other j g n = rw (bytes-other j j g n (omega arith) (omega arith), bytes-other j (j + 4) g n (omega arith) (omega arith), only .other-tags (j / granuleBytes) n)
+    granule-other j g n =
+        rw (
+          bytes-other j j g n (omega arith) (omega arith),
+          bytes-other j (j + 4) g n (omega arith) (omega arith),
+          only .other-tags (j / granuleBytes) n,
+        )
 
     -- its own granule has the store's tag
     granule-tag : (j : ℕ) → j / granuleBytes ≡ i / granuleBytes → capabilityIn (a .mem) (a .tags) j .tag ≡ tag

@@ -13,7 +13,8 @@ use Rattle.metadata.proofs.Words.{permissions-of-type, scale-of-type, top-of-ty
 use Rattle.metadata.proofs.Narrowed.{scale-of-narrow, top-of-narrow, base-of-narrow, narrow-inside}
 use Rattle.bounds.specs.Bounds.{lowAt, highAt}
 use Rattle.bounds.specs.Cutting.{unrounded}
-use Rattle.capability.specs.Capability.{capability, low, high, rights, grants, tagged, sealed, unsealed, covers, keepTagIf, sameBounds, moveOf, setBoundsOf, setBoundsExactOf, narrowOf}
+use Rattle.capability.specs.Capability.{capability, low, high, rights, grants, tagged, sealed, unsealed, covers, keepTagIf, sameBounds}
+use Rattle.capability.specs.Capability.{moveOf, setBoundsOf, setBoundsExactOf, narrowOf}
 use Rattle.capability.specs.Sealing.{withObjectType, globalMask, sealOf, unsealOf}
 use Rattle.capability.specs.Loading.{losesIf, without, loseGlobal, loseMutable, loseTag, loadedOf}
 use Rattle.capability.specs.declared.Capability.{Capability}
@@ -114,7 +115,8 @@ pub unseal-from : (c a : Capability) → From c (unsealOf c a)
 unfolding unsealOf
 unseal-from c a =
     let n = capability (c .address) (narrowWord (c .metadata) (globalMask a)) (c .tag) in
-    from-both {b = n} (below-from c (below-narrow (c .metadata) (globalMask a)) (inl refl)) (below-from n (below-type (n .metadata) 0 (omega arith)) (unseal-kept c a))
+    from-both {b = n} (below-from c (below-narrow (c .metadata) (globalMask a)) (inl refl))
+    (below-from n (below-type (n .metadata) 0 (omega arith)) (unseal-kept c a))
 
 loses-from : (t : Bool) (mask : ℕ) (v : Capability) → From v (losesIf t mask v)
 loses-from t mask v = below-from v (below-if t (v .metadata) mask) (inl refl)

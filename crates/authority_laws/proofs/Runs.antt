@@ -31,7 +31,8 @@ use Rattle.machine_laws.proofs.Fetch.{fetched-holds, next-within}
 use Rattle.machine_laws.proofs.Kept.{good-stays, lengths-stay}
 use Rattle.machine_laws.proofs.Stores.{store-changes-only}
 use Rattle.machine_laws.proofs.Fits.{next-fits, in-type-stays, step-in-type, run-in-type}
-use Rattle.authority_laws.specs.Gain.{Stands, in-register, in-granule, Held, Sound, SoundState, Start, Derived, NoGain, Reached, at-start, by-step, by-run, AuthorityClaim}
+use Rattle.authority_laws.specs.Gain.{Stands, in-register, in-granule, Held, Sound, SoundState, Start, Derived, NoGain}
+use Rattle.authority_laws.specs.Gain.{Reached, at-start, by-step, by-run, AuthorityClaim}
 use Rattle.authority_laws.proofs.Closed.{Closed, Everywhere}
 use Rattle.authority_laws.proofs.Effects.{effect-carried}
 use Rattle.authority_laws.proofs.Registers.{files-after}
@@ -128,7 +129,8 @@ module _ (board : Board) (revoked : List ℕ) where
   steps-gain-none (suc n) r good h =
       let s = r .at in
       let a = stepOf board revoked s in
-      let g : NoGain s a = ended s a (step-keeps (Grounded s) (grounded-closed s) board revoked s good (h .in-type) (started board revoked s good (h .sound))) in
+      let g : NoGain s a =
+      ended s a (step-keeps (Grounded s) (grounded-closed s) board revoked s good (h .in-type) (started board revoked s good (h .sound))) in
       let next : GoodState board revoked a = good-of board revoked a (good-stays board revoked s (of-good board revoked s good 1 (omega arith))) in
       gain-both g (steps-gain-none n (oneMore board revoked r) next
       (record { in-type = in-type-stays board revoked s (good .words .tag-words) (h .in-type); sound = g .sound }))
@@ -154,7 +156,8 @@ module _ (board : Board) (revoked : List ℕ) where
 -- two states are the same where their buffers are
 same-state : (a b : State) → a .regs ≡ b .regs → a .mem ≡ b .mem → a .tags ≡ b .tags → a ≡ b
 same-state a b p q r =
-    ap (λ (x : List ℕ). state x (a .mem) (a .tags)) p ∙ (ap (λ (x : List ℕ). state (b .regs) x (a .tags)) q ∙ ap (λ (x : List ℕ). state (b .regs) (b .mem) x) r)
+    ap (λ (x : List ℕ). state x (a .mem) (a .tags)) p
+    ∙ (ap (λ (x : List ℕ). state (b .regs) x (a .tags)) q ∙ ap (λ (x : List ℕ). state (b .regs) (b .mem) x) r)
 
 -- and all calls together; the state that they leave can start again
 pub reached-gains-none : (s a : State) → Start s → Reached s a → NoGain s a × Start a

@@ -56,14 +56,15 @@ pub record NoGain (before after : State) : Type 0 where
   pub derived : (c : Capability) → Held after c → Derived before c
   pub sound : SoundState after
 
--- what calls leave, one after another, whatever they answer: every way in which the project changes what is lent. Board and revocation bits may differ from call to
--- call; where the caller writes registers, memory or tags between two calls, this ends and a new start begins.
+-- What calls leave, one after another and whatever they answer: a constructor for each way in which this project changes what is lent. Board and
+-- revocation bits may differ from call to call. A caller's own write to registers, memory or tags is none of them: it begins a new start.
 pub data Reached (s : State) : State → Type 0 where
   at-start : Reached s s
   by-step : {b a : State} (board : Board) (revoked : List ℕ) (answer : StepAnswer) → Reached s b → StepPromise board revoked b a answer → Reached s a
   by-run : {b a : State} (n : ℕ) (board : Board) (revoked : List ℕ) (answer : RunAnswer) → Reached s b → RunPromise n board revoked b a answer → Reached s a
 
--- no run gains authority, of every Start (law `authority-claim`): after any number of steps of the definition, and after all calls of code that keeps its promises
+-- No run gains authority, of every Start (law `authority-claim`): after any number of steps of good buffers, by the definition; and after any
+-- calls of code that keeps its promises.
 pub record AuthorityClaim (s : State) : Type 0 where
   pub after-steps : (n : ℕ) (board : Board) (revoked : List ℕ) → stepRefusal board revoked s ≡ 0 → NoGain s (ranFrom n board revoked s .at)
   pub after-calls : (a : State) → Reached s a → NoGain s a
