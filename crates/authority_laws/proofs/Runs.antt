@@ -32,7 +32,7 @@ use Rattle.machine_laws.proofs.Kept.{good-stays, lengths-stay}
 use Rattle.machine_laws.proofs.Stores.{store-changes-only}
 use Rattle.machine_laws.proofs.Fits.{next-fits, in-type-stays, step-in-type, run-in-type}
 use Rattle.authority_laws.specs.Gain.{Stands, in-register, in-granule, Held, Sound, SoundState, Start, Derived, NoGain}
-use Rattle.authority_laws.specs.Gain.{Reached, at-start, by-step, by-run, AuthorityClaim}
+use Rattle.authority_laws.specs.Gain.{Reached, at-start, by-step, by-run, by-c-step, by-c-run, AuthorityClaim}
 use Rattle.authority_laws.proofs.Closed.{Closed, Everywhere}
 use Rattle.authority_laws.proofs.Effects.{effect-carried}
 use Rattle.authority_laws.proofs.Registers.{files-after}
@@ -159,19 +159,32 @@ same-state a b p q r =
     ap (λ (x : List ℕ). state x (a .mem) (a .tags)) p
     ∙ (ap (λ (x : List ℕ). state (b .regs) x (a .tags)) q ∙ ap (λ (x : List ℕ). state (b .regs) (b .mem) x) r)
 
--- and all calls together; the state that they leave can start again
+-- what calls have left so far, from a start s
+abbrev Kept : (s a : State) → Type 0
+Kept s a = NoGain s a × Start a
+
+module _ {s b : State} (k : Kept s b) (board : Board) (revoked : List ℕ) (a : State) where
+  kept-by-step : a ≡ stepAfter board revoked b → Kept s a
+  kept-by-step e =
+      let g = gain-both (k .0) (step-gains-none board revoked b (k .1)) in
+      rw e (g, record { in-type = step-in-type board revoked b (k .1 .in-type); sound = g .sound })
+
+  kept-by-run : (n : ℕ) → a ≡ runAfter n board revoked b → Kept s a
+  kept-by-run n e =
+      let g = gain-both (k .0) (run-gains-none board revoked n b (k .1)) in
+      rw e (g, record { in-type = run-in-type board revoked b (k .1 .in-type) n; sound = g .sound })
+
+-- all calls together; what they leave can start again
 pub reached-gains-none : (s a : State) → Start s → Reached s a → NoGain s a × Start a
 reached-gains-none s a h at-start = (gain-none (h .sound), h)
 reached-gains-none s a h (by-step {b} board revoked answer r p) =
-    let x = reached-gains-none s b h r in
-    let e = same-state a (stepAfter board revoked b) (p .registers-are) (p .memory-is) (p .tags-are) in
-    let g = gain-both (x .0) (step-gains-none board revoked b (x .1)) in
-    rw e (g, record { in-type = step-in-type board revoked b (x .1 .in-type); sound = g .sound })
+    kept-by-step (reached-gains-none s b h r) board revoked a (same-state a _ (p .registers-are) (p .memory-is) (p .tags-are))
 reached-gains-none s a h (by-run {b} n board revoked answer r p) =
-    let x = reached-gains-none s b h r in
-    let e = same-state a (runAfter n board revoked b) (p .registers-are) (p .memory-is) (p .tags-are) in
-    let g = gain-both (x .0) (run-gains-none board revoked n b (x .1)) in
-    rw e (g, record { in-type = run-in-type board revoked b (x .1 .in-type) n; sound = g .sound })
+    kept-by-run (reached-gains-none s b h r) board revoked a n (same-state a _ (p .registers-are) (p .memory-is) (p .tags-are))
+reached-gains-none s a h (by-c-step {b} board revoked answer r p) =
+    kept-by-step (reached-gains-none s b h r) board revoked a (same-state a _ (p .registers-are) (p .memory-is) (p .tags-are))
+reached-gains-none s a h (by-c-run {b} n board revoked answer r p) =
+    kept-by-run (reached-gains-none s b h r) board revoked a n (same-state a _ (p .registers-are) (p .memory-is) (p .tags-are))
 
 -- no run gains authority
 pub authority-claim : (s : State) → Start s → AuthorityClaim s

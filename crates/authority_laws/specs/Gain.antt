@@ -15,6 +15,7 @@ use Rattle.machine.specs.Run.{stepRefusal, ranFrom, StepPromise, RunPromise}
 use Rattle.machine.specs.declared.StepAnswer.{StepAnswer}
 use Rattle.machine.specs.declared.RunAnswer.{RunAnswer}
 use Rattle.machine_laws.specs.Fits.{InType}
+use Rattle.bench_api.specs.Packing.{StepPacked, RunPacked}
 
 -- ---- what a state holds
 
@@ -56,12 +57,14 @@ pub record NoGain (before after : State) : Type 0 where
   pub derived : (c : Capability) → Held after c → Derived before c
   pub sound : SoundState after
 
--- What calls leave, one after another and whatever they answer: a constructor for each way in which this project changes what is lent. Board and
+-- What calls leave, one after another and whatever they answer: a constructor for each function that changes what is lent, with its promise. Board and
 -- revocation bits may differ from call to call. A caller's own write to registers, memory or tags is none of them: it begins a new start.
 pub data Reached (s : State) : State → Type 0 where
   at-start : Reached s s
   by-step : {b a : State} (board : Board) (revoked : List ℕ) (answer : StepAnswer) → Reached s b → StepPromise board revoked b a answer → Reached s a
   by-run : {b a : State} (n : ℕ) (board : Board) (revoked : List ℕ) (answer : RunAnswer) → Reached s b → RunPromise n board revoked b a answer → Reached s a
+  by-c-step : {b a : State} (board : Board) (revoked : List ℕ) (answer : ℕ) → Reached s b → StepPacked board revoked b a answer → Reached s a
+  by-c-run : {b a : State} (n : ℕ) (board : Board) (revoked : List ℕ) (answer : ℕ) → Reached s b → RunPacked n board revoked b a answer → Reached s a
 
 -- No run gains authority, of every Start (law `authority-claim`): after any number of steps of good buffers, by the definition; and after any
 -- calls of code that keeps its promises.
