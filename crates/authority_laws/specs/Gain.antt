@@ -1,0 +1,73 @@
+-- What a state holds, what is derived from it, and that steps and runs gain no authority. Document 02, 9. Assumes nothing.
+use mathlib.Core.List.{List}
+use mathlib.Core.Path.{_≡_}
+use Prim.Native.Nat.{ℕ, _*_, _/_, _^_, _≤_, _<_}
+use lib.ListN.{length}
+use Rattle.capability.specs.Capability.{low, high}
+use Rattle.capability.specs.declared.Capability.{Capability}
+use Rattle.capability_laws.specs.Authority.{Inside}
+use Rattle.state.specs.Layout.{capabilityCount}
+use Rattle.state.specs.Registers.{capabilityAt}
+use Rattle.state.specs.Lent.{State}
+use Rattle.state.specs.Memory.{capabilityIn, granuleBytes}
+use Rattle.state.specs.declared.Board.{Board}
+use Rattle.machine.specs.Run.{stepRefusal, ranFrom, StepPromise, RunPromise}
+use Rattle.machine.specs.declared.StepAnswer.{StepAnswer}
+use Rattle.machine.specs.declared.RunAnswer.{RunAnswer}
+use Rattle.machine_laws.specs.Fits.{InType}
+use Rattle.bench_api.specs.Packing.{StepPacked, RunPacked}
+
+-- ---- what a state holds
+
+-- where a capability stands: one of the twenty-one of the register file, or the bytes of a granule with their tag
+pub data Stands (s : State) (c : Capability) : Type 0 where
+  in-register : (i : ℕ) → i < capabilityCount → c ≡ capabilityAt (s .regs) i → Stands s c
+  in-granule : (g : ℕ) → g < length (s .mem) / granuleBytes → c ≡ capabilityIn (s .mem) (s .tags) (g * granuleBytes) → Stands s c
+
+-- it stands there with its tag set; sealed ones count as all others
+pub record Held (s : State) (c : Capability) : Type 0 where
+  pub stands : Stands s c
+  pub is-tagged : c .tag ≡ 1
+
+-- ---- where the theorem starts
+
+-- bounds in order, and none past the address space
+pub record Sound (c : Capability) : Type 0 where
+  pub order : low c ≤ high c
+  pub top : high c ≤ 2 ^ 32
+
+abbrev pub SoundState : State → Type 0
+SoundState s = (c : Capability) → Held s c → Sound c
+
+-- the elements are of the lent types, as they are in every lent slice, and what is held is sound
+pub record Start (s : State) : Type 0 where
+  pub in-type : InType s
+  pub sound : SoundState s
+
+-- ---- what it says
+
+-- something held in s has bounds around those of c, and every right of c; each with the bounds and rights of its own, sealed or not
+pub record Derived (s : State) (c : Capability) : Type 0 where
+  pub origin : Capability
+  pub is-held : Held s origin
+  pub is-inside : Inside origin c
+
+-- all that is held after is derived from what was held before; and sound, so that the theorem can start again there
+pub record NoGain (before after : State) : Type 0 where
+  pub derived : (c : Capability) → Held after c → Derived before c
+  pub sound : SoundState after
+
+-- What calls leave, one after another and whatever they answer: a constructor for each function that changes what is lent, with its promise. Board and
+-- revocation bits may differ from call to call. A caller's own write to registers, memory or tags is none of them: it begins a new start.
+pub data Reached (s : State) : State → Type 0 where
+  at-start : Reached s s
+  by-step : {b a : State} (board : Board) (revoked : List ℕ) (answer : StepAnswer) → Reached s b → StepPromise board revoked b a answer → Reached s a
+  by-run : {b a : State} (n : ℕ) (board : Board) (revoked : List ℕ) (answer : RunAnswer) → Reached s b → RunPromise n board revoked b a answer → Reached s a
+  by-c-step : {b a : State} (board : Board) (revoked : List ℕ) (answer : ℕ) → Reached s b → StepPacked board revoked b a answer → Reached s a
+  by-c-run : {b a : State} (n : ℕ) (board : Board) (revoked : List ℕ) (answer : ℕ) → Reached s b → RunPacked n board revoked b a answer → Reached s a
+
+-- No run gains authority, of every Start (law `authority-claim`): after any number of steps of good buffers, by the definition; and after any
+-- calls of code that keeps its promises.
+pub record AuthorityClaim (s : State) : Type 0 where
+  pub after-steps : (n : ℕ) (board : Board) (revoked : List ℕ) → stepRefusal board revoked s ≡ 0 → NoGain s (ranFrom n board revoked s .at)
+  pub after-calls : (a : State) → Reached s a → NoGain s a

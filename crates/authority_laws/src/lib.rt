@@ -1,0 +1,1 @@
+// Laws of the authority that steps and runs leave. There is no code here.
