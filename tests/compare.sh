@@ -1,7 +1,8 @@
 #!/usr/bin/env bash
-# The bulk comparisons of the proved program with the second one: compare.sh [PART..], by default
-# all of units, capability, calls, machine and mutants. The proved libraries are built by rt, or
-# lie in the directory that ODDERSNOW_STATICLIB names. What a part wrote is in host/target/compare.
+# The bulk comparisons of the proved program with the second one, and the search for gained authority:
+# compare.sh [PART..], by default all of units, capability, calls, machine, authority and mutants. The
+# proved libraries are built by rt, or lie in the directory that ODDERSNOW_STATICLIB names. What a part
+# wrote is in host/target/compare.
 set -u
 cd "$(dirname "$0")/.." || exit 1
 out=host/target/compare
@@ -24,12 +25,13 @@ units() {
 capability() { library label && program compare capability; }
 calls() { library call_lists && program compare calls; }
 machine() { library bench_api && program compare machine; }
+authority() { library bench_api && program compare authority; }
 mutants() { program mutants mutants; }
 
-[ $# -gt 0 ] || set -- units capability calls machine mutants
+[ $# -gt 0 ] || set -- units capability calls machine authority mutants
 for part in "$@"; do
   case $part in
-  units | capability | calls | machine | mutants) ;;
+  units | capability | calls | machine | authority | mutants) ;;
   *) echo "FAIL compare: no part $part"; bad=1; continue ;;
   esac
   if "$part" >"$out/$part.txt" 2>&1; then
