@@ -263,6 +263,7 @@ mod tests {
     use super::*;
     use crate::instructions::table;
     use crate::machines::second;
+    use crate::shrink::shrink;
     use lent::MTDC;
 
     #[test]
@@ -288,5 +289,8 @@ mod tests {
         let gain = search(wrong, &table, 1, 100, None).unwrap_err();
         assert_eq!(gain.place, Place::Register(MTDC));
         assert!(gains(wrong, &gain.case).is_some() && gains(second, &gain.case).is_none());
+        let small = shrink(gain.case, &|case| gains(wrong, case).is_some());
+        let found = gains(wrong, &small).map(|(place, _)| place);
+        assert_eq!((small.call, found), (Call::Step, Some(gain.place)));
     }
 }
