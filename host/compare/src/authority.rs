@@ -1,6 +1,6 @@
 //! The search for gained authority (document 02, 9): long runs of a machine from sound starts, and
-//! after each of several budgets a look at every tagged capability in the register file and in
-//! memory. One that no capability tagged at the start contains is a gain.
+//! after each of several budgets a look at every register and granule that holds a tagged
+//! capability. One that no capability tagged at the start contains is a gain.
 
 use crate::coverage::Coverage;
 use crate::derivations::Mix;
