@@ -14,6 +14,8 @@ const SOURCES: [&str; 4] = ["calls", "capability", "decode", "machine"];
 struct Mutant {
     name: String,
     by: String,
+    /// What does not see it, and why.
+    not: String,
     file: String,
     /// How the function begins.
     function: String,
@@ -57,6 +59,7 @@ fn read(text: &str) -> Result<Vec<Mutant>, String> {
         match field {
             "mutant" => mutant.name = value.to_string(),
             "by" => mutant.by = value.to_string(),
+            "not" => mutant.not = value.to_string(),
             "in" => {
                 let (file, function) = value.split_once(' ').ok_or("no function")?;
                 mutant.file = file.to_string();
@@ -105,11 +108,14 @@ fn write_modules(out: &Path, sources: &BTreeMap<&str, String>) -> Result<(), Box
     Ok(())
 }
 
-/// The names, and the comparisons that must tell each apart.
+/// The names, the comparisons that must tell each apart, and what does not see it.
 fn list(mutants: &[Mutant]) -> Result<String, std::fmt::Error> {
     let mut text = String::from("&[\n");
-    for Mutant { name, by, .. } in mutants {
-        writeln!(text, "    Mutant {{ name: {name:?}, by: {by:?} }},")?;
+    for Mutant { name, by, not, .. } in mutants {
+        writeln!(
+            text,
+            "    Mutant {{ name: {name:?}, by: {by:?}, not: {not:?} }},"
+        )?;
     }
     text.push_str("]\n");
     Ok(text)

@@ -47,6 +47,11 @@ fn cut(code: u32, base: u32, length: u32) -> Capability {
     set_bounds(root(code, base), length as u32)
 }
 
+/// A capability of a kind of rights, cut to a base and a length.
+pub fn region(random: &mut Random, rights: Rights, base: u32, length: u32) -> Capability {
+    cut(code(random, rights), base, length)
+}
+
 /// An unsealed value, sealed with three type bits.
 pub fn sealed(capability: Capability, stored_type: u32) -> Capability {
     Capability {

@@ -160,6 +160,13 @@ impl Coverage {
         }
     }
 
+    /// How often a row's step did this.
+    pub fn reached(&self, table: &Table, name: &str, outcome: Outcome) -> u64 {
+        let rows = table.rows.iter().zip(&self.rows);
+        let counts = rows.filter(|(row, _)| row.name == name);
+        counts.map(|(_, counts)| counts[outcome.column()]).sum()
+    }
+
     /// Every reachable cell with its name and count.
     fn cells(&self, table: &Table) -> Vec<(String, u64)> {
         let mut cells = Vec::new();

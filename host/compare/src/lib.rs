@@ -7,10 +7,13 @@
 #![forbid(unsafe_code)]
 
 pub mod aims;
+pub mod authority;
 pub mod capabilities;
 pub mod cases;
 pub mod coverage;
 pub mod cuts;
+pub mod derivations;
+pub mod held;
 pub mod instructions;
 pub mod lists;
 pub mod machines;
@@ -22,6 +25,7 @@ pub mod refusals;
 pub mod replay;
 pub mod rows;
 pub mod shrink;
+pub mod starts;
 pub mod state;
 
 use options::Options;

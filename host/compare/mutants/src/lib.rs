@@ -12,6 +12,8 @@ pub struct Mutant {
     pub name: &'static str,
     /// The comparisons that must tell it from the right machine.
     pub by: &'static str,
+    /// `authority` and why, for one that gains none though it is wrong about capabilities.
+    pub not: &'static str,
 }
 
 /// Every wrong machine; number 1 is the first of them.

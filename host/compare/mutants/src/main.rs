@@ -3,6 +3,7 @@
 //!
 //! `mutants [--cases N] [--seed S]`
 
+use compare::authority;
 use compare::conclude;
 use compare::cuts::{self, CutAnswer, Label};
 use compare::instructions::table;
@@ -20,6 +21,11 @@ use std::process::ExitCode;
 const CASES: u64 = 1_000_000;
 /// Cases for the copy with no edit on, which must agree.
 const RIGHT_CASES: u64 = 100_000;
+/// The most starts for a machine that gains authority, those for one that gains none, and those for
+/// the copy with no edit on.
+const STARTS: u64 = 100_000;
+const IDLE_STARTS: u64 = 1000;
+const RIGHT_STARTS: u64 = 10_000;
 
 fn cut(base: u32, length: u32) -> CutAnswer {
     let (number, low, high, exact) = match mutants::capability::cut(base, length) {
@@ -69,6 +75,9 @@ fn told_apart(comparison: &str, table: &Table, seed: u64, cases: u64) -> Option<
         "lists" => lists::compare(calls, seed, cases)
             .err()
             .map(|found| found.case),
+        "authority" => authority::search(machine, table, seed, cases.min(STARTS), None)
+            .err()
+            .map(|gain| gain.number),
         _ => machines::compare(machine, table, seed, cases, None)
             .err()
             .map(|found| found.number),
@@ -79,8 +88,9 @@ fn told_apart(comparison: &str, table: &Table, seed: u64, cases: u64) -> Option<
 fn run(options: &Options) -> Result<String, String> {
     let table = table();
     let mut faults = Vec::new();
-    for comparison in ["cuts", "lists", "machine"] {
-        if let Some(case) = told_apart(comparison, &table, options.seed, RIGHT_CASES) {
+    let right = ["cuts", "lists", "machine"].map(|comparison| (comparison, RIGHT_CASES));
+    for (comparison, cases) in right.into_iter().chain([("authority", RIGHT_STARTS)]) {
+        if let Some(case) = told_apart(comparison, &table, options.seed, cases) {
             faults.push(format!("no mutant: {comparison} differs at case {case}"));
         }
     }
@@ -93,6 +103,13 @@ fn run(options: &Options) -> Result<String, String> {
                     println!("mutant {name}: told apart after {case} cases by {comparison}")
                 }
                 None => faults.push(format!("mutant {name}: NOT told apart by {comparison}")),
+            }
+        }
+        if let Some((comparison, why)) = mutant.not.split_once(": ") {
+            let name = mutant.name;
+            match told_apart(comparison, &table, options.seed, IDLE_STARTS) {
+                Some(case) => faults.push(format!("mutant {name}: case {case} of {comparison}")),
+                None => println!("mutant {name}: not seen by {comparison}: {why}"),
             }
         }
     }
