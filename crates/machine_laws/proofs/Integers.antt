@@ -26,7 +26,7 @@ use Rattle.commit.specs.Commit.{State, setCapability, writeRegister, advanced, 
 use Rattle.execution.specs.Step.{effectOf, seen, effectAt, stepOf}
 use Rattle.machine.specs.Refusals.{refusalOf}
 use Rattle.machine_laws.specs.Steps.{wordAt}
-use Rattle.machine_laws.specs.Integers.{WritesInteger, IsInteger, by-lui, by-op-imm, by-op, by-load, by-inspection, by-difference, by-subset, by-equality, by-csr, by-csr-immediate}
+use Rattle.machine_laws.specs.Integers.{WritesInteger, IsInteger, by-lui, by-op-imm, by-op, by-multiply, by-divide, by-load, by-inspection, by-difference, by-subset, by-equality, by-csr, by-csr-immediate}
 use Rattle.machine_laws.proofs.Fetch.{fetched-holds}
 use Rattle.machine_laws.proofs.Refusals.{good-of}
 use Rattle.machine_laws.proofs.Kept.{csr-place}
@@ -52,6 +52,8 @@ unfolding effectOf integerEffect memoryEffect loadEffect loadAt capabilityEffect
 effect-integer i rd word regs m by-lui = (refl, plain _)
 effect-integer i rd word regs m by-op-imm = (refl, plain _)
 effect-integer i rd word regs m by-op = (refl, plain _)
+effect-integer i rd word regs m by-multiply = (refl, plain _)
+effect-integer i rd word regs m by-divide = (refl, plain _)
 effect-integer i rd word regs m (by-load {kind} {rs1} {offset}) =
     let a : ℕ = addressOf regs rs1 offset in
     checked-holds (ToInteger rd) _ _ _ (λ n v. tt)
