@@ -112,6 +112,8 @@ module _ (P : Capability → Type 0) (closed : Closed P) where
   integer-carried (Integers.Lui rd value) regs = number _
   integer-carried (Integers.OpImm op rd rs1 value) regs = number _
   integer-carried (Integers.Op op rd rs1 rs2) regs = number _
+  integer-carried (Integers.Multiply kind rd rs1 rs2) regs = number _
+  integer-carried (Integers.Divide kind rd rs1 rs2) regs = number _
 
   module _ (regs : List ℕ) (fits : FitsRegisters regs) (holds : Files P regs) where
     general : (r : ℕ) → P (registerAt regs r)

@@ -7,8 +7,8 @@ use borrow.Author.Tests.{ltb-true}
 use Rattle.words.proofs.Word.{by-test, sign-extend-word}
 use Rattle.instructions.specs.Range.{InRange, Register, Word}
 use Rattle.instructions.specs.Fields.{opcode, rdOf, funct7, upper12, immediateI, immediateS, immediateB, immediateU, immediateJ, offsetAui}
-use Rattle.instructions.specs.Decode.{namingOf, loadOf, storeOf, fenceOf, shiftLeftOf, shiftRightOf, opImmOf, op32Of, opByOf, opOf, luiOf, auipccOf}
-use Rattle.instructions.specs.Decode.{auicgpOf, jalOf, branchOf, jalrOf, csrRegisterOf, csrImmediateOf, csrOf, wholeOf, systemOf, specialOf}
+use Rattle.instructions.specs.Decode.{namingOf, loadOf, storeOf, fenceOf, shiftLeftOf, shiftRightOf, opImmOf, op32Of, multiplyOf, opByOf, opOf, luiOf}
+use Rattle.instructions.specs.Decode.{auipccOf, auicgpOf, jalOf, branchOf, jalrOf, csrRegisterOf, csrImmediateOf, csrOf, wholeOf, systemOf, specialOf}
 use Rattle.instructions.specs.Decode.{sourceDestOf, combineOf, twoSourceOf, capabilityOf, decodeOf}
 use Rattle.instructions.specs.declared.CsrKind.{CsrKind}
 use Rattle.instructions.specs.declared.Csr.{Csr}
@@ -62,8 +62,8 @@ module _ (a n : ℕ) (hn : Word n) where
   auicgp = naming a _ (λ ha. (ha, hn))
 
 op : (f3 f7 a b d : ℕ) → InRange (opOf f3 f7 a b d)
-unfolding opOf opByOf op32Of
-op f3 f7 a b d = naming a _ (λ ha. naming b _ (λ hb. naming d _ (λ hd. search either depth 8)))
+unfolding opOf opByOf op32Of multiplyOf
+op f3 f7 a b d = naming a _ (λ ha. naming b _ (λ hb. naming d _ (λ hd. search either depth 16)))
 
 module _ (f7 a b d : ℕ) (ha : Register a) (hb : Register b) where
   special : InRange (specialOf d a b)

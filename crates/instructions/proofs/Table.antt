@@ -1,14 +1,16 @@
--- Words and what they mean, in one table with one statement: every row of the tables in chapter 8 of the CHERIoT report, each RV32E and
--- system instruction of the standard, and words that are none. The words were assembled field by field; registers are c10 to c15, or c0 and c1.
+-- Words and what they mean, in one table with one statement: every row of the tables in chapter 8 of the CHERIoT report, each RV32E,
+-- M and system instruction of the standard, and words that are none. The words were assembled field by field; registers are c10 to c15, or c0 and c1.
 use Prim.Native.Nat.{ℕ}
 use mathlib.Core.Path.{_≡_, refl}
 use mathlib.Core.List.{List, [], _∷_, map}
 use Rattle.words.specs.Words.{signExtend}
 use Rattle.instructions.specs.Fields.{immediateI, immediateS, immediateB, immediateU, immediateJ, offsetAui}
-use Rattle.instructions.specs.Decode.{loadOf, storeOf, fenceOf, aluOf, shiftLeftOf, shiftRightOf, opImmOf, op32Of, opByOf, opOf, luiOf, auipccOf}
-use Rattle.instructions.specs.Decode.{auicgpOf, jalOf, branchOf, jalrOf, csrRegisterOf, csrImmediateOf, csrOf, wholeOf, systemOf, specialOf}
+use Rattle.instructions.specs.Decode.{loadOf, storeOf, fenceOf, aluOf, multiplyOf, shiftLeftOf, shiftRightOf, opImmOf, op32Of, opByOf, opOf, luiOf}
+use Rattle.instructions.specs.Decode.{auipccOf, auicgpOf, jalOf, branchOf, jalrOf, csrRegisterOf, csrImmediateOf, csrOf, wholeOf, systemOf, specialOf}
 use Rattle.instructions.specs.Decode.{sourceDestOf, combineOf, twoSourceOf, capabilityOf, decodeOf}
 use Rattle.instructions.specs.declared.Alu.the-variants.{Add, Sub, Sll, Slt, Sltu, Xor, Srl, Sra, Or, And}
+use Rattle.instructions.specs.declared.MultiplyKind.the-variants.{Mul, Mulh, Mulhsu, Mulhu}
+use Rattle.instructions.specs.declared.DivideKind.the-variants.{Div, Divu, Rem, Remu}
 use Rattle.instructions.specs.declared.BranchKind.the-variants.{Beq, Bne, Blt, Bge, Bltu, Bgeu}
 use Rattle.instructions.specs.declared.LoadKind.the-variants.{Lb, Lh, Lw, Lbu, Lhu}
 use Rattle.instructions.specs.declared.StoreKind.the-variants.{Sb, Sh, Sw}
@@ -19,7 +21,7 @@ use Rattle.instructions.specs.declared.Inspection.the-variants.{GetPerm,
 use Rattle.instructions.specs.declared.Inspection.the-variants.{GetTop}
 use Rattle.instructions.specs.declared.Combination.the-variants.{SetBounds, SetBoundsExact, Seal, Unseal, AndPerm, SetAddr, IncAddr, SubAddr, SetHigh}
 use Rattle.instructions.specs.declared.Combination.the-variants.{TestSubset, SetEqualExact}
-use Rattle.instructions.specs.declared.IntegerInstruction.the-variants.{Lui, OpImm, Op}
+use Rattle.instructions.specs.declared.IntegerInstruction.the-variants.{Lui, OpImm, Op, Multiply, Divide}
 use Rattle.instructions.specs.declared.JumpInstruction.the-variants.{Jal, Jalr, Branch, Mret}
 use Rattle.instructions.specs.declared.MemoryInstruction.the-variants.{Load, Store, LoadCapability, StoreCapability}
 use Rattle.instructions.specs.declared.CapabilityInstruction.the-variants.{AuiPcc, AuiCgp, IncAddrImm, SetBoundsImm, Move, ClearTag, Inspect, Combine}
@@ -118,6 +120,15 @@ table =
     (0x40d757b3 is Integer (Op Sra 15 14 13)) ∷
     (0x00d767b3 is Integer (Op Or 15 14 13)) ∷
     (0x00d777b3 is Integer (Op And 15 14 13)) ∷
+    -- multiply and divide: standard, M
+    (0x02d707b3 is Integer (Multiply Mul 15 14 13)) ∷
+    (0x02d717b3 is Integer (Multiply Mulh 15 14 13)) ∷
+    (0x02d727b3 is Integer (Multiply Mulhsu 15 14 13)) ∷
+    (0x02d737b3 is Integer (Multiply Mulhu 15 14 13)) ∷
+    (0x02d747b3 is Integer (Divide Div 15 14 13)) ∷
+    (0x02d757b3 is Integer (Divide Divu 15 14 13)) ∷
+    (0x02d767b3 is Integer (Divide Rem 15 14 13)) ∷
+    (0x02d777b3 is Integer (Divide Remu 15 14 13)) ∷
     -- system instructions: standard, privileged standard; FENCE with every field set
     (0x0ff0000f is System Fence) ∷
     (0xffff8f8f is System Fence) ∷
@@ -148,11 +159,12 @@ table =
     (0x0005985b is Illegal) ∷
     (0x30081573 is Illegal) ∷
     (0x30005873 is Illegal) ∷
-    -- illegal: all zeros, all ones, a multiplication, SRLI and SLLI with another funct7, FENCE.I, LWU, SD with funct3 4,
-    -- a branch with funct3 2, JALR with funct3 1
+    -- illegal: all zeros, all ones, a multiplication that names register 16, OP with funct7 2, SRLI and SLLI with another funct7, FENCE.I, LWU,
+    -- SD with funct3 4, a branch with funct3 2, JALR with funct3 1
     (0x00000000 is Illegal) ∷
     (0xffffffff is Illegal) ∷
-    (0x023100b3 is Illegal) ∷
+    (0x030100b3 is Illegal) ∷
+    (0x043100b3 is Illegal) ∷
     (0x20315093 is Illegal) ∷
     (0x40311093 is Illegal) ∷
     (0x403110b3 is Illegal) ∷
@@ -178,7 +190,7 @@ table =
     []
 
 pub table-decodes : map (λ (r : Row). decodeOf (r .word)) table ≡ map (λ (r : Row). r .means) table
-unfolding signExtend immediateI immediateS immediateB immediateU immediateJ offsetAui loadOf storeOf fenceOf aluOf shiftLeftOf shiftRightOf opImmOf
-    op32Of opByOf opOf luiOf auipccOf auicgpOf jalOf branchOf jalrOf csrRegisterOf csrImmediateOf csrOf wholeOf systemOf specialOf sourceDestOf
+unfolding signExtend immediateI immediateS immediateB immediateU immediateJ offsetAui loadOf storeOf fenceOf aluOf multiplyOf shiftLeftOf shiftRightOf
+    opImmOf op32Of opByOf opOf luiOf auipccOf auicgpOf jalOf branchOf jalrOf csrRegisterOf csrImmediateOf csrOf wholeOf systemOf specialOf sourceDestOf
     combineOf twoSourceOf capabilityOf decodeOf
 table-decodes = refl

@@ -1,4 +1,4 @@
--- What a word means: trees of tests in the order of the tables. The report is CHERIoT's, the standard RISC-V's unprivileged one (RV32E, Zicsr).
+-- What a word means: trees of tests in the order of the tables. The report is CHERIoT's, the standard RISC-V's unprivileged one (RV32E, M, Zicsr).
 use Prim.Native.Nat.{ℕ}
 use mathlib.Core.Bool.{cond}
 use lib.Dec.{ltb, eqb}
@@ -6,6 +6,8 @@ use Rattle.instructions.specs.Fields.{opcode, rdOf, funct3, rs1Of, rs2Of
 use Rattle.instructions.specs.Fields.{offsetAui}
 use Rattle.instructions.specs.declared.Alu.{Alu}
 use Rattle.instructions.specs.declared.Alu.the-variants.{Add, Sub, Sll, Slt, Sltu, Xor, Srl, Sra, Or, And}
+use Rattle.instructions.specs.declared.MultiplyKind.the-variants.{Mul, Mulh, Mulhsu, Mulhu}
+use Rattle.instructions.specs.declared.DivideKind.the-variants.{Div, Divu, Rem, Remu}
 use Rattle.instructions.specs.declared.BranchKind.the-variants.{Beq, Bne, Blt, Bge, Bltu, Bgeu}
 use Rattle.instructions.specs.declared.LoadKind.the-variants.{Lb, Lh, Lw, Lbu, Lhu}
 use Rattle.instructions.specs.declared.StoreKind.the-variants.{Sb, Sh, Sw}
@@ -19,7 +21,7 @@ use Rattle.instructions.specs.declared.Inspection.the-variants.{GetTop}
 use Rattle.instructions.specs.declared.Combination.{Combination}
 use Rattle.instructions.specs.declared.Combination.the-variants.{SetBounds, SetBoundsExact, Seal, Unseal, AndPerm, SetAddr, IncAddr, SubAddr, SetHigh}
 use Rattle.instructions.specs.declared.Combination.the-variants.{TestSubset, SetEqualExact}
-use Rattle.instructions.specs.declared.IntegerInstruction.the-variants.{Lui, OpImm, Op}
+use Rattle.instructions.specs.declared.IntegerInstruction.the-variants.{Lui, OpImm, Op, Multiply, Divide}
 use Rattle.instructions.specs.declared.JumpInstruction.the-variants.{Jal, Jalr, Branch, Mret}
 use Rattle.instructions.specs.declared.MemoryInstruction.the-variants.{Load, Store, LoadCapability, StoreCapability}
 use Rattle.instructions.specs.declared.CapabilityInstruction.the-variants.{AuiPcc, AuiCgp, IncAddrImm, SetBoundsImm, Move, ClearTag, Inspect, Combine}
@@ -86,18 +88,31 @@ opImmOf f3 f7 rd rs1 shamt value =
     (cond (eqb f3 5) (shiftRightOf f7 rd rs1 shamt)
     (Integer (OpImm (aluOf f3) rd rs1 value)))))
 
--- standard, OP: funct7 0, and 0x20 for SUB and SRA
+-- standard, OP: funct7 0, 1 for multiply and divide (M), 0x20 for SUB and SRA
 unfoldable pub op32Of : ℕ → ℕ → ℕ → ℕ → Instruction
 op32Of f3 rd rs1 rs2 =
     cond (eqb f3 0) (Integer (Op Sub rd rs1 rs2))
     (cond (eqb f3 5) (Integer (Op Sra rd rs1 rs2))
     Illegal)
 
+-- standard, M
+unfoldable pub multiplyOf : ℕ → ℕ → ℕ → ℕ → Instruction
+multiplyOf f3 rd rs1 rs2 =
+    cond (eqb f3 0) (Integer (Multiply Mul rd rs1 rs2))
+    (cond (eqb f3 1) (Integer (Multiply Mulh rd rs1 rs2))
+    (cond (eqb f3 2) (Integer (Multiply Mulhsu rd rs1 rs2))
+    (cond (eqb f3 3) (Integer (Multiply Mulhu rd rs1 rs2))
+    (cond (eqb f3 4) (Integer (Divide Div rd rs1 rs2))
+    (cond (eqb f3 5) (Integer (Divide Divu rd rs1 rs2))
+    (cond (eqb f3 6) (Integer (Divide Rem rd rs1 rs2))
+    (Integer (Divide Remu rd rs1 rs2))))))))
+
 unfoldable pub opByOf : ℕ → ℕ → ℕ → ℕ → ℕ → Instruction
 opByOf f3 f7 rd rs1 rs2 =
     cond (eqb f7 0) (Integer (Op (aluOf f3) rd rs1 rs2))
+    (cond (eqb f7 1) (multiplyOf f3 rd rs1 rs2)
     (cond (eqb f7 0x20) (op32Of f3 rd rs1 rs2)
-    Illegal)
+    Illegal))
 
 unfoldable pub opOf : ℕ → ℕ → ℕ → ℕ → ℕ → Instruction
 opOf f3 f7 rd rs1 rs2 = namingOf rd (namingOf rs1 (namingOf rs2 (opByOf f3 f7 rd rs1 rs2)))

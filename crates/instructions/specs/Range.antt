@@ -1,7 +1,7 @@
 -- What every decoded instruction keeps to: register numbers below 16, immediates that are words.
 use Prim.Native.Nat.{ℕ, _^_, _<_}
 use Rattle.instructions.specs.declared.IntegerInstruction.{IntegerInstruction}
-use Rattle.instructions.specs.declared.IntegerInstruction.the-variants.{Lui, OpImm, Op}
+use Rattle.instructions.specs.declared.IntegerInstruction.the-variants.{Lui, OpImm, Op, Multiply, Divide}
 use Rattle.instructions.specs.declared.JumpInstruction.{JumpInstruction}
 use Rattle.instructions.specs.declared.JumpInstruction.the-variants.{Jal, Jalr, Branch, Mret}
 use Rattle.instructions.specs.declared.MemoryInstruction.{MemoryInstruction}
@@ -23,6 +23,8 @@ abbrev pub IntegerInRange : IntegerInstruction → Type 0
 IntegerInRange (Lui rd value) = Register rd × Word value
 IntegerInRange (OpImm op rd rs1 value) = Register rd × Register rs1 × Word value
 IntegerInRange (Op op rd rs1 rs2) = Register rd × Register rs1 × Register rs2
+IntegerInRange (Multiply kind rd rs1 rs2) = Register rd × Register rs1 × Register rs2
+IntegerInRange (Divide kind rd rs1 rs2) = Register rd × Register rs1 × Register rs2
 
 abbrev pub JumpInRange : JumpInstruction → Type 0
 JumpInRange (Jal rd offset) = Register rd × Word offset

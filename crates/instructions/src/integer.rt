@@ -1,13 +1,17 @@
 // Integer instructions: opcodes OP, OP-IMM and LUI.
 use crate::Alu;
+use crate::DivideKind;
 use crate::Instruction;
 use crate::IntegerInstruction;
 use crate::LAST_REGISTER;
+use crate::MultiplyKind;
 ghost use mathlib.Core.Path.{_≡_};
-ghost use Rattle.instructions.specs.Decode.{aluOf, shiftLeftOf, shiftRightOf, opImmOf, op32Of, opByOf, opOf, luiOf};
+ghost use Rattle.instructions.specs.Decode.{aluOf, shiftLeftOf, shiftRightOf, opImmOf, op32Of, multiplyOf, opByOf, opOf, luiOf};
 
-// funct7 under OP and of the shifts by an immediate: of SUB, SRA and SRAI the second.
+// funct7 under OP and of the shifts by an immediate: of multiply and divide the second, of SUB, SRA and SRAI the third.
 pub const BASE: u32 = 0;
+
+pub const MULTIPLY: u32 = 1;
 
 pub const ALTERNATE: u32 = 0x20;
 
@@ -92,11 +96,39 @@ fn decode_op_32(f3: u32, rd: u32, rs1: u32, rs2: u32) -> Instruction
     }
 }
 
+fn multiply(kind: MultiplyKind, rd: u32, rs1: u32, rs2: u32) -> Instruction
+    ensures { λ r. ⌜ r ≡ Instruction.Integer (IntegerInstruction.Multiply kind rd rs1 rs2) ⌝ }
+{
+    Instruction::Integer(IntegerInstruction::Multiply { kind, rd, rs1, rs2 })
+}
+
+fn divide(kind: DivideKind, rd: u32, rs1: u32, rs2: u32) -> Instruction
+    ensures { λ r. ⌜ r ≡ Instruction.Integer (IntegerInstruction.Divide kind rd rs1 rs2) ⌝ }
+{
+    Instruction::Integer(IntegerInstruction::Divide { kind, rd, rs1, rs2 })
+}
+
+fn decode_multiply(f3: u32, rd: u32, rs1: u32, rs2: u32) -> Instruction
+    ensures { λ r. ⌜ r ≡ multiplyOf f3 rd rs1 rs2 ⌝ }
+{
+    match f3 {
+        0 => return multiply(MultiplyKind::Mul, rd, rs1, rs2),
+        1 => return multiply(MultiplyKind::Mulh, rd, rs1, rs2),
+        2 => return multiply(MultiplyKind::Mulhsu, rd, rs1, rs2),
+        3 => return multiply(MultiplyKind::Mulhu, rd, rs1, rs2),
+        4 => return divide(DivideKind::Div, rd, rs1, rs2),
+        5 => return divide(DivideKind::Divu, rd, rs1, rs2),
+        6 => return divide(DivideKind::Rem, rd, rs1, rs2),
+        _ => return divide(DivideKind::Remu, rd, rs1, rs2),
+    }
+}
+
 fn decode_op_by(f3: u32, f7: u32, rd: u32, rs1: u32, rs2: u32) -> Instruction
     ensures { λ r. ⌜ r ≡ opByOf f3 f7 rd rs1 rs2 ⌝ }
 {
     match f7 {
         BASE => return op(alu_of(f3), rd, rs1, rs2),
+        MULTIPLY => return decode_multiply(f3, rd, rs1, rs2),
         ALTERNATE => return decode_op_32(f3, rd, rs1, rs2),
         _ => return Instruction::Illegal,
     }

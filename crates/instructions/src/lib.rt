@@ -54,6 +54,21 @@ pub enum Alu {
     And,
 }
 
+// Multiply and divide stand apart from Alu: no immediate is multiplied, and every integer instruction would take longer.
+pub enum MultiplyKind {
+    Mul,
+    Mulh,
+    Mulhsu,
+    Mulhu,
+}
+
+pub enum DivideKind {
+    Div,
+    Divu,
+    Rem,
+    Remu,
+}
+
 pub enum BranchKind {
     Beq,
     Bne,
@@ -139,6 +154,18 @@ pub enum IntegerInstruction {
     },
     Op {
         op: Alu,
+        rd: u32,
+        rs1: u32,
+        rs2: u32,
+    },
+    Multiply {
+        kind: MultiplyKind,
+        rd: u32,
+        rs1: u32,
+        rs2: u32,
+    },
+    Divide {
+        kind: DivideKind,
         rd: u32,
         rs1: u32,
         rs2: u32,

@@ -32,7 +32,7 @@ use Rattle.execution.specs.Step.{effectOf, seen, effectAt, stepOf}
 use Rattle.machine.specs.Run.{stepRefusal}
 use Rattle.machine_laws.specs.Steps.{wordAt}
 use Rattle.machine_laws.specs.Integers.{WritesInteger, IsInteger, by-lui, by-op-imm, by-op, by-load, by-inspection, by-difference, by-subset}
-use Rattle.machine_laws.specs.Integers.{by-equality, by-csr, by-csr-immediate}
+use Rattle.machine_laws.specs.Integers.{by-multiply, by-divide, by-equality, by-csr, by-csr-immediate}
 use Rattle.machine_laws.proofs.Fetch.{fetched-holds}
 use Rattle.machine_laws.proofs.Refusals.{good-of}
 use Rattle.machine_laws.proofs.Kept.{csr-place}
@@ -57,6 +57,8 @@ unfolding effectOf integerEffect memoryEffect loadEffect loadAt capabilityEffect
 effect-integer n i rd word regs m by-lui = (refl, plain _)
 effect-integer n i rd word regs m by-op-imm = (refl, plain _)
 effect-integer n i rd word regs m by-op = (refl, plain _)
+effect-integer n i rd word regs m by-multiply = (refl, plain _)
+effect-integer n i rd word regs m by-divide = (refl, plain _)
 effect-integer n i rd word regs m (by-load {kind} {rs1} {offset}) =
     let a : ℕ = addressOf regs rs1 offset in
     checked-holds (ToInteger rd) _ _ _ (λ n v. tt)

@@ -3,3 +3,7 @@ pub mod Word
 pub mod Bytes
 pub mod Bits
 pub mod Fits
+pub mod Readings
+pub mod Quotients
+pub mod Products
+pub mod Edges

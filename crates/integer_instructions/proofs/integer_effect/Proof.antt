@@ -25,6 +25,32 @@ returns-3 c =
       c3 .before .before .i3 .given .1,
     )
 
+-- Multiply
+returns-4 : tie.Need-returns-4
+unfolding integerEffect
+returns-4 c =
+    let at-sources = c .before .before .before in
+    simp (
+      c .write-integer4 .ensures,
+      c .before .multiplied .ensures,
+      c .before .before .integer-at5 .ensures,
+      at-sources .integer-at4 .ensures,
+      at-sources .before .before .i4 .given .1,
+    )
+
+-- Divide
+returns-5 : tie.Need-returns-5
+unfolding integerEffect
+returns-5 c =
+    let at-sources = c .before .before .before in
+    simp (
+      c .write-integer5 .ensures,
+      c .before .divided .ensures,
+      c .before .before .integer-at7 .ensures,
+      at-sources .integer-at6 .ensures,
+      at-sources .before .before .i5 .given .1,
+    )
+
 pub integer-effect-spec : {M : Type 1} → statement M
 integer-effect-spec =
     tie.close
@@ -40,6 +66,18 @@ integer-effect-spec =
     (λ c κs. search needs)
     (λ c κs. search needs)
     (λ c κs. search needs)
+    (λ c. search needs)
+    (λ c κs. search needs)
+    (λ c κs. search needs)
+    (λ c κs. search needs)
+    (λ c κs. search needs)
+    (λ c. search needs)
+    (λ c κs. search needs)
+    (λ c κs. search needs)
+    (λ c κs. search needs)
+    (λ c κs. search needs)
     returns
     returns-2
-    returns-3)
+    returns-3
+    returns-4
+    returns-5)

@@ -1,4 +1,5 @@
 -- The definition's tests one after another, each decided by the arm of the code that led here.
+use borrow.Author.Tests.{ne-eqb}
 use Rattle.words.proofs.Tests.{tests}
 use Rattle.instructions.specs.Decode.{systemOf}
 use Rattle.instructions.proofs.system.decode_system.Statement.{statement}
@@ -12,17 +13,23 @@ returns c = rw (c .before .match .keys1) (c .decode-whole .ensures)
 -- Mstatus
 returns-2 : tie.Need-returns-2
 unfolding systemOf
-returns-2 c = search (tests, c .before .match2 .keys1)
+returns-2 c =
+    let at-funct3 = c .before .before in
+    rw (ne-eqb (at-funct3 .before .args .f3) 0 (at-funct3 .match .rest .1), c .before .match2 .keys1) (c .decode-csr .ensures)
 
 -- Mcause
 returns-3 : tie.Need-returns-3
 unfolding systemOf
-returns-3 c = search (tests, c .before .match2 .keys2)
+returns-3 c =
+    let at-funct3 = c .before .before in
+    rw (ne-eqb (at-funct3 .before .args .f3) 0 (at-funct3 .match .rest .1), c .before .match2 .keys2) (c .decode-csr2 .ensures)
 
 -- Mtval
 returns-4 : tie.Need-returns-4
 unfolding systemOf
-returns-4 c = search (tests, c .before .match2 .keys3)
+returns-4 c =
+    let at-funct3 = c .before .before in
+    rw (ne-eqb (at-funct3 .before .args .f3) 0 (at-funct3 .match .rest .1), c .before .match2 .keys3) (c .decode-csr3 .ensures)
 
 -- illegal
 returns-5 : tie.Need-returns-5
