@@ -35,7 +35,7 @@ check "the proved machine's library" library
 check "cargo clippy of the speed program" cargo clippy --offline --release -p speed --all-targets -- -D warnings
 check "the speed program builds" cargo build --offline --release -p speed
 check "valgrind is here" callgrind
-for program in integer memory capability bounded; do
+for program in integer memory capability bounded multiply; do
   for engine in proved second; do
     check "every step of $program retires ($engine)" count "$engine" "$program"
     echo "$engine, $program: $(($(cat "$work/$engine.$program") / steps)) instructions a step"
