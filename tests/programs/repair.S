@@ -3,8 +3,8 @@
 //
 // Report, 7.11: MEPCC holds PCC at the instruction that trapped, and MRET goes there. The
 // privileged standard: a trap keeps MIE in MPIE and clears it, MRET brings it back and sets MPIE.
-// Document 01: an illegal instruction is mcause 2 with the word in mtval; multiplying without carries,
-// the standard's Zbc, is not in.
+// Document 01: what is illegal traps with mcause 2 and its word in mtval; multiplying without carries,
+// the standard's Zbc, is so.
 
 #include "cheriot.inc"
 
