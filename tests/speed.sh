@@ -21,7 +21,7 @@ no_more() { # PROGRAM
 check "the proved machine's library" library bench_api
 check "the speed program builds" build
 check "valgrind is here" need valgrind valgrind
-for program in integer memory capability bounded; do
+for program in integer memory capability bounded multiply; do
   for engine in proved second; do
     check "every step of $program retires ($engine)" count "$engine" "$program"
     echo "$engine, $program: $(($(cat "$work/$engine.$program") / steps)) instructions a step"

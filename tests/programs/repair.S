@@ -1,9 +1,10 @@
 // A trap handler that repairs and returns with MRET: it gives a register the authority that it
-// lacks and tries again, and it does what an illegal instruction asks, MUL, and goes on behind it.
+// lacks and tries again, and it does what an illegal instruction asks, CLMUL, and goes on behind it.
 //
 // Report, 7.11: MEPCC holds PCC at the instruction that trapped, and MRET goes there. The
 // privileged standard: a trap keeps MIE in MPIE and clears it, MRET brings it back and sets MPIE.
-// Document 01: mtval of mcause 2 is the illegal word, and multiplying is not in the base.
+// Document 01: mtval of mcause 2 is the illegal word; multiplying without carries, the standard's Zbc, is
+// illegal here.
 
 #include "cheriot.inc"
 
@@ -26,7 +27,7 @@ load:
     li    x11, 1234
     li    x12, 5678
 multiply:
-    .insn 0x02c58533            // mul x10, x11, x12
+    .insn 0x0ac59533            // clmul x10, x11, x12
     csrr  x9, mstatus
 done:
     j     done
@@ -56,7 +57,7 @@ emulate:
 bits:
     andi  x9, x14, 1
     beqz  x9, clear
-    add   x10, x10, x13
+    xor   x10, x10, x13
 clear:
     slli  x13, x13, 1
     srli  x14, x14, 1
@@ -89,8 +90,8 @@ saved:
 // expect: trapped = 1
 // expect: c7 = number 0x7e3e0000 1
 // expect: x8 = 0xc0ffee00
-// 1234 * 5678 = 7006652.
-// expect: x10 = 7006652
+// 1234 shifted by 1, 2, 3, 5, 9, 10 and 12, the bits of 5678, and summed without carries.
+// expect: x10 = 5728828
 // expect: x11 = 1234
 // expect: x12 = 5678
 // expect: x13 = 13
@@ -99,7 +100,7 @@ saved:
 // expect: x9 = 0x88
 // expect: word saved+24 = 0x80
 // expect: mcause = 2
-// expect: mtval = 0x02c58533
+// expect: mtval = 0x0ac59533
 // expect: MEPCC = multiply+4 0x5e3e0000 1
 // expect: MScratchC = saved 0x7e3e0000 1
 // expect: PCC = done 0x5e3e0000 1

@@ -3,7 +3,7 @@
 mod common;
 
 use common::state::{text, with_code, START};
-use common::words::{addi, cjal, cjalr, store, EBREAK};
+use common::words::{addi, cjal, cjalr, r, store, EBREAK};
 use common::{bench_in, directory, examples, golden, shell_in};
 use lent::{Capability, State, EXECUTABLE_ROOT, MEMORY_ROOT, MTCC};
 use serde_json::json;
@@ -187,6 +187,25 @@ fn the_trace_shows_new_bounds_of_pcc_and_no_word_that_was_not_fetched() {
          PCC := 20000004 [20000004, 20000008)",
         "       2  20000004  00700513  c10 := 00000007",
         "       3  20000008  --------  trap: fetch outside the bounds of PCC",
+    ];
+    assert_eq!(lines, said);
+}
+
+/// MUL, DIV by zero and REM of -7 and 3.
+#[test]
+fn the_trace_shows_products_and_quotients() {
+    let directory = directory("trace_multiply");
+    let m = |rs2, funct3, rd| r(1, rs2, 2, funct3, rd, 0x33);
+    let mut state = with_code(&[m(3, 0, 10), m(0, 4, 11), m(3, 6, 12), EBREAK]);
+    state.set(2, Capability::integer(0xFFFF_FFF9));
+    state.set(3, Capability::integer(3));
+    std::fs::write(directory.join("start"), text(&state)).unwrap();
+    let answer = bench_in(&directory, &["run", "--state", "start", "--trace"]);
+    let lines: Vec<&str> = answer.out.lines().take(3).collect();
+    let said = [
+        "       1  20000000  02310533  c10 := ffffffeb",
+        "       2  20000004  020145b3  c11 := ffffffff",
+        "       3  20000008  02316633  c12 := ffffffff",
     ];
     assert_eq!(lines, said);
 }

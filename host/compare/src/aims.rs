@@ -7,7 +7,7 @@ use crate::capabilities::{
 use crate::cuts::request;
 use crate::operands::{any, encode, Operands};
 use crate::random::Random;
-use crate::rows::{Aim, Form, Row};
+use crate::rows::{Aim, Form, Row, EXTREMES};
 use crate::state::{as_second, lend};
 use lent::{State, PCC};
 use second::capability::{bounds, has, narrow, set_bounds, EX};
@@ -100,6 +100,7 @@ impl Scene<'_> {
             Aim::Subset => self.aim_subset(),
             Aim::Equal => self.aim_equal(),
             Aim::Compare => self.aim_compare(),
+            Aim::Extremes => self.aim_extremes(),
         }
         if row.form == Form::Branch && self.random.one_in(2) {
             self.aim_compare();
@@ -378,5 +379,23 @@ impl Scene<'_> {
             address: near,
             ..other
         });
+    }
+
+    /// Both at an extreme, or each at one, a small number or anything. Two operands in one register
+    /// are the second.
+    fn aim_extremes(&mut self) {
+        let both = self.random.one_in(2);
+        let [first, second] = [0, 1].map(|_| {
+            let extreme = self.random.pick(EXTREMES);
+            match self.random.below(4) {
+                _ if both => extreme,
+                0 => extreme,
+                1 => self.random.near(0),
+                2 => self.random.sized(),
+                _ => self.random.word(),
+            }
+        });
+        self.set_first(integer(first));
+        self.set_second(integer(second));
     }
 }

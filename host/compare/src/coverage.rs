@@ -1,11 +1,12 @@
 //! What the machine comparison reached, counted for every cell that the papers make reachable:
-//! each instruction with each thing it can do, each failed fetch, words that are no instruction,
-//! each refusal alone and with each later one, and runs.
+//! each instruction with each thing it can do, products and quotients of each pair of extremes,
+//! each failed fetch, words that are no instruction, each refusal alone and with each later one,
+//! and runs.
 
 use crate::instructions::{BOUNDS, EXECUTE, FETCH_ACCESS, FETCH_MISALIGNED, ILLEGAL, SEAL, TAG};
 use crate::machines::second;
 use crate::refusals::reasons;
-use crate::rows::{Outcome, Row, Table, COLUMNS};
+use crate::rows::{Aim, Outcome, Row, Table, COLUMNS, EXTREMES};
 use crate::state::{as_second, Call, Case};
 use lent::{Answer, State, MCAUSE, MTVAL, PCC};
 use second::capability::{has, in_bounds, is_sealed, EX};
@@ -14,6 +15,9 @@ use std::fmt::Write;
 /// The opcodes under which a word can be no instruction whatever registers it names; the last
 /// stands for every opcode that has no instruction.
 const OPCODES: [u32; 10] = [0x03, 0x0F, 0x13, 0x23, 0x33, 0x5B, 0x63, 0x67, 0x73, 0x00];
+
+/// Pairs of extremes.
+const PAIRS: usize = EXTREMES.len() * EXTREMES.len();
 
 /// Kinds of runs.
 const RUNS: [&str; 6] = [
@@ -28,6 +32,8 @@ const RUNS: [&str; 6] = [
 /// The counts.
 pub struct Coverage {
     rows: Vec<[u64; COLUMNS]>,
+    /// Of each row, the pairs of extremes that it retired with.
+    pairs: Vec<[u64; PAIRS]>,
     fetch: [u64; COLUMNS],
     unknown: [u64; OPCODES.len()],
     refused: [u64; 6],
@@ -86,6 +92,7 @@ impl Coverage {
     pub fn new(table: &Table) -> Coverage {
         Coverage {
             rows: vec![[0; COLUMNS]; table.rows.len()],
+            pairs: vec![[0; PAIRS]; table.rows.len()],
             fetch: [0; COLUMNS],
             unknown: [0; OPCODES.len()],
             refused: [0; 6],
@@ -155,6 +162,9 @@ impl Coverage {
             return;
         }
         counts[Outcome::Retired.column()] += 1;
+        if let Some(pair) = pair_of_extremes(before, word) {
+            self.pairs[index][pair] += 1;
+        }
         if let Some(more) = retired_how(&table.rows[index], word, before, after) {
             counts[more.column()] += 1;
         }
@@ -174,6 +184,12 @@ impl Coverage {
             for &outcome in &row.outcomes {
                 let cell = format!("{} {}", row.name, name(outcome));
                 cells.push((cell, counts[outcome.column()]));
+            }
+        }
+        let extremes = |(row, _): &(&Row, _)| row.aim == Aim::Extremes;
+        for (row, counts) in table.rows.iter().zip(&self.pairs).filter(extremes) {
+            for (pair, &count) in counts.iter().enumerate() {
+                cells.push((format!("{} of {}", row.name, pair_name(pair)), count));
             }
         }
         for outcome in FETCH {
@@ -267,6 +283,20 @@ impl Coverage {
 fn line(outcomes: &[Outcome], counts: &[u64; COLUMNS]) -> String {
     let cell = |&outcome: &Outcome| format!(" {} {}", name(outcome), counts[outcome.column()]);
     outcomes.iter().map(cell).collect()
+}
+
+/// The number of the pair of extremes that a word's two registers hold, if both hold one.
+fn pair_of_extremes(before: &State, word: u32) -> Option<usize> {
+    let extreme = |register: u32| {
+        let value = before.capability(register as usize & 31).address;
+        EXTREMES.iter().position(|&extreme| extreme == value)
+    };
+    Some(extreme(word >> 15)? * EXTREMES.len() + extreme(word >> 20)?)
+}
+
+fn pair_name(pair: usize) -> String {
+    let [first, second] = [pair / EXTREMES.len(), pair % EXTREMES.len()];
+    format!("{:x} and {:x}", EXTREMES[first], EXTREMES[second])
 }
 
 /// More of how an instruction retired: a branch that was taken, the tag of what was written.

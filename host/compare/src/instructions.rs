@@ -1,4 +1,4 @@
-//! The instructions, a row each. Written from document 01, the CHERIoT report (7.5 to 7.12, 8 and
+//! The instructions, a row each. Written from documents 01 and 02, the CHERIoT report (7.5 to 7.12, 8 and
 //! 9) and the RISC-V standard, and not from either program: the words of the machine comparison
 //! are made from these rows, and what it reached is counted by them.
 
@@ -132,6 +132,15 @@ const LINES: &[(&str, Form, u32, Aim, &[Outcome])] = &[
     ("SRA", Register, r(0x20, 5, 0x33), Compare, PLAIN),
     ("OR", Register, r(0x00, 6, 0x33), Compare, PLAIN),
     ("AND", Register, r(0x00, 7, 0x33), Compare, PLAIN),
+    // The M extension (RISC-V unprivileged standard; document 02, 1).
+    ("MUL", Register, r(0x01, 0, 0x33), Extremes, PLAIN),
+    ("MULH", Register, r(0x01, 1, 0x33), Extremes, PLAIN),
+    ("MULHSU", Register, r(0x01, 2, 0x33), Extremes, PLAIN),
+    ("MULHU", Register, r(0x01, 3, 0x33), Extremes, PLAIN),
+    ("DIV", Register, r(0x01, 4, 0x33), Extremes, PLAIN),
+    ("DIVU", Register, r(0x01, 5, 0x33), Extremes, PLAIN),
+    ("REM", Register, r(0x01, 6, 0x33), Extremes, PLAIN),
+    ("REMU", Register, r(0x01, 7, 0x33), Extremes, PLAIN),
     // FENCE, the four whole words and the CSRs (document 01, "In and out"; CHERIoT report, 7.9).
     ("FENCE", Ignored, 0x0F, Nothing, PLAIN),
     ("ECALL", Whole, 0x0000_0073, Nothing, &[ECALL]),

@@ -41,10 +41,9 @@ fn word(random: &mut Random, row: &Row) -> u32 {
     } else {
         integer_register(random)
     };
-    let rs1 = if row.aim == Aim::Compare {
-        integer_register(random)
-    } else {
-        capability_register(random)
+    let rs1 = match row.aim {
+        Aim::Compare | Aim::Extremes => integer_register(random),
+        _ => capability_register(random),
     };
     let rs2 = match row.aim {
         Aim::Store(8) | Aim::Seal | Aim::Unseal | Aim::Subset => capability_register(random),

@@ -98,7 +98,12 @@ pub enum Aim {
     Subset,
     Equal,
     Compare,
+    /// The words at which products and quotients change: `EXTREMES`.
+    Extremes,
 }
+
+/// 0, 1, -1, the most negative and the most positive.
+pub const EXTREMES: [u32; 5] = [0, 1, u32::MAX, 1 << 31, (1 << 31) - 1];
 
 /// One instruction.
 pub struct Row {

@@ -1,5 +1,5 @@
 //! Decoding: a large sample of words, legal on the bench exactly if the binutils disassembler has
-//! them for RV32E with Zicsr. Where the papers make it differ, the difference is one of a list, and
+//! them for RV32E with M and Zicsr. Where the papers make it differ, the difference is one of a list, and
 //! each kind in the list must come up.
 
 use crate::disassembler::{known, of_rv32e, Listing, Reading};
@@ -214,6 +214,22 @@ fn immediates(random: &mut Random) -> Vec<u32> {
     words
 }
 
+/// Words of OP, of M among them, with every number in each of the three register fields.
+fn operations(random: &mut Random) -> Vec<u32> {
+    let mut words = Vec::new();
+    for choice in 0..3 * 8 * 32 {
+        let (place, funct3, number) = (choice % 3, choice / 3 % 8, choice / 24);
+        for funct7 in [0x00, 0x01, 0x20] {
+            let mut fields = [0; 3].map(|_| random.below(16));
+            fields[place] = number as u32;
+            let [rd, rs1, rs2] = fields;
+            let registers = rs2 << 20 | rs1 << 15 | rd << 7;
+            words.push(funct7 << 25 | (funct3 as u32) << 12 | registers | 0x33);
+        }
+    }
+    words
+}
+
 /// The random words of a run.
 const RANDOM: usize = 200_000;
 /// The words of other lengths, and the bytes after each, so that the next is read by itself.
@@ -224,7 +240,12 @@ const PADDING: usize = 28;
 pub fn run(machine: Machine) -> Result<String, String> {
     let place = tools::workplace("decoding")?;
     let mut random = Random::new(1, 1);
-    let mut words = [grid(&mut random), immediates(&mut random)].concat();
+    let mut words = [
+        grid(&mut random),
+        immediates(&mut random),
+        operations(&mut random),
+    ]
+    .concat();
     words.extend((0..RANDOM).map(|_| random.word() | 3));
     let (words, mut others): (Vec<u32>, Vec<u32>) = words
         .into_iter()

@@ -1,4 +1,4 @@
-//! The binutils disassembler for RV32E with Zicsr: which words it knows, and how it writes them.
+//! The binutils disassembler for RV32E with M and Zicsr: which words it knows, and how it writes them.
 
 use crate::tools;
 use std::path::Path;
@@ -42,7 +42,7 @@ impl Listing {
         let all: Vec<u8> = self.words.iter().flat_map(word).collect();
         tools::write(&bytes, &all)?;
         let name = bytes.display();
-        let text = format!(".attribute arch, \"rv32e_zicsr\"\n.text\n.incbin \"{name}\"\n");
+        let text = format!(".attribute arch, \"rv32em_zicsr\"\n.text\n.incbin \"{name}\"\n");
         tools::write(&source, text.as_bytes())?;
         let object = source.with_extension("o");
         tools::assemble(&source, &object)?;

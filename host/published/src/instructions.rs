@@ -1,4 +1,4 @@
-//! Every RV32E integer instruction on tables of operands, against qemu-riscv32: a program is
+//! Every integer instruction of RV32E and M on tables of operands, against qemu-riscv32: a program is
 //! generated with one small routine for each instruction, choice of registers and immediate, and
 //! called as the published routines are. The link puts both programs at the same addresses, so
 //! links and jump targets are compared too.
@@ -13,6 +13,9 @@ use std::fmt::Write;
 
 const OP: [&str; 10] = [
     "add", "sub", "sll", "slt", "sltu", "xor", "srl", "sra", "or", "and",
+];
+const M: [&str; 8] = [
+    "mul", "mulh", "mulhsu", "mulhu", "div", "divu", "rem", "remu",
 ];
 const OP_IMM: [&str; 6] = ["addi", "slti", "sltiu", "xori", "ori", "andi"];
 const SHIFT_IMM: [&str; 3] = ["slli", "srli", "srai"];
@@ -66,7 +69,16 @@ impl Program {
 
     /// OP: two registers.
     fn registers(&mut self) {
-        for name in OP {
+        self.two_registers(&OP);
+    }
+
+    /// OP with the words of M.
+    fn products(&mut self) {
+        self.two_registers(&M);
+    }
+
+    fn two_registers(&mut self, names: &[&str]) {
+        for name in names {
             for [rd, rs1, rs2] in TRIPLES {
                 self.one(&[rs1, rs2], &format!("{name} x{rd}, x{rs1}, x{rs2}"));
             }
@@ -169,13 +181,18 @@ fn immediates() -> Vec<i32> {
     all
 }
 
-/// The calls of a routine: every choice of its operands, anything in the other registers.
+/// Calls of a routine with operands at random, beyond the choices of edges.
+const MORE: usize = 200;
+
+/// The calls of a routine: every choice of its operands at the edges, then some at random; anything in
+/// the other registers.
 fn calls(routine: &Routine, place: u32, random: &mut Random) -> Vec<Record> {
     let choices = OPERANDS.len().pow(routine.sources.len() as u32);
+    let more = if routine.sources.len() == 2 { MORE } else { 0 };
     let call = |choice: usize| {
         let mut registers = [0; 16].map(|_: u32| random.number());
         let mut rest = choice;
-        for &source in &routine.sources {
+        for &source in routine.sources.iter().filter(|_| choice < choices) {
             registers[source] = OPERANDS[rest % OPERANDS.len()];
             rest /= OPERANDS.len();
         }
@@ -186,14 +203,15 @@ fn calls(routine: &Routine, place: u32, random: &mut Random) -> Vec<Record> {
             window: [0; WINDOW],
         }
     };
-    (0..choices).map(call).collect()
+    (0..choices + more).map(call).collect()
 }
 
 /// Adds a part of the instructions to a program.
 type Fill = fn(&mut Program);
 
-const PROGRAMS: [(&str, Fill); 5] = [
+const PROGRAMS: [(&str, Fill); 6] = [
     ("registers", Program::registers),
+    ("products", Program::products),
     ("immediates", Program::immediates),
     ("branches", Program::branches),
     ("distances", Program::distances),

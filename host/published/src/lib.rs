@@ -1,6 +1,6 @@
-//! What others published, held against the bench: the routines of GCC's library for RV32E, qemu's
-//! execution of each integer instruction, and the decoding of the binutils disassembler; and
-//! capability programs of our own, with the ends that the papers give them.
+//! What others published, held against the bench: the routines of GCC's library for RV32E, without
+//! and with M, qemu's execution of each integer instruction, and the decoding of the binutils
+//! disassembler; and capability programs of our own, with the ends that the papers give them.
 //!
 //! Each part takes the proved machine as an argument, runs it beside the second program, and
 //! answers with its counts or with the first difference.

@@ -1,7 +1,8 @@
-//! Runs one part against the proved machine (`rt staticlib bench_api`): `published PART`.
+//! Runs one part against the proved machine (`rt staticlib bench_api`): `published PART`; or with the
+//! second program in its place: `published PART second`.
 
 use compare::conclude;
-use compare::machines::Machine;
+use compare::machines::{second, Machine};
 use published::{decoding, instructions, programs, routines};
 use std::process::ExitCode;
 
@@ -19,8 +20,13 @@ const PARTS: [(&str, Part); 4] = [
 fn main() -> ExitCode {
     let named = std::env::args().nth(1).unwrap_or_default();
     let part = PARTS.iter().find(|(name, _)| *name == named);
-    conclude(match part {
-        Some((_, part)) => part(PROVED),
-        None => Err(format!("no part {named:?}")),
+    let machine = match std::env::args().nth(2).as_deref() {
+        None => Some(PROVED),
+        Some("second") => Some(second as Machine),
+        Some(_) => None,
+    };
+    conclude(match (part, machine) {
+        (Some((_, part)), Some(machine)) => part(machine),
+        _ => Err(format!("no part {named:?}, or no such machine")),
     })
 }

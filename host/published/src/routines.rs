@@ -1,6 +1,6 @@
-//! Published programs: the routines of GCC's library for RV32E, which nobody here wrote, each linked
-//! from Debian's archive and called on the proved machine, on the second program and under
-//! qemu-riscv32, on the same registers and stack words.
+//! Published programs: the routines of GCC's library for RV32E, without and with the M extension,
+//! which nobody here wrote, each linked from Debian's archives and called on the proved machine, on
+//! the second program and under qemu-riscv32, on the same registers and stack words.
 //!
 //! A routine that touches no memory runs as it is: the first trap ends the call. All of them run
 //! once more with the repairing handler (repair.S), and with it those that keep integers for
@@ -72,9 +72,29 @@ const NOT_CALLED: [(&str, &str); 4] = [
 /// Calls at random for each routine, beyond the pairs of edges.
 const MORE: usize = 2000;
 
-/// The fewest routines that a run must have of each kind, so that none goes unnoticed.
-const FEWEST_PLAIN: usize = 44;
-const FEWEST: usize = 110;
+/// An archive, and the fewest routines that it must have: in all, without memory, and with words of
+/// the M extension. So none goes unnoticed.
+struct Archive {
+    architecture: &'static str,
+    routines: usize,
+    plain: usize,
+    multiplying: usize,
+}
+
+const ARCHIVES: [Archive; 2] = [
+    Archive {
+        architecture: "rv32e",
+        routines: 110,
+        plain: 44,
+        multiplying: 0,
+    },
+    Archive {
+        architecture: "rv32em",
+        routines: 110,
+        plain: 46,
+        multiplying: 22,
+    },
+];
 
 /// What the code of an image is made of.
 #[derive(Clone, Copy, PartialEq, Eq, Debug)]
@@ -100,11 +120,17 @@ fn code(words: &[u32]) -> Code {
     found
 }
 
-/// What a run has counted.
+/// Whether some word multiplies or divides.
+fn multiplies(words: &[u32]) -> bool {
+    words.iter().any(|word| word & 0xFE00_007F == 0x0200_0033)
+}
+
+/// What the run of an archive has counted.
 #[derive(Default)]
 struct Totals {
-    plain: usize,
     routines: usize,
+    plain: usize,
+    multiplying: usize,
     calls: usize,
     broke: usize,
     integer_returns: usize,
@@ -115,14 +141,12 @@ struct Totals {
 
 impl fmt::Display for Totals {
     fn fmt(&self, out: &mut fmt::Formatter) -> fmt::Result {
-        for line in &self.not_run {
-            writeln!(out, "not run: {line}")?;
-        }
         write!(
             out,
-            "{} routines of libgcc; {} without memory: {} calls, {} ended by EBREAK, {} at a return \
-             through an integer; {} calls with the repairing handler, {} repairs",
+            "{} routines of libgcc, {} with words of M; {} without memory: {} calls, {} ended by \
+             EBREAK, {} at a return through an integer; {} calls with the repairing handler, {} repairs",
             self.routines,
+            self.multiplying,
             self.plain,
             self.calls,
             self.broke,
@@ -133,19 +157,35 @@ impl fmt::Display for Totals {
     }
 }
 
-/// Runs every routine of the archive.
+/// Runs every routine of the archives.
 pub fn run(machine: Machine) -> Result<String, String> {
-    let place = tools::workplace("routines")?;
-    let (linker, archive) = (Linker::new(&place)?, tools::libgcc()?);
+    let (mut not_run, mut report) = (String::new(), Vec::new());
+    for archive in &ARCHIVES {
+        let name = archive.architecture;
+        let totals = run_archive(machine, archive).map_err(|text| format!("{name}: {text}"))?;
+        for line in &totals.not_run {
+            not_run.push_str(&format!("{name}: not run: {line}\n"));
+        }
+        report.push(format!("{name}: {totals}"));
+    }
+    Ok(not_run + &report.join("; "))
+}
+
+fn run_archive(machine: Machine, archive: &Archive) -> Result<Totals, String> {
+    let place = tools::workplace(&format!("routines/{}", archive.architecture))?;
+    let (linker, file) = (Linker::new(&place)?, tools::libgcc(archive.architecture)?);
     let mut totals = Totals::default();
-    for name in tools::symbols(&archive)?.keys() {
-        routine(machine, &linker, &archive, name, &mut totals)
+    for name in tools::symbols(&file)?.keys() {
+        routine(machine, &linker, &file, name, &mut totals)
             .map_err(|text| format!("{name}: {text}"))?;
     }
-    if totals.plain < FEWEST_PLAIN || totals.routines < FEWEST {
+    let few = totals.routines < archive.routines
+        || totals.plain < archive.plain
+        || totals.multiplying < archive.multiplying;
+    if few {
         return Err(format!("{totals}\nfewer routines than there were"));
     }
-    Ok(totals.to_string())
+    Ok(totals)
 }
 
 /// Why a name of the archive is not called.
@@ -184,6 +224,7 @@ fn routine(
     }
     totals.routines += 1;
     totals.plain += usize::from(code == Code::Plain);
+    totals.multiplying += usize::from(multiplies(&image.code));
     check(machine, &image, name, signature, code, totals)
 }
 
@@ -227,6 +268,12 @@ fn check(
 #[cfg(test)]
 mod tests {
     use super::*;
+
+    #[test]
+    fn words_of_m() {
+        assert!(multiplies(&[0x0000_8067, 0x02C5_8533]) && multiplies(&[0x02C5_F533]));
+        assert!(!multiplies(&[0x00C5_8533, 0x40C5_8533, 0x02C5_8513]));
+    }
 
     #[test]
     fn kinds_of_code() {

@@ -57,7 +57,7 @@ pub fn read(path: &Path) -> Result<Vec<u8>, String> {
 /// Assembles a source, with the programs' macros at hand.
 pub fn assemble(source: &Path, object: &Path) -> Result<(), String> {
     let mut gcc = tool("gcc");
-    gcc.args(["-march=rv32e_zicsr", "-mabi=ilp32e", "-c", "-I"]);
+    gcc.args(["-march=rv32em_zicsr", "-mabi=ilp32e", "-c", "-I"]);
     gcc.arg(programs()).arg("-o").arg(object).arg(source);
     run(&mut gcc).map(|_| ())
 }
@@ -87,10 +87,18 @@ pub fn section(file: &Path, name: &str) -> Result<Vec<u8>, String> {
     read(&bytes)
 }
 
-/// The archive of compiler routines for RV32E.
-pub fn libgcc() -> Result<PathBuf, String> {
-    let options = ["-march=rv32e", "-mabi=ilp32e", "-print-libgcc-file-name"];
-    run(tool("gcc").args(options)).map(|text| PathBuf::from(text.trim_end()))
+/// The archive of compiler routines for an architecture.
+pub fn libgcc(architecture: &str) -> Result<PathBuf, String> {
+    let mut gcc = tool("gcc");
+    gcc.arg(format!("-march={architecture}"));
+    let text = run(gcc.args(["-mabi=ilp32e", "-print-libgcc-file-name"]))?;
+    let path = PathBuf::from(text.trim_end());
+    // Where gcc has none, it names another's.
+    let own = path
+        .components()
+        .any(|part| part.as_os_str() == architecture);
+    own.then_some(path)
+        .ok_or(format!("no library for {architecture}: {text}"))
 }
 
 #[cfg(test)]

@@ -1,6 +1,7 @@
-//! Instruction words to instructions: RV32E of the RISC-V unprivileged standard, its six CSR
-//! instructions, MRET and WFI, and the CHERIoT report's chapter 8. Everything else is illegal,
-//! and so is a register number above 15 (document 01, "Traps").
+//! Instruction words to instructions: RV32E of the RISC-V unprivileged standard with its M
+//! extension (document 02, 1), its six CSR instructions, MRET and WFI, and the CHERIoT report's
+//! chapter 8. Everything else is illegal, and so is a register number above 15 (document 01,
+//! "Traps").
 
 #[cfg(test)]
 mod tests;
@@ -45,6 +46,14 @@ pub enum Arithmetic {
     ShiftRightArithmetic,
     Or,
     And,
+    Multiply,
+    MultiplyHigh,
+    MultiplyHighSignedUnsigned,
+    MultiplyHighUnsigned,
+    Divide,
+    DivideUnsigned,
+    Remainder,
+    RemainderUnsigned,
 }
 
 #[derive(Clone, Copy, PartialEq, Eq, Debug)]
@@ -360,6 +369,15 @@ fn integer_register(fields: Fields) -> Option<Instruction> {
         (0x20, 5) => Arithmetic::ShiftRightArithmetic,
         (0x00, 6) => Arithmetic::Or,
         (0x00, 7) => Arithmetic::And,
+        // The M extension has funct7 1.
+        (0x01, 0) => Arithmetic::Multiply,
+        (0x01, 1) => Arithmetic::MultiplyHigh,
+        (0x01, 2) => Arithmetic::MultiplyHighSignedUnsigned,
+        (0x01, 3) => Arithmetic::MultiplyHighUnsigned,
+        (0x01, 4) => Arithmetic::Divide,
+        (0x01, 5) => Arithmetic::DivideUnsigned,
+        (0x01, 6) => Arithmetic::Remainder,
+        (0x01, 7) => Arithmetic::RemainderUnsigned,
         _ => return None,
     };
     Some(Instruction::Integer {

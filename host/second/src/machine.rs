@@ -565,6 +565,14 @@ impl<'a> Machine<'a> {
             Arithmetic::ShiftRightArithmetic => (left as i32).wrapping_shr(right) as u32,
             Arithmetic::Or => left | right,
             Arithmetic::And => left & right,
+            Arithmetic::Multiply => left.wrapping_mul(right),
+            Arithmetic::MultiplyHigh => high_half(signed(left) * signed(right)),
+            Arithmetic::MultiplyHighSignedUnsigned => high_half(signed(left) * unsigned(right)),
+            Arithmetic::MultiplyHighUnsigned => high_half_unsigned(left, right),
+            Arithmetic::Divide => divide(left, right),
+            Arithmetic::DivideUnsigned => left.checked_div(right).unwrap_or(!0),
+            Arithmetic::Remainder => remainder(left, right),
+            Arithmetic::RemainderUnsigned => left.checked_rem(right).unwrap_or(left),
         };
         self.set_register(rd, integer(result));
     }
@@ -691,6 +699,43 @@ impl<'a> Machine<'a> {
             Pairing::CSetEqualExact => integer(u32::from(first == second)),
         };
         self.set_register(cd, result);
+    }
+}
+
+/// A word read with its sign.
+fn signed(word: u32) -> i64 {
+    i64::from(word as i32)
+}
+
+/// A word read without a sign.
+fn unsigned(word: u32) -> i64 {
+    i64::from(word)
+}
+
+/// The upper word of a product with a signed factor, which 64 bits always hold.
+fn high_half(product: i64) -> u32 {
+    (product >> 32) as u32
+}
+
+/// The upper word of an unsigned product.
+fn high_half_unsigned(left: u32, right: u32) -> u32 {
+    ((u64::from(left) * u64::from(right)) >> 32) as u32
+}
+
+/// DIV: rounded towards zero. By zero it is -1, and the one overflow, the most negative by -1, is
+/// the dividend again (the RISC-V standard, M, the table of both).
+fn divide(dividend: u32, divisor: u32) -> u32 {
+    match divisor {
+        0 => !0,
+        _ => (dividend as i32).wrapping_div(divisor as i32) as u32,
+    }
+}
+
+/// REM: its sign is the dividend's. By zero it is the dividend, and 0 at the overflow.
+fn remainder(dividend: u32, divisor: u32) -> u32 {
+    match divisor {
+        0 => dividend,
+        _ => (dividend as i32).wrapping_rem(divisor as i32) as u32,
     }
 }
 

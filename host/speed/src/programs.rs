@@ -1,10 +1,10 @@
-//! Endless programs, as instruction words: integer work, memory work, capability work, and memory work
-//! through capabilities cut to memory.
+//! Endless programs, as instruction words: integer work, memory work, capability work, memory work
+//! through capabilities cut to memory, and multiplying and dividing.
 
 use lent::{Capability, State, EXECUTABLE_ROOT, MEMORY_ROOT, MTCC, PCC};
 
 /// The programs by name.
-pub const NAMES: [&str; 4] = ["integer", "memory", "capability", "bounded"];
+pub const NAMES: [&str; 5] = ["integer", "memory", "capability", "bounded", "multiply"];
 
 /// Where memory starts, and its size.
 const START: u32 = 0x2000_0000;
@@ -58,10 +58,22 @@ fn words(name: &str) -> Option<[u32; 5]> {
             i_type(0, 5, 3, 7, 0x03),
             BACK,
         ],
+        // mul c1, c1, c6; mulhsu c2, c1, c6; div c3, c1, c2; remu c4, c1, c7
+        "multiply" => [
+            r_type(1, 6, 1, 0, 1, 0x33),
+            r_type(1, 6, 1, 2, 2, 0x33),
+            r_type(1, 2, 1, 4, 3, 0x33),
+            r_type(1, 7, 1, 7, 4, 0x33),
+            BACK,
+        ],
         _ => return None,
     };
     Some(loop_words)
 }
+
+/// The integers that "multiply" starts with: an odd number, odd factor and divisor, so that c1 takes
+/// many values and is never 0.
+const FACTORS: [(usize, u32); 3] = [(1, 1), (6, 1_103_515_245), (7, 1_000_003)];
 
 /// A program ready to run from its first word.
 pub fn ready(name: &str) -> Option<State> {
@@ -79,6 +91,11 @@ pub fn ready(name: &str) -> Option<State> {
             _ => root,
         };
         state.set(place, Capability::tagged(address, metadata));
+    }
+    if name == "multiply" {
+        for (place, value) in FACTORS {
+            state.set(place, Capability::integer(value));
+        }
     }
     for (bytes, word) in state.mem.chunks_exact_mut(4).zip(words) {
         bytes.copy_from_slice(&word.to_le_bytes());

@@ -96,7 +96,7 @@ fn csr_numbers() {
 #[test]
 fn registers_above_15() {
     type Build = fn(u32) -> u32;
-    let words: [Build; 24] = [
+    let words: [Build; 27] = [
         |n| asm::u(0, n, 0x37),
         |n| asm::u(0, n, 0x17),
         |n| asm::u(0, n, 0x7B),
@@ -114,6 +114,9 @@ fn registers_above_15() {
         |n| asm::r(0, n, 1, 0, 1, 0x33),
         |n| asm::r(0, 1, n, 0, 1, 0x33),
         |n| asm::r(0, 1, 1, 0, n, 0x33),
+        |n| asm::r(1, n, 1, 0, 1, 0x33),
+        |n| asm::r(1, 1, n, 3, 1, 0x33),
+        |n| asm::r(1, 1, 1, 7, n, 0x33),
         |n| asm::two(0x08, n, 1, 1),
         |n| asm::two(0x0B, 1, n, 1),
         |n| asm::two(0x0C, 1, 1, n),
@@ -130,7 +133,7 @@ fn registers_above_15() {
 }
 
 // The standard: SLLI, SRLI and SRAI have a fixed funct7; a set bit 25 would be a shift of 32
-// or more. Multiply and divide (funct7 1) are out (document 01).
+// or more. The M extension is funct7 1 of OP, with all eight funct3.
 #[test]
 fn integer_funct7() {
     for funct7 in 0..128 {
@@ -140,7 +143,7 @@ fn integer_funct7() {
         for funct3 in 0..8 {
             let found = decode(asm::r(funct7, 1, 1, funct3, 1, 0x33)).is_some();
             let second = funct7 == 0x20 && (funct3 == 0 || funct3 == 5);
-            assert_eq!(found, funct7 == 0 || second);
+            assert_eq!(found, funct7 <= 1 || second);
         }
     }
 }

@@ -2,6 +2,7 @@
 
 use super::bench::*;
 use crate::assemble as asm;
+use crate::sample::Sample;
 
 /// The result of a word with c1 and c2 holding two integers; the destination is c3, which
 /// held a tagged capability before.
@@ -37,6 +38,119 @@ fn register_operations() {
     assert_eq!(result(op(0x20, 5), 0x8000_0000, 36), 0xF800_0000);
     assert_eq!(result(op(0, 6), 0b1100, 0b1010), 0b1110);
     assert_eq!(result(op(0, 7), 0b1100, 0b1010), 0b1000);
+}
+
+// funct3 of the M extension.
+const MUL: u32 = 0;
+const MULH: u32 = 1;
+const MULHSU: u32 = 2;
+const MULHU: u32 = 3;
+const DIV: u32 = 4;
+const DIVU: u32 = 5;
+const REM: u32 = 6;
+const REMU: u32 = 7;
+
+const LEAST: u32 = 0x8000_0000;
+const MOST: u32 = 0x7FFF_FFFF;
+const MINUS_1: u32 = 0xFFFF_FFFF;
+
+fn m(funct3: u32, first: u32, second: u32) -> u32 {
+    result(op(1, funct3), first, second)
+}
+
+// The standard, M: the low word of a product, and the high word with both factors signed, the first
+// signed alone, neither signed. (-2^31)^2 = 2^62; (2^32 - 1)^2 = 2^64 - 2 * 2^32 + 1.
+#[test]
+fn products() {
+    let all = |first, second| [MUL, MULH, MULHSU, MULHU].map(|funct3| m(funct3, first, second));
+    assert_eq!(all(6, 7), [42, 0, 0, 0]);
+    assert_eq!(all(0, MINUS_1), [0, 0, 0, 0]);
+    assert_eq!(all(1, MINUS_1), [MINUS_1, MINUS_1, 0, 0]);
+    assert_eq!(all(MINUS_1, 1), [MINUS_1, MINUS_1, MINUS_1, 0]);
+    assert_eq!(all(MINUS_1, MINUS_1), [1, 0, MINUS_1, 0xFFFF_FFFE]);
+    assert_eq!(
+        all(LEAST, LEAST),
+        [0, 0x4000_0000, 0xC000_0000, 0x4000_0000]
+    );
+    assert_eq!(all(LEAST, MINUS_1), [LEAST, 0, LEAST, MOST]);
+    assert_eq!(all(MINUS_1, LEAST), [LEAST, 0, MINUS_1, MOST]);
+    assert_eq!(all(MOST, MOST), [1, 0x3FFF_FFFF, 0x3FFF_FFFF, 0x3FFF_FFFF]);
+    assert_eq!(
+        all(MOST, LEAST),
+        [LEAST, 0xC000_0000, 0x3FFF_FFFF, 0x3FFF_FFFF]
+    );
+    assert_eq!(
+        all(LEAST, MOST),
+        [LEAST, 0xC000_0000, 0xC000_0000, 0x3FFF_FFFF]
+    );
+    assert_eq!(all(0x1_0000, 0x1_0000), [0, 1, 1, 1]);
+}
+
+// The standard, M: rounded towards zero, the remainder with the dividend's sign; by zero all ones and
+// the dividend; the most negative by -1 itself and 0.
+#[test]
+fn quotients_and_remainders() {
+    let all = |first, second| [DIV, REM, DIVU, REMU].map(|funct3| m(funct3, first, second));
+    let minus = |n: u32| 0u32.wrapping_sub(n);
+    assert_eq!(all(20, 6), [3, 2, 3, 2]);
+    assert_eq!(all(minus(20), 6)[..2], [minus(3), minus(2)]);
+    assert_eq!(all(20, minus(6)), [minus(3), 2, 0, 20]);
+    assert_eq!(all(minus(20), minus(6)), [3, minus(2), 0, minus(20)]);
+    for dividend in [0, 1, MINUS_1, LEAST, MOST] {
+        assert_eq!(all(dividend, 0), [MINUS_1, dividend, MINUS_1, dividend]);
+    }
+    assert_eq!(all(LEAST, MINUS_1), [LEAST, 0, 0, LEAST]);
+    assert_eq!(all(LEAST, 1), [LEAST, 0, LEAST, 0]);
+    assert_eq!(all(LEAST, LEAST), [1, 0, 1, 0]);
+    assert_eq!(all(LEAST, MOST), [MINUS_1, MINUS_1, 1, 1]);
+    assert_eq!(all(MOST, LEAST), [0, MOST, 0, MOST]);
+    assert_eq!(all(MINUS_1, MOST), [0, MINUS_1, 2, 1]);
+    assert_eq!(all(1, MINUS_1), [MINUS_1, 0, 0, 1]);
+}
+
+/// The high word of an unsigned product, by the halves of its factors.
+fn by_halves(first: u32, second: u32) -> u32 {
+    let (high, low) = (first >> 16, first & 0xFFFF);
+    let (other_high, other_low) = (second >> 16, second & 0xFFFF);
+    let middle = high * other_low + ((low * other_low) >> 16);
+    let sum = (middle & 0xFFFF) + low * other_high;
+    high * other_high + (middle >> 16) + (sum >> 16)
+}
+
+// What the results are to each other: the high words differ by the factors that are negative, and
+// dividend = divisor * quotient + remainder with the remainder nearer to zero than the divisor.
+#[test]
+fn laws_of_products_and_quotients() {
+    let mut sample = Sample(11);
+    for _ in 0..2000 {
+        let (first, second) = (sample.sized(), sample.near(0));
+        let high = m(MULHU, first, second);
+        let (first_signed, second_signed) = (first as i32, second as i32);
+        let less =
+            |high: u32, negative: bool, other| high.wrapping_sub(if negative { other } else { 0 });
+        assert_eq!(high, by_halves(first, second));
+        assert_eq!(
+            m(MULHSU, first, second),
+            less(high, first_signed < 0, second)
+        );
+        let both = less(
+            less(high, first_signed < 0, second),
+            second_signed < 0,
+            first,
+        );
+        assert_eq!(m(MULH, first, second), both);
+        for (quotient, remainder) in [(DIV, REM), (DIVU, REMU)] {
+            let (quotient, left) = (m(quotient, first, second), m(remainder, first, second));
+            let product = m(MUL, second, quotient);
+            assert_eq!(product.wrapping_add(left), first);
+        }
+        if second != 0 {
+            let left = m(REM, first, second) as i32;
+            assert!(left.unsigned_abs() < second_signed.unsigned_abs());
+            assert!(left == 0 || (left < 0) == (first_signed < 0));
+            assert!(m(REMU, first, second) < second);
+        }
+    }
 }
 
 // The standard's OP-IMM instructions: the immediate is sign-extended, for SLTIU too.

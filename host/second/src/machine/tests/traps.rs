@@ -99,7 +99,8 @@ fn trap_entry_and_mstatus() {
 fn illegal_breakpoint_ecall() {
     Bench::new().trap(0, 2, 0);
     Bench::new().trap(0xFFFF_FFFF, 2, 0xFFFF_FFFF);
-    let multiply = asm::r(1, 1, 1, 0, 1, 0x33);
+    // CLMUL of Zbc, which is out.
+    let multiply = asm::r(5, 1, 1, 1, 1, 0x33);
     Bench::new().trap(multiply, 2, multiply);
     let above = asm::addi(0, 16, 1);
     Bench::new().trap(above, 2, above);
