@@ -5,6 +5,7 @@ pub mod Suggested
 pub mod Program
 pub mod Limits
 pub mod Decode
+pub mod Wrapped
 pub mod Blocks
 pub mod Fits
 pub mod Answers

@@ -1,6 +1,6 @@
 // Numbers scaled and rounded by powers of 2: the only shifts by a variable count.
 use crate::BLOCK_UNITS;
-use crate::TWICE_SPACE;
+use std::num::wrapping_sub_u64;
 ghost use mathlib.Core.Path.{_≡_};
 ghost use Prim.Native.Nat.{_+_, _-_, _*_, _/_, _%_, _^_, _<_, _≤_};
 ghost use Rattle.bounds.specs.Bounds.{less};
@@ -30,13 +30,13 @@ pub(crate) fn base_block(address: u32, e: u32, base: u32) -> u64
     ((address as u64 >> e) + BLOCK_UNITS - base as u64) / BLOCK_UNITS
 }
 
-// The unit of 2^e that the base stands at, counted from one block of 512 below 0: the last up to the address's own whose low nine bits are the field's.
+// The unit of 2^e that the base stands at, modulo 2^64: the last up to the address's own whose low nine bits are the field's.
 pub(crate) fn base_unit(address: u32, e: u32, base: u32) -> u64
     requires { ⌜ (e ≤ 24) × (base < 512) ⌝ }
-    ensures { λ r. ⌜ (r ≡ (address / 2 ^ e + 512 - base) / 512 * 512 + base) × (r < 2 ^ 33 - 512) ⌝ }
+    ensures { λ r. ⌜ r ≡ (2 ^ 64 + ((address / 2 ^ e + 512 - base) / 512 * 512 + base) - 512) % 2 ^ 64 ⌝ }
 {
-    let unit = (address as u64 >> e) + BLOCK_UNITS;
-    unit - (unit - base as u64) % BLOCK_UNITS
+    let unit = address as u64 >> e;
+    wrapping_sub_u64(unit, wrapping_sub_u64(unit, base as u64) % BLOCK_UNITS)
 }
 
 // How many units the top stands above the base.
@@ -45,14 +45,6 @@ pub(crate) fn span(top: u32, base: u32) -> u64
     ensures { λ r. ⌜ (base + r ≡ less top base * 512 + top) × (r < 512) ⌝ }
 {
     (top as u64 + BLOCK_UNITS - base as u64) % BLOCK_UNITS
-}
-
-// The address of a unit counted from one block below 0. 2^33 is added before what may be more is taken away.
-pub(crate) fn placed(unit: u64, e: u32) -> u64
-    requires { ⌜ (unit < 2 ^ 33) × (e ≤ 24) ⌝ }
-    ensures { λ r. ⌜ r ≡ 2 ^ 33 + unit * 2 ^ e - 512 * 2 ^ e ⌝ }
-{
-    TWICE_SPACE + (unit << e) - (BLOCK_UNITS << e)
 }
 
 // 2^e - 1.

@@ -1,5 +1,4 @@
--- `exponent`: the test is the definition's. Assumes nothing.
-use borrow.Author.Tests.{eq-eqb, ne-eqb}
+-- `exponent`: the choice is the definition's. Assumes nothing.
 use Rattle.bounds.specs.Bounds.{exponentOf}
 use borrow.Author.Needs.{needs}
 use Rattle.bounds.proofs.decoding.exponent.Statement.{statement}
@@ -7,11 +6,7 @@ use Rattle.bounds.proofs.decoding.exponent.Tie as tie
 
 returns : tie.Need-returns
 unfolding exponentOf
-returns c = (simp (eq-eqb _ _ (c .if1 .taken)), search needs)
-
-returns-2 : tie.Need-returns-2
-unfolding exponentOf
-returns-2 c = (simp (ne-eqb _ _ (c .if1 .left)), search needs)
+returns c = (simp (c .choose .ensures .0), search needs)
 
 pub exponent-spec : {M : Type 1} → statement M
-exponent-spec = tie.close (tie.spec returns returns-2)
+exponent-spec = tie.close (tie.spec (λ c κs. search needs) returns)
