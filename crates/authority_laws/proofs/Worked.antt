@@ -10,7 +10,7 @@ use Rattle.words.specs.Words.{signExtend, leBytes, setBytes, bitAt, withBit, pu
 use Rattle.metadata.specs.Word.{permissionsOf, typeOf, scaleOf, topOf, baseOf, withBounds}
 use Rattle.metadata.specs.Rights.{rightsOf}
 use Rattle.bounds.specs.Bounds.{exponentOf, lowOf, highOf, lowAt, highAt}
-use Rattle.bounds.specs.Cutting.{floorAt, ceilAt, fits, firstFit, cutExponent, scaleField, cutBase, cutTop, withCut}
+use Rattle.bounds.specs.Cutting.{floorAt, ceilAt, fitsAt, firstFit, cutExponent, scaleField, cutBase, cutTop, withCut}
 use Rattle.capability.specs.Capability.{low, high, rights, sealed, tagged, covers, sameBounds, moveOf, setBoundsOf}
 use Rattle.capability.specs.Loading.{loseGlobal, loseMutable, loseTag, loadedOf, revocable}
 use Rattle.instructions.specs.Fields.{immediateI, immediateS}
@@ -66,7 +66,7 @@ unfolding worked runAfter iterate oneMore refusalOf goodMemory goodTags goodZero
     applyEffect retires setCapability writeRegister advanced retagged storedCapability revokedValue filtered loadCapabilityAt
     loadCapabilityEffect storeCapabilityCheck storeCapabilityAt storeCapabilityEffect memoryEffect capabilityEffect checked accessCause placeOf
     capabilityIn revokedAt capabilityAt integerAt loadOf storeOf capabilityOf decodeOf immediateI immediateS loseGlobal loseMutable loseTag
-    loadedOf revocable low high rights sealed tagged covers sameBounds moveOf setBoundsOf floorAt ceilAt fits firstFit cutExponent scaleField
+    loadedOf revocable low high rights sealed tagged covers sameBounds moveOf setBoundsOf floorAt ceilAt fitsAt firstFit cutExponent scaleField
     cutBase cutTop withCut withBounds exponentOf lowOf highOf lowAt highAt rightsOf permissionsOf typeOf scaleOf topOf baseOf signExtend leBytes
     setBytes bitAt withBit putBit
 computed = record { in-c3 = refl; in-memory = refl; size-is = refl }
