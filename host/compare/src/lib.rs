@@ -30,6 +30,7 @@ pub mod state;
 
 use options::Options;
 use std::fmt::Debug;
+use std::path::Path;
 use std::process::ExitCode;
 
 /// The first case on which two programs differ, and how.
@@ -51,6 +52,29 @@ pub fn conclude(outcome: Result<String, String>) -> ExitCode {
             println!("{text}");
             ExitCode::FAILURE
         }
+    }
+}
+
+/// A program over machines: the cases that its options ask for, or one case of a file again.
+pub fn cases_or_replay(
+    cases: u64,
+    run: fn(&Options) -> Result<String, String>,
+    rerun: fn(&Path) -> Result<String, String>,
+) -> ExitCode {
+    conclude(
+        Options::of_process(cases).and_then(|options| match &options.replay {
+            Some(file) => rerun(file),
+            None => run(&options),
+        }),
+    )
+}
+
+/// What such a program says at its end: what was reached, and what was not and should have been.
+pub fn reached(text: String, faults: &[String]) -> Result<String, String> {
+    if faults.is_empty() {
+        Ok(text)
+    } else {
+        Err(format!("{text}\n{}", faults.join("\n")))
     }
 }
 

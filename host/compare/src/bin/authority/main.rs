@@ -9,7 +9,7 @@ use compare::machines::Machine;
 use compare::options::Options;
 use compare::shrink::shrink;
 use compare::state::Case;
-use compare::{conclude, replay};
+use compare::{cases_or_replay, reached, replay};
 use std::path::Path;
 use std::process::ExitCode;
 
@@ -18,11 +18,7 @@ const CASES: u64 = 100_000;
 const PROVED: Machine = |state, call| call.on(state, proved::step, proved::run);
 
 fn main() -> ExitCode {
-    let options = Options::of_process(CASES);
-    conclude(options.and_then(|options| match &options.replay {
-        Some(file) => rerun(file),
-        None => run(&options),
-    }))
+    cases_or_replay(CASES, run, rerun)
 }
 
 fn run(options: &Options) -> Result<String, String> {
@@ -32,11 +28,7 @@ fn run(options: &Options) -> Result<String, String> {
     search(PROVED, &table, seed, cases, Some(&mut totals)).map_err(|gain| report(seed, *gain))?;
     let text = format!("{cases} starts of seed {seed}: {:?}", totals.counts);
     let faults = totals.faults(&table);
-    if faults.is_empty() {
-        Ok(text)
-    } else {
-        Err(format!("{text}\n{}", faults.join("\n")))
-    }
+    reached(text, &faults)
 }
 
 /// A gain, made smaller, as text to rerun.

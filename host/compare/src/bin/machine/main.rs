@@ -10,7 +10,7 @@ use compare::options::Options;
 use compare::rows::Table;
 use compare::shrink::shrink;
 use compare::state::Case;
-use compare::{conclude, replay};
+use compare::{cases_or_replay, reached, replay};
 use lent::PCC;
 use std::path::Path;
 use std::process::ExitCode;
@@ -20,11 +20,7 @@ const CASES: u64 = 2_150_000;
 const PROVED: Machine = |state, call| call.on(state, proved::step, proved::run);
 
 fn main() -> ExitCode {
-    let options = Options::of_process(CASES);
-    conclude(options.and_then(|options| match &options.replay {
-        Some(file) => rerun(file),
-        None => run(&options),
-    }))
+    cases_or_replay(CASES, run, rerun)
 }
 
 fn run(options: &Options) -> Result<String, String> {
@@ -35,11 +31,7 @@ fn run(options: &Options) -> Result<String, String> {
         .map_err(|found| report(&table, seed, *found))?;
     let text = format!("{}\n{cases} cases of seed {seed}", coverage.table(&table));
     let faults = coverage.faults(&table);
-    if faults.is_empty() {
-        Ok(text)
-    } else {
-        Err(format!("{text}\n{}", faults.join("\n")))
-    }
+    reached(text, &faults)
 }
 
 /// A differing case, made smaller, as text to rerun.
