@@ -1,31 +1,43 @@
 #!/usr/bin/env bash
 # The speed programs: every step retires on both machines, and the proved machine needs no more of the
-# host's instructions for a step than the second program. Callgrind counts them, so that what else the
-# computer does changes nothing. The proved library is built by rt, or lies in the directory that
+# host's instructions for a step than the second program. The bounds lookup: the proved routine needs no
+# more than the second program's and than the tuned one. Callgrind counts them, so that what else the
+# computer does changes nothing. The proved libraries are built by rt, or lie in the directory that
 # ODDERSNOW_STATICLIB names.
 set -u
 source "$(dirname "$0")/lib/check.sh"
-steps=1000000
+each=1000000
 
 build() { (cd host && cargo build --offline --release -p speed); }
-count() { # ENGINE PROGRAM: writes the host's instructions for its run; the program itself asserts that every step retires
-  valgrind --tool=callgrind --callgrind-out-file=/dev/null host/target/release/speed "$1" "$2" 1 >"$work/out" 2>&1 || return 1
-  sed -n 's/.*Collected : //p' "$work/out" >"$work/$1.$2"
-  [ -s "$work/$1.$2" ]
+count() { # WORDS..: writes the host's instructions for each step or lookup; the program itself asserts that every step retires
+  local file
+  file=$(printf '.%s' "$@")
+  valgrind --tool=callgrind --callgrind-out-file=/dev/null host/target/release/speed "$@" 1 >"$work/out" 2>&1 || return 1
+  sed -n 's/.*Collected : //p' "$work/out" | awk -v each="$each" '{ print int($1 / each) }' >"$work/count$file"
+  [ -s "$work/count$file" ]
 }
-no_more() { # PROGRAM
-  local proved second
-  proved=$(cat "$work/proved.$1") && second=$(cat "$work/second.$1") && [ "$proved" -le "$second" ]
+no_more() { # COUNT COUNT
+  local left right
+  left=$(cat "$work/count$1") && right=$(cat "$work/count$2") && [ "$left" -le "$right" ]
 }
 
-check "the proved machine's library" library bench_api
+check "the proved libraries" library bench_api label
 check "the speed program builds" build
 check "valgrind is here" need valgrind valgrind
 for program in integer memory capability bounded multiply; do
   for engine in proved second; do
     check "every step of $program retires ($engine)" count "$engine" "$program"
-    echo "$engine, $program: $(($(cat "$work/$engine.$program") / steps)) instructions a step"
+    echo "$engine, $program: $(cat "$work/count.$engine.$program") instructions a step"
   done
-  check "the proved machine takes no more instructions for $program" no_more "$program"
+  check "the proved machine takes no more instructions for $program" no_more ".proved.$program" ".second.$program"
+done
+for kind in random whole exponent4 small; do
+  for routine in proved second tuned; do
+    check "lookups of $kind words ($routine)" count lookup "$routine" "$kind"
+    echo "$routine, $kind: $(cat "$work/count.lookup.$routine.$kind") instructions for low and high, the loop's 19 among them"
+  done
+  for routine in second tuned; do
+    check "the proved lookup takes no more instructions for $kind words ($routine)" no_more ".lookup.proved.$kind" ".lookup.$routine.$kind"
+  done
 done
 exit $bad

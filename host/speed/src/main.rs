@@ -1,9 +1,15 @@
-//! Steps a second of the proved machine and of the second program on long programs, in one process.
+//! Steps a second of the proved machine and of the second program on long programs, in one process, and
+//! lookups of bounds by the proved routine and by plain ones.
 //!
 //!   speed                      all programs on both, with their ratio
 //!   speed ENGINE PROGRAM STEPS one run and no times, for an instruction count by callgrind;
 //!                              ENGINE is proved or second, STEPS a number of millions
+//!   speed lookup               every routine on words of every kind, with their ratios
+//!   speed lookup ROUTINE KIND LOOKUPS
+//!                              lookups by one routine and no times; ROUTINE is proved, second or tuned,
+//!                              KIND random, whole, exponent4 or small, LOOKUPS a number of millions
 
+mod lookup;
 mod programs;
 
 use lent::{Run, MOST_STEPS};
@@ -58,19 +64,23 @@ fn engine(name: &str) -> Option<Run> {
     }
 }
 
-/// What one run of the command line asks for: a machine, a program, and a number of millions of steps.
-fn asked(arguments: &[String]) -> Option<(Run, &str, u32)> {
+/// Does what the command line asks for, if it asks for something that there is.
+fn asked(arguments: &[&str]) -> Option<()> {
     match arguments {
-        [name, program, millions] => Some((engine(name)?, program, millions.parse().ok()?)),
-        _ => None,
+        [] => compare_all(),
+        ["lookup"] => lookup::compare_all(),
+        ["lookup", name, kind, millions] => {
+            let sum = lookup::run(lookup::routine(name)?, kind, millions.parse().ok()?)?;
+            println!("{sum:016x}");
+        }
+        [name, program, millions] => run(engine(name)?, program, millions.parse().ok()?),
+        _ => return None,
     }
+    Some(())
 }
 
 fn main() {
     let arguments: Vec<String> = std::env::args().skip(1).collect();
-    match asked(&arguments) {
-        Some((engine, program, millions)) => run(engine, program, millions),
-        None if arguments.is_empty() => compare_all(),
-        None => panic!("speed, or speed proved|second PROGRAM MILLIONS"),
-    }
+    let arguments: Vec<&str> = arguments.iter().map(String::as_str).collect();
+    asked(&arguments).expect("speed [[lookup ROUTINE KIND | ENGINE PROGRAM] MILLIONS]");
 }
