@@ -16,7 +16,7 @@ ghost use Prim.Native.Nat.{_<_, _≤_};
 ghost use lib.Dec.{eqb};
 ghost use Rattle.bounds.specs.Bounds.{exponentOf, lowAt, highAt, boundsOf};
 
-// The exponent of a field E: a choice, with no branch.
+// The exponent of a field E: a choice, built as a conditional move.
 fn exponent(field: u32) -> u32
     requires { ⌜ field < 16 ⌝ }
     ensures { λ r. ⌜ (r ≡ exponentOf field) × (r ≤ 24) ⌝ }
