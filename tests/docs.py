@@ -280,7 +280,7 @@ def itself(tree):
     yield from differing(tree, "docs/MADE-UP.md", text, FOUND)
     mended = text.replace("`to the\nnext line`", "to the\nnext line")
     yield from differing(tree, "docs/MADE-UP.md", mended, [f.replace("OTHER", other) for f in FOUND + WHOLE if "backticks" not in f])
-    crate, name = min(tree.edits).split("/")
+    crate, name = next(e.split("/") for e in sorted(tree.edits) if tree.public(e.split("/")[0]))
     function = tree.public(crate)[0]
     lost = re.sub(rf"(?m)^\| `{function}` \|", "| `main` |", read("docs/PROMISES.md").replace(name, "a_lost_edit"))
     said = [text for _, text in promises(tree, Document("docs/PROMISES.md", lost))]

@@ -129,7 +129,7 @@ fn first(random: &mut Random, row: &Row) -> u32 {
         (Aim::Load(_) | Aim::Store(_), 1..=6) => POOL_WRITER,
         (Aim::SetAddress, 1 | 2) => SEALER,
         (Aim::Special, 1..=3) => 0,
-        (Aim::Compare, _) => number(random),
+        (Aim::Compare | Aim::Extremes, _) => number(random),
         _ => carrier(random),
     }
 }
