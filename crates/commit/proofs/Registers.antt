@@ -14,7 +14,7 @@ use Rattle.capability.specs.declared.Capability.{Capability}
 use Rattle.instructions.specs.declared.Csr.the-variants.{Mstatus, Mcause, Mtval}
 use Rattle.state.specs.Layout.{capabilityWords, generalCount, pccIndex, mtccIndex, mepccIndex, csrIndex, scrIndex}
 use Rattle.state.specs.Registers.{capabilityAt, pccOf, mstatusOf, setCapability, writeRegister}
-use Rattle.state.specs.Addresses.{nextAddress, legalized}
+use Rattle.state.specs.Addresses.{nextAddress, vectorAlignment, returnAlignment, legalized}
 use Rattle.state.specs.Status.{trapStatus}
 use Rattle.state.specs.declared.Effect.{Effect}
 use Rattle.state.specs.declared.Effect.the-variants.{Advance, Write, Store, StoreCapability, Jump, WriteScr, WriteCsr, Trap}
@@ -37,8 +37,8 @@ Written P rd c = 1 ≤ rd % generalCount → Holds P (rd % generalCount) c
 -- a rule that PCC's move and a trap's entry keep
 pub record Rule (P : ℕ → ℕ → Type 0) : Type 0 where
   pub moved : (c : Capability) (a : ℕ) → a < 2 ^ 32 → Holds P pccIndex c → Holds P pccIndex (moveOf c a)
-  pub saved : (c : Capability) → Holds P pccIndex c → Holds P mepccIndex (legalized c)
-  pub entered : (c : Capability) → Holds P mtccIndex c → Holds P pccIndex (legalized c)
+  pub saved : (c : Capability) → Holds P pccIndex c → Holds P mepccIndex (legalized returnAlignment c)
+  pub entered : (c : Capability) → Holds P mtccIndex c → Holds P pccIndex (legalized vectorAlignment c)
   pub status : (m : ℕ) → P (csrIndex Mstatus) m → P (csrIndex Mstatus) (trapStatus m)
 
 -- what an effect writes keeps the rule

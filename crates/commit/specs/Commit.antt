@@ -12,7 +12,7 @@ use Rattle.instructions.specs.declared.Csr.the-variants.{Mstatus, Mcause, Mtval
 use Rattle.instructions.specs.declared.Scr.{Scr}
 use Rattle.state.specs.Layout.{pccIndex, mtccIndex, mepccIndex, csrIndex, scrIndex}
 use Rattle.state.specs.Registers.{capabilityAt, setCapability, writeRegister, pccOf, mstatusOf}
-use Rattle.state.specs.Addresses.{nextAddress, legalized}
+use Rattle.state.specs.Addresses.{nextAddress, vectorAlignment, returnAlignment, legalized}
 use Rattle.state.specs.Status.{trapStatus}
 use Rattle.state.specs.Lent.{State, state}
 use Rattle.state.specs.Memory.{granuleBytes}
@@ -26,12 +26,12 @@ use Rattle.state.specs.declared.Effect.the-variants.{Advance, Write, Store, Sto
 unfoldable pub advanced : (bytes : ℕ) → (regs : List ℕ) → List ℕ
 advanced n regs = setCapability regs pccIndex (moveOf (pccOf regs) (nextAddress n regs))
 
--- Trap entry: MEPCC := PCC and PCC := MTCC, both legalized; MPIE := MIE, MIE := 0; mcause and mtval. No trap is vectored.
+-- Trap entry: MEPCC := PCC and PCC := MTCC, each legalized; MPIE := MIE, MIE := 0; mcause and mtval. No trap is vectored.
 unfoldable pub trapped : (regs : List ℕ) → (cause value : ℕ) → List ℕ
 trapped regs cause value =
     set
     (set
-    (set (setCapability (setCapability regs mepccIndex (legalized (pccOf regs))) pccIndex (legalized (capabilityAt regs mtccIndex))) (csrIndex Mstatus)
+    (set (setCapability (setCapability regs mepccIndex (legalized returnAlignment (pccOf regs))) pccIndex (legalized vectorAlignment (capabilityAt regs mtccIndex))) (csrIndex Mstatus)
     (trapStatus (mstatusOf regs)))
     (csrIndex Mcause) cause)
     (csrIndex Mtval) value

@@ -40,8 +40,8 @@ fn set_csrs(regs: &mut [u32], mstatus: u32, cause: u32, value: u32)
 fn enter_trap(regs: &mut [u32], cause: u32, value: u32)
     ensures { λ _. ⌜ now (regs .exit) ≡ trapped (now (regs .entry)) cause value ⌝ }
 {
-    let from = state::legalize(state::pcc_of(regs));
-    let to = state::legalize(state::capability_at(regs, MTCC_INDEX));
+    let from = state::return_address(state::pcc_of(regs));
+    let to = state::vector(state::capability_at(regs, MTCC_INDEX));
     let mstatus = state::trap_status(state::csr_at(regs, Csr::Mstatus));
     state::set_capability(regs, MEPCC_INDEX, from);
     state::set_capability(regs, PCC_INDEX, to);

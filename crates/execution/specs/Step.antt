@@ -1,22 +1,20 @@
--- One step: fetch, decode, effect, commit; nothing is refused. Document 01, "Traps"; CHERIoT report, 7.5. Assumes nothing.
+-- One step: fetch, decode, effect, commit; nothing is refused. Document 01, "Traps"; document 02, 3; CHERIoT report, 7.5. Assumes nothing.
 use mathlib.Core.List.{List}
 use Prim.Native.Nat.{ℕ}
-use lib.ListN.{length}
-use Rattle.words.specs.Words.{leBytes}
-use Rattle.metadata.specs.Rights.{EX}
 use Rattle.instructions.specs.Decode.{decodeOf}
 use Rattle.instructions.specs.declared.Instruction.{Instruction}
 use Rattle.instructions.specs.declared.Instruction.the-variants.{Integer, Jump, Memory, Capability, System, Illegal}
-use Rattle.state.specs.Registers.{pccOf, pcOf}
-use Rattle.state.specs.Addresses.{instructionBytes}
+use Rattle.short_forms.specs.Long.{longForm}
+use Rattle.short_forms.specs.Standing.{halfBytes, longBytes}
+use Rattle.state.specs.Registers.{pccOf}
 use Rattle.state.specs.Lent.{Lent, lent, State}
-use Rattle.state.specs.Memory.{placeOf}
-use Rattle.state.specs.Checks.{checked, accessCause, pccRegister, executeCause, illegalInstruction, fetchMisaligned, fetchFault}
+use Rattle.state.specs.Checks.{illegalInstruction}
 use Rattle.state.specs.declared.Board.{Board}
-use Rattle.state.specs.declared.Place.{Place}
-use Rattle.state.specs.declared.Place.the-variants.{At, Misaligned, Outside}
 use Rattle.state.specs.declared.Effect.{Effect}
 use Rattle.state.specs.declared.Effect.the-variants.{Trap}
+use Rattle.fetch.specs.Fetch.{fetchOf}
+use Rattle.fetch.specs.declared.Fetched.{Fetched}
+use Rattle.fetch.specs.declared.Fetched.the-variants.{Long, Half, Fault}
 use Rattle.integer_instructions.specs.Integer.{integerEffect}
 use Rattle.memory_instructions.specs.Access.{memoryEffect}
 use Rattle.jump_instructions.specs.Jumps.{jumpEffect}
@@ -33,26 +31,44 @@ effectOf bytes (Capability i) word regs m = capabilityEffect i regs
 effectOf bytes (System i) word regs m = systemEffect i regs
 effectOf bytes Illegal word regs m = Trap illegalInstruction word
 
--- the fetch after the checks of PCC: alignment, then access
-unfoldable pub fetchedAt : Place → (regs : List ℕ) → Lent → Effect
-fetchedAt Misaligned regs m = Trap fetchMisaligned (pcOf regs)
-fetchedAt Outside regs m = Trap fetchFault (pcOf regs)
-fetchedAt (At i) regs m = effectOf instructionBytes (decodeOf (leBytes instructionBytes (m .mem) i)) (leBytes instructionBytes (m .mem) i) regs m
+-- What was fetched, as an instruction: a half is decoded as its long form.
+unfoldable pub instructionIn : Fetched → Instruction
+instructionIn (Fault cause value) = Illegal
+instructionIn (Long w) = decodeOf w
+instructionIn (Half h) = decodeOf (longForm h)
 
--- where the check of PCC gave that cause, or 0
-abbrev pub fetched : (cause pc : ℕ) → (regs : List ℕ) → Lent → Effect
-fetched cause pc regs m = checked pccRegister cause (fetchedAt (placeOf (m .board .start) (length (m .mem)) pc instructionBytes) regs m)
+-- what stands in mtval where that is illegal
+unfoldable pub wordIn : Fetched → ℕ
+wordIn (Fault cause value) = 0
+wordIn (Long w) = w
+wordIn (Half h) = h
 
--- what the next step does: PCC's tag, seal, execute right and bounds come first
-unfoldable pub nextEffect : (regs : List ℕ) → Lent → Effect
-nextEffect regs m = fetched (accessCause (pccOf regs) EX executeCause (pcOf regs) instructionBytes) (pcOf regs) regs m
+-- how far PCC moves where the instruction moves on
+unfoldable pub lengthIn : Fetched → ℕ
+lengthIn (Fault cause value) = 0
+lengthIn (Long w) = longBytes
+lengthIn (Half h) = halfBytes
+
+-- the trap of a fetch that failed, else the effect
+unfoldable pub trapOr : Fetched → Effect → Effect
+trapOr (Fault cause value) e = Trap cause value
+trapOr (Long w) e = e
+trapOr (Half h) e = e
+
+-- what a fetch leads to
+unfoldable pub effectIn : Fetched → (regs : List ℕ) → Lent → Effect
+effectIn f regs m = trapOr f (effectOf (lengthIn f) (instructionIn f) (wordIn f) regs m)
 
 -- the memory, its tags and what is only read, as an effect sees them
 abbrev pub seen : Board → (revoked : List ℕ) → State → Lent
 seen board revoked s = lent board (s .mem) (s .tags) revoked
 
+-- what the next step fetches, what it does, and what it leaves
+abbrev pub fetchedIn : Board → State → Fetched
+fetchedIn board s = fetchOf (pccOf (s .regs)) (board .start) (s .mem)
+
 abbrev pub effectAt : Board → (revoked : List ℕ) → State → Effect
-effectAt board revoked s = nextEffect (s .regs) (seen board revoked s)
+effectAt board revoked s = effectIn (fetchedIn board s) (s .regs) (seen board revoked s)
 
 unfoldable pub stepOf : Board → (revoked : List ℕ) → State → State
-stepOf board revoked s = applyEffect instructionBytes (effectAt board revoked s) s
+stepOf board revoked s = applyEffect (lengthIn (fetchedIn board s)) (effectAt board revoked s) s

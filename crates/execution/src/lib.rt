@@ -1,20 +1,15 @@
 // One step: fetch, decode, effect, commit.
 ghost use mathlib.Core.Path.{_≡_};
-ghost use Rattle.state.specs.Registers.{pcOf};
 ghost use Rattle.state.specs.Lent.{lent, state};
 ghost use Rattle.commit.specs.Commit.{retires};
-ghost use Rattle.execution.specs.Step.{effectOf, fetchedAt, fetched, nextEffect, effectAt, stepOf};
+ghost use Rattle.execution.specs.Step.{effectOf, instructionIn, wordIn, lengthIn, trapOr, effectIn, effectAt, stepOf};
+use fetch::Fetched;
 use instructions::Instruction;
+use short_forms::HALF_BYTES;
+use short_forms::LONG_BYTES;
 use state::Board;
-use state::EXECUTE_CAUSE;
 use state::Effect;
-use state::FETCH_FAULT;
-use state::FETCH_MISALIGNED;
 use state::ILLEGAL_INSTRUCTION;
-use state::INSTRUCTION_BYTES;
-use state::NO_CAUSE;
-use state::PCC_REGISTER;
-use state::Place;
 
 // What an instruction of some bytes does.
 fn execute(
@@ -44,80 +39,72 @@ fn execute(
     }
 }
 
-// What the instruction at a place does.
-fn fetched_at(
-    p: Place,
+// What was fetched, as an instruction: a half by its long form.
+fn instruction_in(f: Fetched) -> Instruction
+    ensures { λ r. ⌜ r ≡ instructionIn f ⌝ }
+{
+    match f {
+        Fetched::Fault { cause: _, value: _ } => Instruction::Illegal,
+        Fetched::Long(word) => instructions::decode(word),
+        Fetched::Half(half) => short_forms::instruction_of(half),
+    }
+}
+
+// What stands in mtval where it is illegal.
+fn word_in(f: Fetched) -> u32
+    ensures { λ r. ⌜ r ≡ wordIn f ⌝ }
+{
+    match f {
+        Fetched::Fault { cause: _, value: _ } => 0,
+        Fetched::Long(word) => word,
+        Fetched::Half(half) => half,
+    }
+}
+
+// How far PCC moves where it moves on.
+fn length_in(f: Fetched) -> u32
+    ensures { λ r. ⌜ r ≡ lengthIn f ⌝ }
+{
+    match f {
+        Fetched::Fault { cause: _, value: _ } => 0,
+        Fetched::Long(_) => LONG_BYTES,
+        Fetched::Half(_) => HALF_BYTES,
+    }
+}
+
+// The trap of a fetch that failed, else the effect.
+fn trap_or(f: Fetched, e: Effect) -> Effect
+    ensures { λ r. ⌜ r ≡ trapOr f e ⌝ }
+{
+    match f {
+        Fetched::Fault { cause, value } => Effect::Trap { cause, value },
+        Fetched::Long(_) => e,
+        Fetched::Half(_) => e,
+    }
+}
+
+// What a fetch leads to. One call of `execute` serves both lengths, so that its code stands once.
+fn effect_in(
+    f: Fetched,
     regs: &[u32],
     board: Board,
     mem: &[u8],
     tags: &[u8],
     revoked: &[u8],
 ) -> Effect
-    ensures { λ r. ⌜ r ≡ fetchedAt p (now (regs .entry)) (lent board (now (mem .entry)) (now (tags .entry)) (now (revoked .entry))) ⌝ }
+    ensures { λ r. ⌜ r ≡ effectIn f (now (regs .entry)) (lent board (now (mem .entry)) (now (tags .entry)) (now (revoked .entry))) ⌝ }
 {
-    match p {
-        Place::Misaligned => fetch_trap(FETCH_MISALIGNED, regs),
-        Place::Outside => fetch_trap(FETCH_FAULT, regs),
-        Place::At(at) => {
-            let word = words::load32(mem, at as usize);
-            execute(
-                INSTRUCTION_BYTES,
-                instructions::decode(word),
-                word,
-                regs,
-                board,
-                mem,
-                tags,
-                revoked,
-            )
-        }
-    }
-}
-
-// A fetch that traps with PCC's address.
-fn fetch_trap(cause: u32, regs: &[u32]) -> Effect
-    ensures { λ r. ⌜ r ≡ Effect.Trap cause (pcOf (now (regs .entry))) ⌝ }
-{
-    let pcc = state::pcc_of(regs);
-    Effect::Trap {
-        cause,
-        value: pcc.address,
-    }
-}
-
-// What the next step does where the check of PCC, whose address is pc, gave a cause, or 0.
-fn fetch(
-    cause: u32,
-    pc: u32,
-    regs: &[u32],
-    board: Board,
-    mem: &[u8],
-    tags: &[u8],
-    revoked: &[u8],
-) -> Effect
-    ensures { λ r. ⌜ r ≡ fetched cause pc (now (regs .entry)) (lent board (now (mem .entry)) (now (tags .entry)) (now (revoked .entry))) ⌝ }
-{
-    if cause == NO_CAUSE {
-        let place = state::place_of(board.start, mem.len(), pc, INSTRUCTION_BYTES);
-        fetched_at(place, regs, board, mem, tags, revoked)
-    } else {
-        state::capability_trap(PCC_REGISTER, cause)
-    }
-}
-
-// What the next step does.
-fn next_effect(regs: &[u32], board: Board, mem: &[u8], tags: &[u8], revoked: &[u8]) -> Effect
-    ensures { λ r. ⌜ r ≡ nextEffect (now (regs .entry)) (lent board (now (mem .entry)) (now (tags .entry)) (now (revoked .entry))) ⌝ }
-{
-    let pcc = state::pcc_of(regs);
-    let cause = state::access_cause(
-        pcc,
-        metadata::EX,
-        EXECUTE_CAUSE,
-        pcc.address,
-        INSTRUCTION_BYTES,
+    let e = execute(
+        length_in(f),
+        instruction_in(f),
+        word_in(f),
+        regs,
+        board,
+        mem,
+        tags,
+        revoked,
     );
-    fetch(cause, pcc.address, regs, board, mem, tags, revoked)
+    trap_or(f, e)
 }
 
 // One step. Nothing is refused: what lies outside a buffer reads as 0 and is not written. Answers whether the instruction retires.
@@ -132,6 +119,7 @@ pub fn take_step(
         × (state (now (regs .exit)) (now (mem .exit)) (now (tags .exit))
         ≡ stepOf board (now (revoked .entry)) (state (now (regs .entry)) (now (mem .entry)) (now (tags .entry)))) ⌝ }
 {
-    let e = next_effect(regs, board, mem, tags, revoked);
-    commit::commit_effect(regs, mem, tags, INSTRUCTION_BYTES, e)
+    let f = fetch::fetch(state::pcc_of(regs), board.start, mem);
+    let e = effect_in(f, regs, board, mem, tags, revoked);
+    commit::commit_effect(regs, mem, tags, length_in(f), e)
 }

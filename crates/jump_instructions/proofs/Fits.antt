@@ -16,7 +16,7 @@ use Rattle.instructions.specs.declared.JumpInstruction.the-variants.{Jal, Jalr,
 use Rattle.instructions.specs.declared.Csr.the-variants.{Mstatus}
 use Rattle.state.specs.Layout.{mepccIndex}
 use Rattle.state.specs.Registers.{registerAt, capabilityAt, pccOf, mstatusOf}
-use Rattle.state.specs.Addresses.{targetAlignment}
+use Rattle.state.specs.Addresses.{targetAlignment, returnAlignment}
 use Rattle.state.specs.Status.{MIE}
 use Rattle.state.specs.Checks.{fetchMisaligned, checked}
 use Rattle.state.specs.Fits.{FitsRegisters, FitsEffect}
@@ -67,7 +67,7 @@ module _ (bytes : ℕ) (regs : List ℕ) (h : FitsRegisters regs) where
   unfolding mretEffect
   mret-fits =
       checked-fits _ _ _ (
-        (integer-good 0 (omega arith), legalized-fits (capabilityAt regs mepccIndex) (capability-fits regs h mepccIndex (omega arith))),
+        (integer-good 0 (omega arith), legalized-fits returnAlignment (capabilityAt regs mepccIndex) (capability-fits regs h mepccIndex (omega arith))),
         return-status-fits (mstatusOf regs) mstatus-fits,
       )
 

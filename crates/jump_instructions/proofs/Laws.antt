@@ -13,7 +13,7 @@ use Rattle.instructions.specs.declared.JumpInstruction.{JumpInstruction}
 use Rattle.instructions.specs.declared.JumpInstruction.the-variants.{Jal, Jalr, Branch, Mret}
 use Rattle.state.specs.Layout.{mepccIndex}
 use Rattle.state.specs.Registers.{registerAt, capabilityAt, pccOf, mstatusOf}
-use Rattle.state.specs.Addresses.{targetAlignment}
+use Rattle.state.specs.Addresses.{targetAlignment, returnAlignment}
 use Rattle.state.specs.Checks.{fetchMisaligned, checked}
 use Rattle.state.specs.Effects.{Storeless, GoodTag, GoodTags, GoodEffect}
 use Rattle.state.specs.declared.Effect.{Effect}
@@ -73,7 +73,7 @@ taken-good target regs h = targeted GoodEffect _ _ target _ (λ n v. tt) (omega 
 mret-good : (regs : List ℕ) → GoodTags regs → GoodEffect (mretEffect regs)
 unfolding mretEffect
 mret-good regs h =
-    checked-holds GoodEffect _ _ _ (λ n v. tt) (omega arith, legalized-tag (capabilityAt regs mepccIndex) (capability-tag regs mepccIndex (omega arith) h))
+    checked-holds GoodEffect _ _ _ (λ n v. tt) (omega arith, legalized-tag returnAlignment (capabilityAt regs mepccIndex) (capability-tag regs mepccIndex (omega arith) h))
 
 pub jump-good : (bytes : ℕ) (i : JumpInstruction) (regs : List ℕ) → GoodTags regs → GoodEffect (jumpEffect bytes i regs)
 unfolding jumpEffect

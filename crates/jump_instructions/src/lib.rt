@@ -219,7 +219,7 @@ fn branch(takes: bool, offset: u32, regs: &[u32]) -> Effect
 fn mret(regs: &[u32]) -> Effect
     ensures { λ r. ⌜ r ≡ mretEffect (now (regs .entry)) ⌝ }
 {
-    let back = state::legalize(state::capability_at(regs, MEPCC_INDEX));
+    let back = state::return_address(state::capability_at(regs, MEPCC_INDEX));
     let mstatus = state::return_status(state::csr_at(regs, Csr::Mstatus));
     state::checked_effect(
         PCC_REGISTER,

@@ -1,6 +1,7 @@
 -- What is read from good registers and bytes is good, a check's trap writes words, and mstatus stays a word. Assumes nothing.
 use mathlib.Core.List.{List}
 use Prim.Native.Nat.{ℕ, _*_, _/_, _%_, _+_, _<_}
+use native.Mathlib.Nat.{div-mul-le-self}
 use native.Mathlib.Omega.{arith}
 use lib.Dec.{eqb}
 use Rattle.words.specs.Words.{Bytes, withBit}
@@ -13,7 +14,7 @@ use Rattle.instructions.specs.Range.{Word}
 use Rattle.instructions.specs.declared.Csr.{Csr}
 use Rattle.state.specs.Layout.{capabilityWords, generalCount, capabilityCount, pccIndex, csrIndex}
 use Rattle.state.specs.Registers.{capabilityAt, registerAt, integerAt, pccOf, csrAt}
-use Rattle.state.specs.Addresses.{vectorAlignment, legalized}
+use Rattle.state.specs.Addresses.{legalized}
 use Rattle.state.specs.Status.{MIE, MPIE, trapStatus, returnStatus, writtenStatus}
 use Rattle.state.specs.Memory.{capabilityIn}
 use Rattle.state.specs.Checks.{checked, capabilityTrap}
@@ -55,9 +56,9 @@ capability-in-fits mem tags i b =
 
 -- ---- what is written
 
-pub legalized-fits : (c : Capability) → Good c → Good (legalized c)
+pub legalized-fits : (unit : ℕ) (c : Capability) → Good c → Good (legalized unit c)
 unfolding legalized
-legalized-fits c g = move-good c (c .address / vectorAlignment * vectorAlignment) g (omega (arith, g .address-fits))
+legalized-fits unit c g = move-good c (c .address / unit * unit) g (omega (arith, div-mul-le-self (c .address) unit, g .address-fits))
 
 -- mstatus with another MIE, MPIE or both
 pub mie-fits : (m v : ℕ) → Word m → Word (withBit m MIE v)

@@ -6,8 +6,9 @@ use mathlib.Core.List.{List}
 use Prim.Native.Nat.{ℕ, _+_, _-_, _*_, _/_, _%_, _≤_, _<_}
 use native.Mathlib.Omega.{arith}
 use lib.Dec.{eqb, leb}
-use borrow.Author.Tests.{eqb-true, leb-true}
+use borrow.Author.Tests.{eqb-true, leb-true, leb-false, eq-eqb, ne-eqb, le-leb, lt-leb}
 use Rattle.words.proofs.Bits.{bitAt-bit}
+use Rattle.words.proofs.Word.{by-test}
 use Rattle.capability.specs.declared.Capability.{Capability}
 use Rattle.capability.proofs.Laws.{Kept, kept-le, move-kept}
 use Rattle.instructions.specs.declared.StoreKind.{StoreKind}
@@ -44,6 +45,25 @@ pub storeless-within : (size : ℕ) (e : Effect) → Storeless e → StoresWithi
 storeless-within size e h = nothing-within size (storedBy e) h
 
 -- ---- places
+
+-- an access that is not aligned; one below memory; and from memory's start on, by the place counted from there
+pub place-misaligned : (start size a w : ℕ) → (a % w ≡ 0 → ⊥) → placeOf start size a w ≡ Misaligned
+unfolding placeOf
+place-misaligned start size a w n = rw (ne-eqb (a % w) 0 n) refl
+
+pub place-below : (start size a w : ℕ) → a % w ≡ 0 → a < start → placeOf start size a w ≡ Outside
+unfolding placeOf
+place-below start size a w e l = rw (eq-eqb (a % w) 0 e, lt-leb start a l) refl
+
+pub place-from : (start size a w : ℕ) → a % w ≡ 0 → start ≤ a → placeOf start size a w ≡ cond (leb (a - start + w) size) (At (a - start)) Outside
+unfolding placeOf
+place-from start size a w e l = rw (eq-eqb (a % w) 0 e, le-leb start a l, same-test) refl
+  where
+    same-test : leb (a + w) (start + size) ≡ leb (a - start + w) size
+    same-test =
+        by-test (leb (a - start + w) size)
+        (λ t. rw t (le-leb (a + w) (start + size) (omega (arith, leb-true (a - start + w) size t))))
+        (λ t. rw t (lt-leb (a + w) (start + size) (omega (arith, leb-false (a - start + w) size t))))
 
 -- the widths of accesses
 abbrev pub Width : ℕ → Type 0
@@ -119,9 +139,9 @@ register-tag regs r h = capability-tag regs (r % generalCount) (omega arith) h
 pub pcc-tag : (regs : List ℕ) → GoodTags regs → GoodTag (pccOf regs)
 pcc-tag regs h = capability-tag regs pccIndex (omega arith) h
 
-pub legalized-tag : (c : Capability) → GoodTag c → GoodTag (legalized c)
+pub legalized-tag : (unit : ℕ) (c : Capability) → GoodTag c → GoodTag (legalized unit c)
 unfolding legalized
-legalized-tag c h = kept-good c (legalized c) (move-kept c _) h
+legalized-tag unit c h = kept-good c (legalized unit c) (move-kept c _) h
 
 pub capability-in-tag : (mem tags : List ℕ) (i : ℕ) → GoodTag (capabilityIn mem tags i)
 unfolding capabilityIn

@@ -6,7 +6,8 @@ mod memory;
 mod registers;
 mod status;
 
-pub use addresses::legalize;
+pub use addresses::return_address;
+pub use addresses::vector;
 use capability::Capability;
 pub use checks::access_cause;
 pub use checks::bounds_cause;
@@ -63,15 +64,15 @@ pub const MSCRATCHC_INDEX: u32 = GENERAL_COUNT + 3;
 
 pub const MEPCC_INDEX: u32 = GENERAL_COUNT + 4;
 
-// The bytes of an instruction, those that a jump's target must have in bounds, and what its address is a multiple of.
-pub const INSTRUCTION_BYTES: u32 = 4;
+// The bytes that a jump's target must have in bounds, those of the shortest instruction, and what its address is a multiple of.
+pub const TARGET_BYTES: u32 = 2;
 
-pub const TARGET_BYTES: u32 = 4;
+pub const TARGET_ALIGNMENT: u32 = 2;
 
-pub const TARGET_ALIGNMENT: u32 = 4;
-
-// What an address of MTCC or MEPCC is cut to where it is used.
+// What an address of MTCC is cut to where it is used, and what an address of MEPCC is.
 pub const VECTOR_ALIGNMENT: u32 = 4;
+
+pub const RETURN_ALIGNMENT: u32 = 2;
 
 // The bytes of a granule, which has one tag and one revocation bit; and as an index of a buffer.
 pub const GRANULE_BYTES: u32 = 8;

@@ -20,6 +20,7 @@ use Rattle.state.specs.Layout.{generalCount, scrIndex}
 use Rattle.state.specs.Registers.{capabilityAt, registerAt, csrAt}
 use Rattle.state.specs.Fits.{FitsRegisters, FitsEffect}
 use Rattle.state.specs.declared.Effect.the-variants.{Write, WriteScr}
+use Rattle.state.specs.Addresses.{vectorAlignment, returnAlignment}
 use Rattle.state.proofs.Laws.{cond-holds}
 use Rattle.state.proofs.Fits.{checked-fits, capability-fits, register-fits, integer-fits, csr-fits, legalized-fits, written-status-fits}
 use Rattle.system_instructions.specs.System.{csrAsked, csrWritten, csrEffect, scrValue, specialWrite, specialEffect, systemEffect}
@@ -38,10 +39,10 @@ written-fits Mtval old asked h k = k
 
 scr-fits : (scr : Scr) (c : Capability) → Good c → Good (scrValue scr c)
 unfolding scrValue
-scr-fits Mtcc c g = legalized-fits c g
+scr-fits Mtcc c g = legalized-fits vectorAlignment c g
 scr-fits Mtdc c g = g
 scr-fits Mscratchc c g = g
-scr-fits Mepcc c g = legalized-fits c g
+scr-fits Mepcc c g = legalized-fits returnAlignment c g
 
 write-fits : (scr : Scr) (rd rs1 : ℕ) (old value : Capability) → Good old → Good value → FitsEffect (specialWrite scr rd rs1 old value)
 unfolding specialWrite

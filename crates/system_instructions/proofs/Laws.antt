@@ -13,6 +13,7 @@ use Rattle.state.specs.Layout.{generalCount, capabilityCount, scrIndex}
 use Rattle.state.specs.Registers.{capabilityAt, registerAt}
 use Rattle.state.specs.Effects.{Storeless, GoodTag, GoodTags, GoodEffect}
 use Rattle.state.specs.declared.Effect.the-variants.{Write, WriteScr}
+use Rattle.state.specs.Addresses.{vectorAlignment, returnAlignment}
 use Rattle.state.proofs.Laws.{cond-holds, checked-holds, capability-tag, register-tag, legalized-tag}
 use Rattle.system_instructions.specs.System.{csrEffect, scrValue, specialWrite, specialEffect, systemEffect}
 
@@ -38,10 +39,10 @@ scr-in-file Mepcc = omega arith
 
 scr-tag : (scr : Scr) (c : Capability) → GoodTag c → GoodTag (scrValue scr c)
 unfolding scrValue
-scr-tag Mtcc c h = legalized-tag c h
+scr-tag Mtcc c h = legalized-tag vectorAlignment c h
 scr-tag Mtdc c h = h
 scr-tag Mscratchc c h = h
-scr-tag Mepcc c h = legalized-tag c h
+scr-tag Mepcc c h = legalized-tag returnAlignment c h
 
 write-good : (scr : Scr) (rd rs1 : ℕ) (old value : Capability) → GoodTag old → GoodTag value → GoodEffect (specialWrite scr rd rs1 old value)
 unfolding specialWrite

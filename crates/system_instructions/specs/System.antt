@@ -16,7 +16,7 @@ use Rattle.instructions.specs.declared.SystemInstruction.{SystemInstruction}
 use Rattle.instructions.specs.declared.SystemInstruction.the-variants.{Fence, Wfi, Ecall, Ebreak, CsrRegister, CsrImmediate, SpecialRw}
 use Rattle.state.specs.Layout.{generalCount, scrIndex, scrNumber}
 use Rattle.state.specs.Registers.{registerAt, integerAt, capabilityAt, pccOf, csrAt}
-use Rattle.state.specs.Addresses.{legalized}
+use Rattle.state.specs.Addresses.{vectorAlignment, returnAlignment, legalized}
 use Rattle.state.specs.Status.{writtenStatus}
 use Rattle.state.specs.Checks.{checked, systemAccess, pccRegister, breakpoint, environmentCall}
 use Rattle.state.specs.declared.Effect.{Effect}
@@ -43,10 +43,10 @@ csrEffect kind csr rd operand regs =
 
 -- a special register read or written: MTCC and MEPCC by the address-move rule
 unfoldable pub scrValue : Scr → Capability → Capability
-scrValue Mtcc c = legalized c
+scrValue Mtcc c = legalized vectorAlignment c
 scrValue Mtdc c = c
 scrValue Mscratchc c = c
-scrValue Mepcc c = legalized c
+scrValue Mepcc c = legalized returnAlignment c
 
 -- CSpecialRW: cd takes the special register's value, and the special register cs1's where cs1 is not c0
 unfoldable pub specialWrite : Scr → (rd rs1 : ℕ) → (old value : Capability) → Effect

@@ -57,10 +57,10 @@ fn scr_value(scr: Scr, c: Capability) -> Capability
     ensures { λ r. ⌜ r ≡ scrValue scr c ⌝ }
 {
     match scr {
-        Scr::Mtcc => state::legalize(c),
+        Scr::Mtcc => state::vector(c),
         Scr::Mtdc => c,
         Scr::Mscratchc => c,
-        Scr::Mepcc => state::legalize(c),
+        Scr::Mepcc => state::return_address(c),
     }
 }
 

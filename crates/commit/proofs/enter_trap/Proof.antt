@@ -18,9 +18,9 @@ returns c =
     (simp (
       status .trap-status .ensures,
       status .before .csr-at .ensures,
-      to .legalize2 .ensures,
+      to .vector .ensures,
       to .before .capability-at .ensures,
-      from .legalize .ensures,
+      from .return-address .ensures,
       from .before .pcc-of .ensures,
     ))
 

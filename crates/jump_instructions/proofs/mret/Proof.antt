@@ -15,7 +15,7 @@ returns c =
       c3 .pcc-of .ensures,
       c3 .before .return-status .ensures,
       c3 .before .before .csr-at .ensures,
-      c6 .legalize .ensures,
+      c6 .return-address .ensures,
       c6 .before .capability-at .ensures,
     )
 

@@ -5,7 +5,7 @@ use Rattle.system_instructions.proofs.scr_value.Tie as tie
 
 returns : tie.Need-returns
 unfolding scrValue
-returns c = simp (c .legalize .ensures, c .before .enum-told .given .1)
+returns c = simp (c .vector .ensures, c .before .enum-told .given .1)
 
 returns-2 : tie.Need-returns-2
 unfolding scrValue
@@ -17,7 +17,7 @@ returns-3 c = simp (c .enum-told3 .given .1)
 
 returns-4 : tie.Need-returns-4
 unfolding scrValue
-returns-4 c = simp (c .legalize2 .ensures, c .before .enum-told4 .given .1)
+returns-4 c = simp (c .return-address .ensures, c .before .enum-told4 .given .1)
 
 pub scr-value-spec : {M : Type 1} → statement M
 scr-value-spec =
