@@ -29,7 +29,7 @@ use Rattle.instructions.specs.declared.Instruction.{Instruction}
 use Rattle.instructions.specs.declared.Instruction.the-variants as Instruction
 use Rattle.state.specs.Layout.{generalCount, pccIndex, mepccIndex, scrIndex}
 use Rattle.state.specs.Registers.{capabilityAt, registerAt, integerAt, pccOf, mstatusOf}
-use Rattle.state.specs.Addresses.{targetAlignment}
+use Rattle.state.specs.Addresses.{targetAlignment, vectorAlignment, returnAlignment}
 use Rattle.state.specs.Lent.{Lent}
 use Rattle.state.specs.Memory.{loadWidth, storeWidth, placeOf, capabilityIn, granuleBytes}
 use Rattle.state.specs.Checks.{checked, fetchMisaligned}
@@ -98,10 +98,10 @@ module _ (P : Capability → Type 0) (closed : Closed P) where
 
   scr-carried : (scr : Scr) (c : Capability) → P c → P (scrValue scr c)
   unfolding scrValue
-  scr-carried Mtcc c h = closed .derived (legalized-from c) h
+  scr-carried Mtcc c h = closed .derived (legalized-from vectorAlignment c) h
   scr-carried Mtdc c h = h
   scr-carried Mscratchc c h = h
-  scr-carried Mepcc c h = closed .derived (legalized-from c) h
+  scr-carried Mepcc c h = closed .derived (legalized-from returnAlignment c) h
 
   special-carried : (scr : Scr) (rd rs1 : ℕ) (old value : Capability) → P old → P value → EachCapability P (specialWrite scr rd rs1 old value)
   unfolding specialWrite
@@ -136,7 +136,7 @@ module _ (P : Capability → Type 0) (closed : Closed P) where
         (closed .derived (link-from bytes (pccOf regs) (mstatusOf regs)) pcc, closed .derived (target-from (registerAt regs rs1) _) (general rs1))
     jump-carried bytes (Jumps.Branch kind rs1 rs2 offset) = branch-carried _ _
     jump-carried bytes Jumps.Mret =
-        passes _ _ _ (number 0, closed .derived (legalized-from (capabilityAt regs mepccIndex)) (holds .file mepccIndex (omega arith)))
+        passes _ _ _ (number 0, closed .derived (legalized-from returnAlignment (capabilityAt regs mepccIndex)) (holds .file mepccIndex (omega arith)))
 
     capability-carried : (i : CapabilityInstruction) → EachCapability P (capabilityEffect i regs)
     unfolding capabilityEffect clearTag

@@ -142,9 +142,9 @@ move-from c a =
           within c (moveOf c a) (x .0) (x .1) (λ j y. y) s;
     }
 
-pub legalized-from : (c : Capability) → From c (legalized c)
+pub legalized-from : (unit : ℕ) (c : Capability) → From c (legalized unit c)
 unfolding legalized
-legalized-from c = move-from c _
+legalized-from unit c = move-from c _
 
 -- fewer tests keep a tag that more keep
 fewer : (p q r : Bool) (t : ℕ) → cond (p && (q && r)) t 0 ≡ 1 → cond (p && q) t 0 ≡ 1

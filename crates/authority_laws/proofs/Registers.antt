@@ -12,6 +12,7 @@ use Rattle.capability.specs.Capability.{integer}
 use Rattle.capability.specs.declared.Capability.{Capability}
 use Rattle.instructions.specs.declared.Csr.the-variants.{Mstatus, Mcause, Mtval}
 use Rattle.state.specs.Layout.{capabilityWords, generalCount, capabilityCount, controlStart, pccIndex, mtccIndex, mepccIndex, scrIndex, csrIndex}
+use Rattle.state.specs.Addresses.{vectorAlignment, returnAlignment}
 use Rattle.state.specs.Registers.{capabilityAt, setCapability, writeRegister, pccOf}
 use Rattle.state.specs.Effects.{EachCapability}
 use Rattle.state.specs.declared.Effect.{Effect}
@@ -91,8 +92,9 @@ module _ (P : Capability → Type 0) where
         file-set _ (csrIndex Mtval) value (omega arith)
         (file-set _ (csrIndex Mcause) cause (omega arith)
         (file-set _ (csrIndex Mstatus) _ (omega arith)
-        (file-capability _ pccIndex _ (omega arith) (closed .derived (legalized-from (capabilityAt l mtccIndex)) (h .file mtccIndex (omega arith)))
-        (file-capability l mepccIndex _ (omega arith) (closed .derived (legalized-from (pccOf l)) (h .file pccIndex (omega arith))) h))))
+        (file-capability _ pccIndex _ (omega arith)
+        (closed .derived (legalized-from vectorAlignment (capabilityAt l mtccIndex)) (h .file mtccIndex (omega arith)))
+        (file-capability l mepccIndex _ (omega arith) (closed .derived (legalized-from returnAlignment (pccOf l)) (h .file pccIndex (omega arith))) h))))
 
     -- a clause for each effect
     pub files-after : (n : ℕ) (e : Effect) (l : List ℕ) → EachCapability P e → Files P l → Files P (registersAfter n e l)

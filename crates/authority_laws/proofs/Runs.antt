@@ -13,19 +13,18 @@ use Rattle.capability.specs.declared.Capability.{Capability}
 use Rattle.capability_laws.proofs.Derived.{inside-refl, inside-trans}
 use Rattle.instructions.specs.Decode.{decodeOf}
 use Rattle.state.specs.Registers.{capabilityAt}
-use Rattle.state.specs.Addresses.{instructionBytes}
 use Rattle.state.specs.Lent.{State, state}
 use Rattle.state.specs.Memory.{capabilityIn, granuleBytes}
 use Rattle.state.specs.Effects.{storedBy, OneGranule, EachCapability}
 use Rattle.state.specs.Fits.{FitsRegisters}
 use Rattle.state.specs.declared.Board.{Board}
 use Rattle.commit.specs.Commit.{applyEffect}
-use Rattle.execution.specs.Step.{seen, effectAt, stepOf}
+use Rattle.execution.specs.Step.{seen, effectAt, stepOf, lengthIn, fetchedIn}
 use Rattle.machine.specs.Refusals.{refusalOf}
 use Rattle.machine.specs.Run.{stepRefusal, stepAfter, Ran, ran, oneMore, iterate, ranFrom, runAfter}
 use Rattle.machine_laws.specs.Fits.{InType}
 use Rattle.machine_laws.specs.Lent.{GoodState}
-use Rattle.machine_laws.specs.Steps.{wordAt}
+use Rattle.machine_laws.specs.Steps.{lengthAt, standingAt, wordAt}
 use Rattle.machine_laws.proofs.Refusals.{good-for, good-of, of-good}
 use Rattle.machine_laws.proofs.Fetch.{fetched-holds, next-within}
 use Rattle.machine_laws.proofs.Kept.{good-stays, lengths-stay}
@@ -50,9 +49,9 @@ step-keeps P closed board revoked s good t h =
     let word = wordAt board s in
     let carried : EachCapability P e =
     fetched-holds (EachCapability P) board revoked s (λ n v. tt)
-    (effect-carried P closed (s .regs) fits (h .registers) (seen board revoked s) start (h .memory) instructionBytes (decodeOf word) word) in
+    (effect-carried P closed (s .regs) fits (h .registers) (seen board revoked s) start (h .memory) (lengthAt board s) (decodeOf word) (standingAt board s)) in
     record {
-      registers = files-after P closed instructionBytes e (s .regs) carried (h .registers);
+      registers = files-after P closed (lengthIn (fetchedIn board s)) e (s .regs) carried (h .registers);
       memory =
           granules-after s (stepOf board revoked s) P closed (lengths-stay board revoked s .same-memory) (h .memory) (storedBy e)
           (store-changes-only board revoked s (of-good board revoked s good 1 (omega arith))) (next-within board revoked s start)

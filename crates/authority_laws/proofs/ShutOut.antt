@@ -13,7 +13,7 @@ use Rattle.capability.specs.Sealing.{withObjectType}
 use Rattle.capability.specs.declared.Capability.{Capability}
 use Rattle.state.specs.Layout.{pccIndex}
 use Rattle.state.specs.Registers.{capabilityAt, setCapability, writeRegister}
-use Rattle.state.specs.Addresses.{instructionBytes}
+use Rattle.short_forms.specs.Standing.{longBytes}
 use Rattle.state.specs.Lent.{State, state}
 use Rattle.state.specs.Memory.{capabilityIn}
 use Rattle.state.specs.Checks.{environmentCall}
@@ -44,7 +44,7 @@ module _ (a : State) (c : Capability) (held : Held a c) (past : T (ltb top (high
 
 -- a value that is written to c2
 abbrev written : Capability → State
-written c = applyEffect instructionBytes (Write 2 c) worked
+written c = applyEffect longBytes (Write 2 c) worked
 
 module _ (c : Capability) (set : c .tag ≡ 1) where
   held-in-c2 : Held (written c) c
@@ -91,7 +91,7 @@ abbrev altered : Capability
 altered = capability 0x20000218 (kept .metadata) (kept .tag)
 
 abbrev overwritten : State
-overwritten = state (advanced instructionBytes (worked .regs)) (stored (worked .mem) 1 9 2) (worked .tags)
+overwritten = state (advanced longBytes (worked .regs)) (stored (worked .mem) 1 9 2) (worked .tags)
 
 pub kept-tag-shut-out : NoGain worked overwritten → ⊥
 unfolding worked stored setCapability setBytes leBytes bitAt capabilityIn high highAt highOf exponentOf scaleOf topOf baseOf

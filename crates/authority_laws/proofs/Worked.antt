@@ -23,7 +23,8 @@ use Rattle.memory_instructions.specs.Access.{revokedValue, filtered, loadCapabi
 use Rattle.memory_instructions.specs.Access.{storeCapabilityCheck, storeCapabilityAt, storeCapabilityEffect, memoryEffect}
 use Rattle.capability_instructions.specs.Derivation.{equalExact, capabilityEffect}
 use Rattle.commit.specs.Commit.{advanced, retagged, storedCapability, applyEffect, retires}
-use Rattle.execution.specs.Step.{effectOf, fetchedAt, nextEffect, stepOf}
+use Rattle.fetch.specs.Fetch.{secondOf, standsOf, fetchedAt, fetchOf}
+use Rattle.execution.specs.Step.{effectOf, instructionIn, wordIn, lengthIn, trapOr, effectIn, stepOf}
 use Rattle.machine.specs.Refusals.{goodMemory, goodTags, goodZero, goodWords, goodBits, refusalOf}
 use Rattle.machine.specs.Run.{oneMore, iterate, runAfter}
 use Rattle.authority_laws.specs.Gain.{in-register, in-granule, Held, Start, Derived}
@@ -62,13 +63,13 @@ record Computed : Type 0 where
   size-is : length (ended .mem) ≡ 64
 
 computed : Computed
-unfolding worked runAfter iterate oneMore refusalOf goodMemory goodTags goodZero goodWords goodBits stepOf nextEffect fetchedAt effectOf
-    applyEffect retires setCapability writeRegister advanced retagged storedCapability revokedValue filtered loadCapabilityAt
-    loadCapabilityEffect storeCapabilityCheck storeCapabilityAt storeCapabilityEffect memoryEffect capabilityEffect checked accessCause placeOf
-    capabilityIn revokedAt capabilityAt integerAt loadOf storeOf capabilityOf decodeOf immediateI immediateS loseGlobal loseMutable loseTag
-    loadedOf revocable low high rights sealed tagged covers sameBounds moveOf setBoundsOf floorAt ceilAt fitsAt firstFit cutExponent scaleField
-    cutBase cutTop withCut withBounds exponentOf lowOf highOf lowAt highAt rightsOf permissionsOf typeOf scaleOf topOf baseOf signExtend leBytes
-    setBytes bitAt withBit putBit
+unfolding worked runAfter iterate oneMore refusalOf goodMemory goodTags goodZero goodWords goodBits stepOf effectIn trapOr lengthIn instructionIn
+    wordIn fetchOf fetchedAt standsOf secondOf effectOf applyEffect retires setCapability writeRegister advanced retagged storedCapability
+    revokedValue filtered loadCapabilityAt loadCapabilityEffect storeCapabilityCheck storeCapabilityAt storeCapabilityEffect memoryEffect
+    capabilityEffect checked accessCause placeOf capabilityIn revokedAt capabilityAt integerAt loadOf storeOf capabilityOf decodeOf immediateI
+    immediateS loseGlobal loseMutable loseTag loadedOf revocable low high rights sealed tagged covers sameBounds moveOf setBoundsOf floorAt ceilAt
+    fitsAt firstFit cutExponent scaleField cutBase cutTop withCut withBounds exponentOf lowOf highOf lowAt highAt rightsOf permissionsOf typeOf
+    scaleOf topOf baseOf signExtend leBytes setBytes bitAt withBit putBit
 computed = record { in-c3 = refl; in-memory = refl; size-is = refl }
 
 -- it stands in a register and in memory

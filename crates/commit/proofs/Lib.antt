@@ -3,3 +3,4 @@ pub mod Registers
 pub mod Lengths
 pub mod Bytes
 pub mod Memory
+pub mod Next

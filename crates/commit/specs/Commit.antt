@@ -31,8 +31,10 @@ unfoldable pub trapped : (regs : List ℕ) → (cause value : ℕ) → List ℕ
 trapped regs cause value =
     set
     (set
-    (set (setCapability (setCapability regs mepccIndex (legalized returnAlignment (pccOf regs))) pccIndex (legalized vectorAlignment (capabilityAt regs mtccIndex))) (csrIndex Mstatus)
-    (trapStatus (mstatusOf regs)))
+    (set
+    (setCapability (setCapability regs mepccIndex (legalized returnAlignment (pccOf regs))) pccIndex
+    (legalized vectorAlignment (capabilityAt regs mtccIndex)))
+    (csrIndex Mstatus) (trapStatus (mstatusOf regs)))
     (csrIndex Mcause) cause)
     (csrIndex Mtval) value
 

@@ -20,8 +20,8 @@ use Rattle.fetch.specs.declared.Fetched.the-variants.{Long, Half, Fault}
 unfoldable pub shutOut : (cause : ℕ) → Fetched
 shutOut cause = Fault capabilityFault (pccRegister * 32 + cause % 32)
 
--- A long word whose first half is in bounds and in memory: four bytes in bounds, as whole numbers, so that a second half at 2^32 is out of them; then the
--- second half in memory, whose fault has its own address.
+-- A long word whose first half is in bounds and in memory: four bytes in bounds, as whole numbers; then the second half in memory, whose fault has its own
+-- address. A second half at 2^32 is in no memory; its address as a word of mtval is 0.
 unfoldable pub secondOf : (pcc : Capability) → (word : ℕ) → (inside : Bool) → Fetched
 secondOf pcc word inside =
     cond (not (inBounds pcc (pcc .address) longBytes)) (shutOut boundsCause)
@@ -53,8 +53,10 @@ pub record Reached (pcc : Capability) (start : ℕ) (mem : List ℕ) (n : ℕ) :
   pub above : start ≤ pcc .address
   pub inside : pcc .address + n ≤ start + length mem
 
--- a fault's cause and value are words where PCC's address is one; a long word, or a half, is the bytes that stand there
+-- a long word, or a half, is the bytes that stand there
 abbrev pub Whole : (pcc : Capability) → (start : ℕ) → (mem : List ℕ) → Fetched → Type 0
 Whole pcc start mem (Fault cause value) = Unit {0}
-Whole pcc start mem (Long w) = Reached pcc start mem longBytes × (w ≡ leBytes longBytes mem (pcc .address - start)) × (isLong (leBytes halfBytes mem (pcc .address - start)) ≡ true)
+Whole pcc start mem (Long w) =
+    Reached pcc start mem longBytes × (w ≡ leBytes longBytes mem (pcc .address - start))
+    × (isLong (leBytes halfBytes mem (pcc .address - start)) ≡ true)
 Whole pcc start mem (Half h) = Reached pcc start mem halfBytes × (h ≡ leBytes halfBytes mem (pcc .address - start)) × (isLong h ≡ false)

@@ -1,11 +1,14 @@
--- Every word decodes to an instruction whose registers are below 16 and whose immediates are words.
-use Prim.Native.Nat.{ℕ, _+_, _*_, _^_, _<_}
+-- Every word decodes to an instruction whose registers are below 16, whose immediates are words, and whose offset is even where it jumps from PCC.
+use Prim.Native.Nat.{ℕ, _+_, _*_, _%_, _^_, _<_}
+use mathlib.Core.Path.{_≡_, _∙_}
 use mathlib.Core.Bool.{Bool, true, false, cond}
 use native.Mathlib.Omega.{arith}
 use lib.Dec.{ltb, eqb}
 use borrow.Author.Tests.{ltb-true}
+use lib.Pow.{pow-add, mod-mod-pow}
+use Rattle.words.specs.Words.{signExtend}
 use Rattle.words.proofs.Word.{by-test, sign-extend-word}
-use Rattle.instructions.specs.Range.{InRange, Register, Word}
+use Rattle.instructions.specs.Range.{InRange, Register, Word, Even}
 use Rattle.instructions.specs.Fields.{opcode, rdOf, funct7, upper12, immediateI, immediateS, immediateB, immediateU, immediateJ, offsetAui}
 use Rattle.instructions.specs.Decode.{namingOf, loadOf, storeOf, fenceOf, shiftLeftOf, shiftRightOf, opImmOf, op32Of, multiplyOf, opByOf, opOf, luiOf}
 use Rattle.instructions.specs.Decode.{auipccOf, auicgpOf, jalOf, branchOf, jalrOf, csrRegisterOf, csrImmediateOf, csrOf, wholeOf, systemOf, specialOf}
@@ -32,9 +35,9 @@ module _ (f3 a b n : ℕ) (hn : Word n) where
   unfolding storeOf
   store = naming a _ (λ ha. naming b _ (λ hb. search either depth 6))
 
-  branch : InRange (branchOf f3 a b n)
+  branch : Even n → InRange (branchOf f3 a b n)
   unfolding branchOf
-  branch = naming a _ (λ ha. naming b _ (λ hb. search either depth 8))
+  branch e = naming a _ (λ ha. naming b _ (λ hb. search either depth 8))
 
   jalr : InRange (jalrOf f3 a b n)
   unfolding jalrOf
@@ -49,9 +52,9 @@ module _ (a n : ℕ) (hn : Word n) where
   unfolding luiOf
   lui = naming a _ (λ ha. (ha, hn))
 
-  jal : InRange (jalOf a n)
+  jal : Even n → InRange (jalOf a n)
   unfolding jalOf
-  jal = naming a _ (λ ha. (ha, hn))
+  jal e = naming a _ (λ ha. (ha, hn, e))
 
   auipcc : InRange (auipccOf a n)
   unfolding auipccOf
@@ -111,6 +114,21 @@ system : (w f3 number rd rs1 : ℕ) → rs1 < 2 ^ 5 → InRange (systemOf w f3 n
 unfolding systemOf
 system w f3 number rd rs1 h = search (either, whole, csr-in-range) depth 6
 
+-- an even number extended from some bits is even
+pub even-extended : (x m : ℕ) → Even x → Even (signExtend x (m + 1))
+unfolding signExtend
+even-extended x m e =
+    let low : x % 2 ^ (m + 1) % 2 ≡ 0 = mod-mod-pow x m 1 ∙ e in
+    let twice : 2 ^ (m + 1) ≡ 2 ^ m * 2 = pow-add 2 m 1 in
+    by-test (ltb (2 * (x % 2 ^ (m + 1))) (2 ^ (m + 1))) (λ t. rw t low) (λ t. rw t (omega (arith, low, twice)))
+
+-- the offsets of branches and of CJAL
+even-branch : (a b c d : ℕ) → Even (a * 2 ^ 12 + b * 2 ^ 11 + c * 2 ^ 5 + d * 2)
+even-branch a b c d = omega arith
+
+even-jump : (a b c d : ℕ) → Even (a * 2 ^ 20 + b * 2 ^ 12 + c * 2 ^ 11 + d * 2)
+even-jump a b c d = omega arith
+
 module _ (w : ℕ) where
   wordI : Word (immediateI w)
   unfolding immediateI
@@ -124,6 +142,10 @@ module _ (w : ℕ) where
   unfolding immediateB
   wordB = sign-extend-word _ 13 (omega arith)
 
+  evenB : Even (immediateB w)
+  unfolding immediateB
+  evenB = even-extended _ 12 (even-branch _ _ _ _)
+
   wordU : Word (immediateU w)
   unfolding immediateU
   wordU = omega arith
@@ -131,6 +153,10 @@ module _ (w : ℕ) where
   wordJ : Word (immediateJ w)
   unfolding immediateJ
   wordJ = sign-extend-word _ 21 (omega arith)
+
+  evenJ : Even (immediateJ w)
+  unfolding immediateJ
+  evenJ = even-extended _ 20 (even-jump _ _ _ _)
 
   wordAui : Word (offsetAui w)
   unfolding offsetAui
@@ -147,9 +173,9 @@ decoded-in-range w =
     (either (eqb (opcode w) 0x33) _ _ (op _ _ _ _ _)
     (either (eqb (opcode w) 0x37) _ _ (lui _ _ (wordU w))
     (either (eqb (opcode w) 0x5b) _ _ (capability _ _ _ _ _ _ _ (wordI w) (omega arith))
-    (either (eqb (opcode w) 0x63) _ _ (branch _ _ _ _ (wordB w))
+    (either (eqb (opcode w) 0x63) _ _ (branch _ _ _ _ (wordB w) (evenB w))
     (either (eqb (opcode w) 0x67) _ _ (jalr _ _ _ _ (wordI w))
-    (either (eqb (opcode w) 0x6f) _ _ (jal _ _ (wordJ w))
+    (either (eqb (opcode w) 0x6f) _ _ (jal _ _ (wordJ w) (evenJ w))
     (either (eqb (opcode w) 0x73) _ _ (system _ _ _ _ _ (omega arith))
     (either (eqb (opcode w) 0x7b) _ _ (auicgp _ _ (wordAui w))
     tt))))))))))))

@@ -1,5 +1,6 @@
--- What every decoded instruction keeps to: register numbers below 16, immediates that are words.
-use Prim.Native.Nat.{ℕ, _^_, _<_}
+-- What every decoded instruction keeps to: register numbers below 16, immediates that are words, offsets of jumps that are even.
+use Prim.Native.Nat.{ℕ, _%_, _^_, _<_}
+use mathlib.Core.Path.{_≡_}
 use Rattle.instructions.specs.declared.IntegerInstruction.{IntegerInstruction}
 use Rattle.instructions.specs.declared.IntegerInstruction.the-variants.{Lui, OpImm, Op, Multiply, Divide}
 use Rattle.instructions.specs.declared.JumpInstruction.{JumpInstruction}
@@ -19,6 +20,9 @@ Register n = n < 16
 abbrev pub Word : ℕ → Type 0
 Word n = n < 2 ^ 32
 
+abbrev pub Even : ℕ → Type 0
+Even n = n % 2 ≡ 0
+
 abbrev pub IntegerInRange : IntegerInstruction → Type 0
 IntegerInRange (Lui rd value) = Register rd × Word value
 IntegerInRange (OpImm op rd rs1 value) = Register rd × Register rs1 × Word value
@@ -27,9 +31,9 @@ IntegerInRange (Multiply kind rd rs1 rs2) = Register rd × Register rs1 × Regis
 IntegerInRange (Divide kind rd rs1 rs2) = Register rd × Register rs1 × Register rs2
 
 abbrev pub JumpInRange : JumpInstruction → Type 0
-JumpInRange (Jal rd offset) = Register rd × Word offset
+JumpInRange (Jal rd offset) = Register rd × Word offset × Even offset
 JumpInRange (Jalr rd rs1 offset) = Register rd × Register rs1 × Word offset
-JumpInRange (Branch kind rs1 rs2 offset) = Register rs1 × Register rs2 × Word offset
+JumpInRange (Branch kind rs1 rs2 offset) = Register rs1 × Register rs2 × Word offset × Even offset
 JumpInRange Mret = Unit {0}
 
 abbrev pub MemoryInRange : MemoryInstruction → Type 0

@@ -73,7 +73,11 @@ taken-good target regs h = targeted GoodEffect _ _ target _ (λ n v. tt) (omega 
 mret-good : (regs : List ℕ) → GoodTags regs → GoodEffect (mretEffect regs)
 unfolding mretEffect
 mret-good regs h =
-    checked-holds GoodEffect _ _ _ (λ n v. tt) (omega arith, legalized-tag returnAlignment (capabilityAt regs mepccIndex) (capability-tag regs mepccIndex (omega arith) h))
+    checked-holds GoodEffect _ _ _ (λ n v. tt) (
+      omega arith,
+      legalized-tag returnAlignment (capabilityAt regs mepccIndex)
+          (capability-tag regs mepccIndex (omega arith) h),
+    )
 
 pub jump-good : (bytes : ℕ) (i : JumpInstruction) (regs : List ℕ) → GoodTags regs → GoodEffect (jumpEffect bytes i regs)
 unfolding jumpEffect

@@ -17,7 +17,8 @@ use Rattle.state.specs.Layout.{mepccIndex}
 use Rattle.state.specs.Registers.{registerAt, integerAt, capabilityAt, pccOf, pcOf, mstatusOf}
 use Rattle.state.specs.Addresses.{targetBytes, targetAlignment, returnAlignment, legalized}
 use Rattle.state.specs.Status.{MIE, returnStatus}
-use Rattle.state.specs.Checks.{checked, failIf, inBounds, systemAccess, pccRegister, noCause, tagCause, sealCause, executeCause, boundsCause, fetchMisaligned}
+use Rattle.state.specs.Checks.{checked, failIf, inBounds, systemAccess, pccRegister, noCause, tagCause, sealCause, executeCause, boundsCause}
+use Rattle.state.specs.Checks.{fetchMisaligned}
 use Rattle.state.specs.declared.Effect.{Effect}
 use Rattle.state.specs.declared.Effect.the-variants.{Advance, Jump, Trap}
 
@@ -82,7 +83,8 @@ branchEffect takes target regs = cond takes (takenEffect target regs) Advance
 -- MRET: PCC := MEPCC by the address-move rule, MIE := MPIE, MPIE := 1; MEPCC stays
 unfoldable pub mretEffect : (regs : List ℕ) → Effect
 mretEffect regs =
-    checked pccRegister (systemAccess (pccOf regs)) (Jump 0 (integer 0) (legalized returnAlignment (capabilityAt regs mepccIndex)) (returnStatus (mstatusOf regs)))
+    checked pccRegister (systemAccess (pccOf regs))
+    (Jump 0 (integer 0) (legalized returnAlignment (capabilityAt regs mepccIndex)) (returnStatus (mstatusOf regs)))
 
 -- what a jump of some bytes does
 unfoldable pub jumpEffect : (bytes : ℕ) → JumpInstruction → (regs : List ℕ) → Effect

@@ -1,25 +1,19 @@
--- The next step's effect is a trap or that of the instruction that the word at PCC is. Assumes nothing.
-use mathlib.Core.Bool.{_&&_}
+-- The next step's effect is a trap or that of the instruction that stands at PCC. Assumes nothing.
 use mathlib.Core.Path.{_≡_}
 use mathlib.Core.List.{List}
-use Prim.Native.Nat.{ℕ, _+_, _-_, _%_}
-use lib.Dec.{eqb, leb}
+use Prim.Native.Nat.{ℕ, _%_}
 use lib.ListN.{length}
 use Rattle.instructions.specs.Decode.{decodeOf}
 use Rattle.instructions.specs.declared.Instruction.{Instruction}
 use Rattle.instructions.specs.declared.Instruction.the-variants.{Integer, Jump, Memory, Capability, System, Illegal}
-use Rattle.state.specs.Registers.{pcOf}
-use Rattle.state.specs.Addresses.{instructionBytes}
+use Rattle.state.specs.Registers.{pccOf}
 use Rattle.state.specs.Lent.{Lent, State}
-use Rattle.state.specs.Memory.{placeOf, granuleBytes}
-use Rattle.state.specs.Checks.{fetchFault, fetchMisaligned}
+use Rattle.state.specs.Memory.{granuleBytes}
 use Rattle.state.specs.declared.Board.{Board}
 use Rattle.state.specs.Effects.{StoresWithin, GoodTags, GoodEffect}
-use Rattle.state.specs.declared.Place.{Place}
-use Rattle.state.specs.declared.Place.the-variants.{At, Misaligned, Outside}
 use Rattle.state.specs.declared.Effect.{Effect}
 use Rattle.state.specs.declared.Effect.the-variants.{Trap}
-use Rattle.state.proofs.Laws.{cond-holds, checked-holds, storeless-within}
+use Rattle.state.proofs.Laws.{storeless-within}
 use Rattle.integer_instructions.specs.Integer.{integerEffect}
 use Rattle.jump_instructions.specs.Jumps.{jumpEffect}
 use Rattle.capability_instructions.specs.Derivation.{capabilityEffect}
@@ -29,24 +23,21 @@ use Rattle.memory_instructions.proofs.Laws.{memory-within, memory-good}
 use Rattle.jump_instructions.proofs.Laws.{jump-storeless, jump-good}
 use Rattle.capability_instructions.proofs.Laws.{capability-storeless, capability-good}
 use Rattle.system_instructions.proofs.Laws.{system-storeless, system-good}
-use Rattle.execution.specs.Step.{effectOf, fetchedAt, nextEffect, seen, effectAt}
-use Rattle.machine_laws.specs.Steps.{wordAt}
+use Rattle.fetch.proofs.Laws.{fetch-holds}
+use Rattle.execution.specs.Step.{effectOf, instructionIn, wordIn, lengthIn, trapOr, effectIn, seen, effectAt}
+use Rattle.machine_laws.specs.Steps.{lengthAt, standingAt, wordAt}
 
 -- what the instruction at PCC does, once it is fetched
 abbrev pub fetchedEffect : Board → (revoked : List ℕ) → State → Effect
-fetchedEffect board revoked s = effectOf instructionBytes (decodeOf (wordAt board s)) (wordAt board s) (s .regs) (seen board revoked s)
+fetchedEffect board revoked s = effectOf (lengthAt board s) (decodeOf (wordAt board s)) (standingAt board s) (s .regs) (seen board revoked s)
 
 -- what holds of that and of every trap holds of the next step's effect
 pub fetched-holds : (P : Effect → Type 0) (board : Board) (revoked : List ℕ) (s : State) → ((n v : ℕ) → P (Trap n v)) → P (fetchedEffect board revoked s)
     → P (effectAt board revoked s)
-unfolding nextEffect placeOf fetchedAt
+unfolding effectIn trapOr lengthIn instructionIn wordIn
 fetched-holds P board revoked s t h =
-    let pc = pcOf (s .regs) in
-    let at : Place → Type 0 = λ p. P (fetchedAt p (s .regs) (seen board revoked s)) in
-    checked-holds P _ _ _ t
-    (cond-holds at (eqb (pc % instructionBytes) 0) _ Misaligned
-    (cond-holds at (leb (board .start) pc && leb (pc + instructionBytes) (board .start + length (s .mem))) (At (pc - board .start))
-    Outside h (t fetchFault pc)) (t fetchMisaligned pc))
+    fetch-holds (pccOf (s .regs)) (board .start) (s .mem) (λ f. P (effectIn f (s .regs) (seen board revoked s))) (λ n v a b. t n v) (λ r l. rw l at h)
+    (λ r l. rw l at h)
 
 -- every store of an instruction lies in one granule of memory
 effect-within : (n : ℕ) (i : Instruction) (word : ℕ) (regs : List ℕ) (m : Lent) → m .board .start % granuleBytes ≡ 0
@@ -62,7 +53,7 @@ effect-within n Illegal word regs m h = tt
 pub next-within : (board : Board) (revoked : List ℕ) (s : State) → board .start % granuleBytes ≡ 0 → StoresWithin (length (s .mem)) (effectAt board revoked s)
 next-within board revoked s h =
     fetched-holds (StoresWithin (length (s .mem))) board revoked s (λ n v. tt)
-    (effect-within instructionBytes (decodeOf (wordAt board s)) _ (s .regs) (seen board revoked s) h)
+    (effect-within (lengthAt board s) (decodeOf (wordAt board s)) _ (s .regs) (seen board revoked s) h)
 
 -- every tag that an instruction writes is 0 or 1
 effect-good : (n : ℕ) (i : Instruction) (word : ℕ) (regs : List ℕ) (m : Lent) → GoodTags regs → GoodEffect (effectOf n i word regs m)
@@ -76,4 +67,4 @@ effect-good n Illegal word regs m h = tt
 
 pub next-good : (board : Board) (revoked : List ℕ) (s : State) → GoodTags (s .regs) → GoodEffect (effectAt board revoked s)
 next-good board revoked s h =
-    fetched-holds GoodEffect board revoked s (λ n v. tt) (effect-good instructionBytes (decodeOf (wordAt board s)) _ (s .regs) (seen board revoked s) h)
+    fetched-holds GoodEffect board revoked s (λ n v. tt) (effect-good (lengthAt board s) (decodeOf (wordAt board s)) _ (s .regs) (seen board revoked s) h)

@@ -2,7 +2,7 @@
 use mathlib.Core.Path.{_≡_, refl}
 use mathlib.Core.Bool.{Bool, true, false, cond}
 use mathlib.Core.List.{List}
-use Prim.Native.Nat.{ℕ, zero, suc, _+_, _*_, _%_, _≤_, _<_}
+use Prim.Native.Nat.{ℕ, zero, suc, _+_, _-_, _*_, _%_, _≤_, _<_}
 use native.Mathlib.Omega.{arith}
 use lib.Dec.{eqb}
 use borrow.Author.Tests.{eqb-true, eqb-false}
@@ -20,22 +20,24 @@ use Rattle.instructions.proofs.Range.{decoded-in-range}
 use Rattle.state.specs.Layout.{capabilityWords, generalCount, capabilityCount, controlStart, pccIndex, mtccIndex, mepccIndex, csrIndex, scrIndex}
 use Rattle.instructions.specs.declared.Csr.the-variants.{Mstatus, Mcause, Mtval}
 use Rattle.state.specs.declared.Board.{Board}
-use Rattle.state.specs.Addresses.{instructionBytes, legalized}
+use Rattle.state.specs.Addresses.{vectorAlignment, returnAlignment, legalized}
+use Rattle.state.specs.Registers.{pccOf, pcOf}
+use Rattle.short_forms.specs.Standing.{halfBytes, longBytes}
+use Rattle.short_forms.specs.Long.{longForm}
+use Rattle.fetch.proofs.Laws.{fetch-holds}
 use Rattle.state.specs.Lent.{Lent, State}
 use Rattle.state.specs.Effects.{GoodTags}
 use Rattle.state.specs.Fits.{FitsRegisters, FitsEffect}
-use Rattle.state.specs.declared.Place.{Place}
-use Rattle.state.specs.declared.Place.the-variants.{At, Misaligned, Outside}
 use Rattle.state.specs.declared.Effect.{Effect}
 use Rattle.state.specs.declared.Effect.the-variants.{Advance, Write, Store, StoreCapability, Jump, WriteScr, WriteCsr, Trap}
 use Rattle.state.proofs.Laws.{cond-holds}
-use Rattle.state.proofs.Fits.{checked-fits, pcc-fits, legalized-fits, trap-status-fits}
+use Rattle.state.proofs.Fits.{pcc-fits, legalized-fits, trap-status-fits}
 use Rattle.integer_instructions.proofs.Fits.{integer-fits}
 use Rattle.memory_instructions.proofs.Fits.{memory-fits}
 use Rattle.jump_instructions.proofs.Fits.{jump-fits}
 use Rattle.capability_instructions.proofs.Fits.{capability-fits}
 use Rattle.system_instructions.proofs.Fits.{system-fits}
-use Rattle.execution.specs.Step.{effectOf, fetchedAt, nextEffect, seen, effectAt, stepOf}
+use Rattle.execution.specs.Step.{effectOf, instructionIn, wordIn, lengthIn, trapOr, effectIn, seen, fetchedIn, effectAt, stepOf}
 use Rattle.machine.specs.Refusals.{refusalOf}
 use Rattle.machine.specs.Run.{stepRefusal, stepAfter, Ran, ran, oneMore, iterate, ranFrom, runAfter}
 use Rattle.machine_laws.specs.Fits.{InType}
@@ -57,18 +59,17 @@ module _ (regs : List ℕ) (m : Lent) (h : FitsRegisters regs) (b : Bytes (m .me
   effect-fits n (Instruction.System i) word r w = system-fits regs h i r
   effect-fits n Instruction.Illegal word r w = (tt, (omega arith, w))
 
-  fetched-fits : (p : Place) → FitsEffect (fetchedAt p regs m)
-  unfolding fetchedAt
-  fetched-fits Misaligned = (tt, (omega arith, pcc-fits regs h .address-fits))
-  fetched-fits Outside = (tt, (omega arith, pcc-fits regs h .address-fits))
-  fetched-fits (At i) =
-      let w = leBytes instructionBytes (m .mem) i in
-      effect-fits instructionBytes (decodeOf w) w (decoded-in-range w) (leBytes-lt instructionBytes (m .mem) i b)
-
 -- every capability that a step writes is good, and every word is a word
 pub next-fits : (board : Board) (revoked : List ℕ) (s : State) → FitsRegisters (s .regs) → Bytes (s .mem) → FitsEffect (effectAt board revoked s)
-unfolding nextEffect
-next-fits board revoked s h b = checked-fits _ _ _ (fetched-fits (s .regs) (seen board revoked s) h b _)
+unfolding effectIn trapOr lengthIn instructionIn wordIn
+next-fits board revoked s h b =
+    let m = seen board revoked s in
+    let at = pcOf (s .regs) - board .start in
+    fetch-holds (pccOf (s .regs)) (board .start) (s .mem) (λ f. FitsEffect (effectIn f (s .regs) m))
+    (λ n v a k. (tt, (a, k (pcc-fits (s .regs) h .address-fits))))
+    (λ r l. effect-fits (s .regs) m h b longBytes (decodeOf (leBytes longBytes (s .mem) at)) _ (decoded-in-range _) (leBytes-lt longBytes (s .mem) at b))
+    (λ r l. effect-fits (s .regs) m h b halfBytes (decodeOf (longForm (leBytes halfBytes (s .mem) at))) _ (decoded-in-range _)
+    (omega (arith, leBytes-lt halfBytes (s .mem) at b)))
 
 -- ---- the register file
 
@@ -96,8 +97,8 @@ fit-rule : Rule Fit
 fit-rule =
     record {
       moved = λ c a b h. fit pccIndex (moveOf c a) (move-good c a (good-at pccIndex c (omega arith) h) b);
-      saved = λ c h. fit mepccIndex (legalized c) (legalized-fits c (good-at pccIndex c (omega arith) h));
-      entered = λ c h. fit pccIndex (legalized c) (legalized-fits c (good-at mtccIndex c (omega arith) h));
+      saved = λ c h. fit mepccIndex (legalized returnAlignment c) (legalized-fits returnAlignment c (good-at pccIndex c (omega arith) h));
+      entered = λ c h. fit pccIndex (legalized vectorAlignment c) (legalized-fits vectorAlignment c (good-at mtccIndex c (omega arith) h));
       status = λ m h. fit-above (csrIndex Mstatus) _ (omega arith) (trap-status-fits m (h .0));
     }
 
@@ -118,7 +119,7 @@ fit-kept (Trap cause value) h =
 pub words-stay : (board : Board) (revoked : List ℕ) (s : State) → FitsRegisters (s .regs) → Bytes (s .mem) → FitsRegisters (stepOf board revoked s .regs)
 unfolding stepOf applyEffect
 words-stay board revoked s h b =
-    let e = each-applied Fit fit-rule instructionBytes (effectAt board revoked s) (s .regs)
+    let e = each-applied Fit fit-rule (lengthIn (fetchedIn board s)) (effectAt board revoked s) (s .regs)
     (fit-kept (effectAt board revoked s) (next-fits board revoked s h b))
     (record { word = λ i. (h .words i, λ k l q. rw q (h .tags k l)) }) in
     record { words = λ i. e .word i .0; tags = λ k l. e .word (k * capabilityWords + 2) .1 k l refl }

@@ -21,16 +21,15 @@ use Rattle.state.specs.Memory.{placeOf, loadWidth}
 use Rattle.state.specs.declared.Effect.{Effect}
 use Rattle.state.specs.declared.Effect.the-variants as Effect
 use Rattle.state.proofs.Laws.{checked-holds, placed}
-use Rattle.state.specs.Addresses.{instructionBytes}
 use Rattle.state.specs.declared.Board.{Board}
 use Rattle.integer_instructions.specs.Integer.{integerEffect}
 use Rattle.memory_instructions.specs.Access.{loadAt, loadEffect, addressOf, memoryEffect}
 use Rattle.capability_instructions.specs.Derivation.{combined, capabilityEffect}
 use Rattle.system_instructions.specs.System.{csrEffect, systemEffect}
 use Rattle.commit.specs.Commit.{advanced, withCsr, applyEffect, retires}
-use Rattle.execution.specs.Step.{effectOf, seen, effectAt, stepOf}
+use Rattle.execution.specs.Step.{effectAt, effectOf, fetchedIn, lengthIn, seen, stepOf}
 use Rattle.machine.specs.Run.{stepRefusal}
-use Rattle.machine_laws.specs.Steps.{wordAt}
+use Rattle.machine_laws.specs.Steps.{lengthAt, standingAt, wordAt}
 use Rattle.machine_laws.specs.Integers.{WritesInteger, IsInteger, by-lui, by-op-imm, by-op, by-load, by-inspection, by-difference, by-subset}
 use Rattle.machine_laws.specs.Integers.{by-multiply, by-divide, by-equality, by-csr, by-csr-immediate}
 use Rattle.machine_laws.proofs.Fetch.{fetched-holds}
@@ -132,7 +131,7 @@ unfolding stepOf capabilityAt
 integer-results board revoked s good rd i h =
     let g = good-of board revoked s good in
     let e = fetched-holds (ToInteger rd) board revoked s (λ n v. tt)
-    (effect-integer instructionBytes (decodeOf (wordAt board s)) rd (wordAt board s) (s .regs) (seen board revoked s) i) in
-    let k = applied instructionBytes rd (effectAt board revoked s) s e h (g .registers)
+    (effect-integer (lengthAt board s) (decodeOf (wordAt board s)) rd (standingAt board s) (s .regs) (seen board revoked s) i) in
+    let k = applied (lengthIn (fetchedIn board s)) rd (effectAt board revoked s) s e h (g .registers)
     (g .words .c0-words 1 (omega arith), g .words .c0-words 2 (omega arith)) in
     record { no-metadata = k .0; no-tag = k .1 }

@@ -12,7 +12,7 @@ use Rattle.instructions.specs.declared.Csr.the-variants.{Mstatus, Mcause, Mtval
 use Rattle.instructions.specs.declared.Scr.{Scr}
 use Rattle.instructions.specs.declared.Scr.the-variants.{Mtcc, Mtdc, Mscratchc, Mepcc}
 use Rattle.state.specs.Layout.{capabilityWords, generalCount, capabilityCount, controlStart, pccIndex, mtccIndex, mepccIndex, csrIndex, scrIndex}
-use Rattle.state.specs.Addresses.{instructionBytes, legalized}
+use Rattle.state.specs.Addresses.{vectorAlignment, returnAlignment, legalized}
 use Rattle.state.specs.Lent.{State}
 use Rattle.state.specs.Effects.{GoodTag, GoodTags, GoodEffect}
 use Rattle.state.specs.declared.Board.{Board}
@@ -22,7 +22,7 @@ use Rattle.state.proofs.Laws.{kept-good, legalized-tag}
 use Rattle.commit.specs.Commit.{applyEffect}
 use Rattle.commit.proofs.Registers.{Holds, Rule, Keeps, each-applied}
 use Rattle.commit.proofs.Lengths.{SameLengths, applied-long}
-use Rattle.execution.specs.Step.{effectAt, stepOf}
+use Rattle.execution.specs.Step.{effectAt, fetchedIn, lengthIn, stepOf}
 use Rattle.machine.specs.Run.{stepRefusal}
 use Rattle.machine_laws.specs.Lent.{ZeroRegister, GoodState}
 use Rattle.machine_laws.proofs.Fetch.{next-good}
@@ -58,8 +58,8 @@ null-rule : Rule Null
 null-rule =
     record {
       moved = λ c a b h. elsewhere pccIndex (moveOf c a) (omega arith);
-      saved = λ c h. elsewhere mepccIndex (legalized c) (omega arith);
-      entered = λ c h. elsewhere pccIndex (legalized c) (omega arith);
+      saved = λ c h. elsewhere mepccIndex (legalized returnAlignment c) (omega arith);
+      entered = λ c h. elsewhere pccIndex (legalized vectorAlignment c) (omega arith);
       status = λ m h b. absurd (omega arith);
     }
 
@@ -77,7 +77,8 @@ null-kept (Trap cause value) = (λ b. absurd (omega arith), λ b. absurd (omega 
 pub c0-stays : (board : Board) (revoked : List ℕ) (s : State) → ZeroRegister (s .regs) → ZeroRegister (stepOf board revoked s .regs)
 unfolding stepOf applyEffect
 c0-stays board revoked s h =
-    each-applied Null null-rule instructionBytes (effectAt board revoked s) (s .regs) (null-kept (effectAt board revoked s)) (record { word = h }) .word
+    each-applied Null null-rule (lengthIn (fetchedIn board s)) (effectAt board revoked s) (s .regs) (null-kept (effectAt board revoked s))
+    (record { word = h }) .word
 
 -- ---- tag words
 
@@ -100,8 +101,8 @@ tag-rule : Rule Tag
 tag-rule =
     record {
       moved = λ c a b h. tag-holds-of pccIndex (moveOf c a) (kept-good c (moveOf c a) (move-kept c a) (tag-of pccIndex c (omega arith) h));
-      saved = λ c h. tag-holds-of mepccIndex (legalized c) (legalized-tag c (tag-of pccIndex c (omega arith) h));
-      entered = λ c h. tag-holds-of pccIndex (legalized c) (legalized-tag c (tag-of mtccIndex c (omega arith) h));
+      saved = λ c h. tag-holds-of mepccIndex (legalized returnAlignment c) (legalized-tag returnAlignment c (tag-of pccIndex c (omega arith) h));
+      entered = λ c h. tag-holds-of pccIndex (legalized vectorAlignment c) (legalized-tag vectorAlignment c (tag-of mtccIndex c (omega arith) h));
       status = λ m h k b e. absurd (omega arith);
     }
 
@@ -121,7 +122,8 @@ tag-kept (Trap cause value) h = (λ k b e. absurd (omega arith), λ k b e. absur
 pub tags-stay : (board : Board) (revoked : List ℕ) (s : State) → GoodTags (s .regs) → GoodTags (stepOf board revoked s .regs)
 unfolding stepOf applyEffect
 tags-stay board revoked s h =
-    let e = each-applied Tag tag-rule instructionBytes (effectAt board revoked s) (s .regs) (tag-kept (effectAt board revoked s) (next-good board revoked s h))
+    let e = each-applied Tag tag-rule (lengthIn (fetchedIn board s)) (effectAt board revoked s) (s .regs) (tag-kept (effectAt board revoked s)
+    (next-good board revoked s h))
     (record { word = λ i k b q. rw q (h k b) }) in
     λ k b. e .word (k * capabilityWords + 2) k b refl
 
@@ -129,7 +131,7 @@ tags-stay board revoked s h =
 
 pub lengths-stay : (board : Board) (revoked : List ℕ) (s : State) → SameLengths s (stepOf board revoked s)
 unfolding stepOf
-lengths-stay board revoked s = applied-long instructionBytes (effectAt board revoked s) s
+lengths-stay board revoked s = applied-long (lengthIn (fetchedIn board s)) (effectAt board revoked s) s
 
 -- ---- all of it
 
@@ -139,7 +141,11 @@ good-after board revoked s g =
     record {
       registers = l .same-registers ∙ g .registers;
       memory = rw (l .same-memory) (g .memory);
-      bits = record { tag-bytes = rw (l .same-memory) (l .same-tags ∙ g .bits .tag-bytes); revocation-bytes = rw (l .same-memory) (g .bits .revocation-bytes) };
+      bits = record {
+        tag-bytes = rw (l .same-memory) (l .same-tags ∙ g .bits .tag-bytes);
+        revocation-bytes = rw (l .same-memory)
+            (g .bits .revocation-bytes);
+      };
       words = record { tag-words = tags-stay board revoked s (g .words .tag-words); c0-words = c0-stays board revoked s (g .words .c0-words) };
     }
 

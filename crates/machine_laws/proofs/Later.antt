@@ -20,7 +20,8 @@ use Rattle.state.specs.Checks.{checked, accessCause}
 use Rattle.integer_instructions.specs.Integer as Integers
 use Rattle.state.specs.Lent.{State}
 use Rattle.commit.specs.Commit.{advanced, trapped, applyEffect}
-use Rattle.execution.specs.Step.{effectOf, fetchedAt, nextEffect, stepOf}
+use Rattle.fetch.specs.Fetch.{shutOut, secondOf, standsOf, fetchedAt, fetchOf}
+use Rattle.execution.specs.Step.{effectOf, instructionIn, wordIn, lengthIn, trapOr, effectIn, stepOf}
 use Rattle.machine.specs.Refusals.{goodMemory, goodTags, goodZero, goodWords, goodBits, refusalOf}
 use Rattle.machine.specs.Run.{stepAfter}
 use Rattle.machine_laws.specs.Cases.{boardIn, before, top-of-memory}
@@ -39,10 +40,11 @@ record Computed : Type 0 where
   third-stays : next third ≡ third
 
 computed : Computed
-unfolding before top-of-memory stepAfter refusalOf goodMemory goodTags goodZero goodWords goodBits stepOf nextEffect fetchedAt effectOf applyEffect
-    setCapability writeRegister advanced trapped Integers.aluOf Integers.integerEffect checked accessCause placeOf capabilityAt integerAt trapStatus
-    legalized aluOf opImmOf decodeOf immediateI low high rights sealed tagged covers sameBounds moveOf exponentOf lowOf highOf lowAt highAt rightsOf
-    permissionsOf typeOf scaleOf topOf baseOf signExtend leBytes setBytes withBit
+unfolding before top-of-memory stepAfter refusalOf goodMemory goodTags goodZero goodWords goodBits stepOf effectIn trapOr lengthIn instructionIn
+    wordIn fetchOf fetchedAt standsOf secondOf shutOut effectOf applyEffect setCapability writeRegister advanced trapped Integers.aluOf
+    Integers.integerEffect checked accessCause placeOf capabilityAt integerAt trapStatus legalized aluOf opImmOf decodeOf immediateI low high rights
+    sealed tagged covers sameBounds moveOf exponentOf lowOf highOf lowAt highAt rightsOf permissionsOf typeOf scaleOf topOf baseOf signExtend leBytes
+    setBytes withBit
 computed = record { second-pcc = refl; third-pcc = refl; third-stays = refl }
 
 later-stays : (n : ℕ) → stepsAfter n (boardIn top-of-memory) (top-of-memory .revoked ∷ []) third ≡ third

@@ -14,3 +14,4 @@ pub mod Worked
 pub mod Later
 pub mod ShutOut
 pub mod Fits
+pub mod Short

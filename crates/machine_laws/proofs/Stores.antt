@@ -14,7 +14,6 @@ use Rattle.instructions.specs.declared.Instruction.the-variants as Decoded
 use Rattle.instructions.specs.declared.MemoryInstruction.{MemoryInstruction}
 use Rattle.instructions.specs.declared.MemoryInstruction.the-variants as Access
 use Rattle.state.specs.Registers.{registerAt, integerAt}
-use Rattle.state.specs.Addresses.{instructionBytes}
 use Rattle.state.specs.Lent.{State, Lent}
 use Rattle.state.specs.Memory.{placeOf, loadWidth, storeWidth, granuleBytes}
 use Rattle.state.specs.Effects.{Stored, nothing, bytes, whole, storedBy, Nothing, Storeless}
@@ -33,9 +32,9 @@ use Rattle.system_instructions.specs.System.{systemEffect}
 use Rattle.system_instructions.proofs.Laws.{system-storeless}
 use Rattle.commit.specs.Touched.{SameMemory, OnlyAt, MemoryAfter}
 use Rattle.commit.proofs.Memory.{applied-memory}
-use Rattle.execution.specs.Step.{effectOf, seen, effectAt, stepOf}
+use Rattle.execution.specs.Step.{effectOf, lengthIn, seen, fetchedIn, effectAt, stepOf}
 use Rattle.machine.specs.Run.{stepRefusal}
-use Rattle.machine_laws.specs.Steps.{wordAt}
+use Rattle.machine_laws.specs.Steps.{lengthAt, standingAt, wordAt}
 use Rattle.machine_laws.specs.Memory.{FromRegister, StoredTagged}
 use Rattle.machine_laws.proofs.Fetch.{fetched-holds, next-within, next-good}
 use Rattle.machine_laws.proofs.Refusals.{good-of}
@@ -46,7 +45,7 @@ pub store-changes-only : (board : Board) (revoked : List ℕ) (s : State) → st
 unfolding stepOf
 store-changes-only board revoked s h =
     let g = good-of board revoked s h in
-    applied-memory instructionBytes (effectAt board revoked s) s (omega (arith, g .bits .tag-bytes, g .memory .blocks))
+    applied-memory (lengthIn (fetchedIn board s)) (effectAt board revoked s) s (omega (arith, g .bits .tag-bytes, g .memory .blocks))
     (next-within board revoked s (g .memory .start-aligned)) (next-good board revoked s (g .words .tag-words))
 
 -- ---- where a tag comes from
@@ -89,19 +88,19 @@ memory-held word (Access.StoreCapability rs1 rs2 offset) regs m d =
     (placed (HeldBy word regs) (λ p. storeCapabilityAt p a (registerAt regs rs2)) tt tt
     (λ i. record { rs1 = rs1; rs2 = rs2; offset = offset; is-csc = d; is-held = refl }) (placeOf (m .board .start) (length (m .mem)) a granuleBytes))
 
-effect-held : (n word : ℕ) (i : Instruction) (regs : List ℕ) (m : Lent) → decodeOf word ≡ i → HeldBy word regs (effectOf n i word regs m)
+effect-held : (n word standing : ℕ) (i : Instruction) (regs : List ℕ) (m : Lent) → decodeOf word ≡ i → HeldBy word regs (effectOf n i standing regs m)
 unfolding effectOf
-effect-held n word (Decoded.Integer i) regs m d = storeless-held word regs (integerEffect i regs) (integer-storeless i regs)
-effect-held n word (Decoded.Jump i) regs m d = storeless-held word regs (jumpEffect n i regs) (jump-storeless n i regs)
-effect-held n word (Decoded.Memory i) regs m d = memory-held word i regs m d
-effect-held n word (Decoded.Capability i) regs m d = storeless-held word regs (capabilityEffect i regs) (capability-storeless i regs)
-effect-held n word (Decoded.System i) regs m d = storeless-held word regs (systemEffect i regs) (system-storeless i regs)
-effect-held n word Decoded.Illegal regs m d = tt
+effect-held n word w (Decoded.Integer i) regs m d = storeless-held word regs (integerEffect i regs) (integer-storeless i regs)
+effect-held n word w (Decoded.Jump i) regs m d = storeless-held word regs (jumpEffect n i regs) (jump-storeless n i regs)
+effect-held n word w (Decoded.Memory i) regs m d = memory-held word i regs m d
+effect-held n word w (Decoded.Capability i) regs m d = storeless-held word regs (capabilityEffect i regs) (capability-storeless i regs)
+effect-held n word w (Decoded.System i) regs m d = storeless-held word regs (systemEffect i regs) (system-storeless i regs)
+effect-held n word w Decoded.Illegal regs m d = tt
 
 next-held : (board : Board) (revoked : List ℕ) (s : State) → HeldBy (wordAt board s) (s .regs) (effectAt board revoked s)
 next-held board revoked s =
     fetched-holds (HeldBy (wordAt board s) (s .regs)) board revoked s (λ n v. tt)
-    (effect-held instructionBytes (wordAt board s) (decodeOf (wordAt board s)) (s .regs) (seen board revoked s) refl)
+    (effect-held (lengthAt board s) (wordAt board s) (standingAt board s) (decodeOf (wordAt board s)) (s .regs) (seen board revoked s) refl)
 
 -- a tag that is set after a step and was not before is that of a CSC's register, stored there
 pub tag-set-only-by-CSC : (board : Board) (revoked : List ℕ) (s : State) → stepRefusal board revoked s ≡ 0

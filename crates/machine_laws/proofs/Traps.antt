@@ -7,14 +7,14 @@ use native.Mathlib.Omega.{arith}
 use lib.ListN.{getD}
 use Rattle.capability.specs.Capability.{moveOf}
 use Rattle.capability.specs.declared.Capability.{Capability}
-use Rattle.state.specs.Addresses.{instructionBytes, legalized}
+use Rattle.state.specs.Addresses.{vectorAlignment, returnAlignment, legalized}
 use Rattle.state.specs.Layout.{capabilityWords, generalCount, pccIndex, mepccIndex}
 use Rattle.state.specs.declared.Board.{Board}
 use Rattle.state.specs.declared.Effect.{Effect}
 use Rattle.state.specs.declared.Effect.the-variants.{Advance, Write, Store, StoreCapability, Jump, WriteScr, WriteCsr, Trap}
 use Rattle.state.specs.Lent.{State}
 use Rattle.commit.specs.Commit.{advanced, applyEffect, retires, trapped}
-use Rattle.execution.specs.Step.{effectAt, stepOf}
+use Rattle.execution.specs.Step.{lengthIn, fetchedIn, effectAt, stepOf}
 use Rattle.commit.specs.Touched.{SameMemory}
 use Rattle.commit.proofs.Registers.{Holds, Rule, each-advanced, each-trapped}
 
@@ -34,8 +34,8 @@ same-rule : (regs : List ℕ) → Rule (Same regs)
 same-rule regs =
     record {
       moved = λ c a b h. special regs pccIndex (moveOf c a) (omega arith);
-      saved = λ c h. special regs mepccIndex (legalized c) (omega arith);
-      entered = λ c h. special regs pccIndex (legalized c) (omega arith);
+      saved = λ c h. special regs mepccIndex (legalized returnAlignment c) (omega arith);
+      entered = λ c h. special regs pccIndex (legalized vectorAlignment c) (omega arith);
       status = λ m h b. absurd (omega arith);
     }
 
@@ -66,4 +66,4 @@ trap-applied n (Trap cause value) s h =
 -- a step that does not retire leaves memory, tags and all three words of c0 to c15 as they are
 pub trap-changes-little : (board : Board) (revoked : List ℕ) (s : State) → retires (effectAt board revoked s) ≡ false → OnlySpecial s (stepOf board revoked s)
 unfolding stepOf
-trap-changes-little board revoked s h = trap-applied instructionBytes (effectAt board revoked s) s h
+trap-changes-little board revoked s h = trap-applied (lengthIn (fetchedIn board s)) (effectAt board revoked s) s h

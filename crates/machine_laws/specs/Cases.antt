@@ -1,5 +1,5 @@
 -- Single steps, with the answer, the registers and the tag byte that they leave, in one table with one statement. Document 01, "Cases" and "Tempting
--- mistakes". Memory is 64 bytes, one tag byte.
+-- mistakes"; document 02, 3. Memory is 64 bytes, one tag byte.
 -- Assumes nothing.
 use mathlib.Core.Bool.{Bool, true, _&&_}
 use mathlib.Core.List.{List, [], _∷_}
@@ -84,12 +84,12 @@ unfoldable pub all : List Case → Bool
 all [] = true
 all (c ∷ cs) = holds c && all cs
 
--- an instruction at the start of a memory at 0x20000000, interrupts enabled
-abbrev plain : (c1 held : Capability) → (tags revoked instruction retired : ℕ) → List Word → (tagsAfter : ℕ) → Case
-plain c1 held tags revoked instruction retired after tagsAfter =
+-- an instruction in a memory at 0x20000000, interrupts enabled; and at its start
+abbrev standing : (pcc c1 held : Capability) → (tags revoked instruction retired : ℕ) → List Word → (tagsAfter : ℕ) → Case
+standing pcc c1 held tags revoked instruction retired after tagsAfter =
     record {
       start = 0x20000000;
-      pcc = execute 0x20000000;
+      pcc = pcc;
       c1 = c1;
       mstatus = 8;
       held = held;
@@ -100,6 +100,9 @@ plain c1 held tags revoked instruction retired after tagsAfter =
       after = after;
       tagsAfter = tagsAfter;
     }
+
+abbrev plain : (c1 held : Capability) → (tags revoked instruction retired : ℕ) → List Word → (tagsAfter : ℕ) → Case
+plain = standing (execute 0x20000000)
 
 -- the words of a trap: MEPCC, PCC at the handler, MPIE := MIE and MIE := 0, mcause and mtval
 abbrev trap : (mepcc : Capability) → (cause value : ℕ) → List Word
@@ -156,4 +159,22 @@ cases =
     ∷ environment-call
     -- a word that is no instruction
     ∷ plain (integer 0) (integer 0) 0 0 0xFFFFFFFF 0 (trap (execute 0x20000000) 2 0xFFFFFFFF) 0
+    -- C.LI c10, 1: PCC goes on by two bytes, and what follows the half does not count
+    ∷ plain (integer 0) (integer 0) 0 0 0xFFFF4505 1 (register 10 (integer 1) (register pccIndex (execute 0x20000002) [])) 0
+    -- C.JAL 8: the link is two bytes on
+    ∷ plain (integer 0) (integer 0) 0 0 0x2021 1 (register 1 (capability 0x20000002 0x5EFE0000 1) (register pccIndex (execute 0x20000008) [])) 0
+    -- C.MV c2, c1 is ADD and loses the tag; the hint C.ADDI c1, 0 keeps it
+    ∷ plain (data-at 0x20000000) (integer 0) 0 0 0x8106 1 (register 2 (integer 0x20000000) (register pccIndex (execute 0x20000002) [])) 0
+    ∷ plain (data-at 0x20000000) (integer 0) 0 0 0x0081 1 (register 1 (data-at 0x20000000) (register pccIndex (execute 0x20000002) [])) 0
+    -- C.JR c1 to a target with two bytes in bounds
+    ∷ plain (capability 0x20000000 0x5E000400 1) (integer 0) 0 0 0x8082 1 (register pccIndex (capability 0x20000000 0x5E000400 1) []) 0
+    -- halves that are no instruction, one of zeros: mtval is the half, whatever follows it
+    ∷ plain (integer 0) (integer 0) 0 0 0xFFFF9C41 0 (trap (execute 0x20000000) 2 0x9C41) 0
+    ∷ plain (integer 0) (integer 0) 0 0 0xFFFF0000 0 (trap (execute 0x20000000) 2 0) 0
+    -- a long word off the grid of four bytes: ECALL saves its own address
+    ∷ standing (execute 0x20000002) (integer 0) (integer 0) 0 0 0x00000073 0 (trap (execute 0x20000002) 11 0) 0
+    -- a long word whose second half is past PCC's top; past memory's end; and PCC at an odd address
+    ∷ standing (capability 0x20000000 0x5E000400 1) (integer 0) (integer 0) 0 0 0x00000013 0 (trap (capability 0x20000000 0x5E000400 1) 28 (32 * 32 + 1)) 0
+    ∷ standing (execute 0x2000003E) (integer 0) (integer 0) 0 0 0x00000013 0 (trap (execute 0x2000003E) 1 0x20000040) 0
+    ∷ standing (execute 0x20000001) (integer 0) (integer 0) 0 0 0x00000001 0 (trap (execute 0x20000000) 0 0x20000001) 0
     ∷ []

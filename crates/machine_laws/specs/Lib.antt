@@ -4,3 +4,4 @@ pub mod Memory
 pub mod Integers
 pub mod Cases
 pub mod Fits
+pub mod Short

@@ -1,9 +1,11 @@
 -- Single steps one after another, each with its own refusals, and what they answer. Document 01, "Answers". Assumes nothing.
+use mathlib.Core.Bool.{cond}
 use mathlib.Core.List.{List}
 use Prim.Native.Nat.{ℕ, zero, suc, _+_, _-_}
 use Rattle.words.specs.Words.{leBytes}
 use Rattle.state.specs.Registers.{pcOf}
-use Rattle.state.specs.Addresses.{instructionBytes}
+use Rattle.short_forms.specs.Standing.{isLong, halfBytes, longBytes}
+use Rattle.short_forms.specs.Long.{longForm}
 use Rattle.state.specs.Lent.{State}
 use Rattle.state.specs.declared.Board.{Board}
 use Rattle.machine.specs.Run.{stepAnswer, stepAfter, stepRetired, stepTrapped}
@@ -22,6 +24,17 @@ unfoldable pub trappedIn : (n : ℕ) → Board → (revoked : List ℕ) → Stat
 trappedIn zero board revoked s = 0
 trappedIn (suc n) board revoked s = stepTrapped (stepAnswer board revoked s) + trappedIn n board revoked (stepAfter board revoked s)
 
--- the word at PCC's address
+-- the half at PCC's address tells how long the instruction there is
+abbrev pub halfAt : Board → State → ℕ
+halfAt board s = leBytes halfBytes (s .mem) (pcOf (s .regs) - board .start)
+
+abbrev pub lengthAt : Board → State → ℕ
+lengthAt board s = cond (isLong (halfAt board s)) longBytes halfBytes
+
+-- the instruction as it stands there
+abbrev pub standingAt : Board → State → ℕ
+standingAt board s = cond (isLong (halfAt board s)) (leBytes longBytes (s .mem) (pcOf (s .regs) - board .start)) (halfAt board s)
+
+-- the long word that it is or stands for
 abbrev pub wordAt : Board → State → ℕ
-wordAt board s = leBytes instructionBytes (s .mem) (pcOf (s .regs) - board .start)
+wordAt board s = cond (isLong (halfAt board s)) (leBytes longBytes (s .mem) (pcOf (s .regs) - board .start)) (longForm (halfAt board s))

@@ -1,4 +1,5 @@
--- How long an instruction is: its two lowest bits tell. RISC-V unprivileged standard, "Expanded Instruction-Length Encoding"; document 02, 3.
+-- How long an instruction is: its two lowest bits tell. RISC-V unprivileged standard, on instruction lengths; document 02, 3. (Longer
+-- ones than four bytes are none of this core's: their first four bytes are an illegal word.)
 use Prim.Native.Nat.{ℕ, _%_}
 use mathlib.Core.Bool.{Bool}
 use lib.Dec.{eqb}

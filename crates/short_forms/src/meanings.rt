@@ -2,6 +2,7 @@
 use crate::ShortForm;
 ghost use mathlib.Core.Path.{_≡_};
 ghost use Rattle.instructions.specs.Decode.{namingOf};
+ghost use Rattle.short_forms.specs.Long.{unlessHint};
 ghost use Rattle.short_forms.specs.Meaning.{meaningOf};
 use instructions::Alu;
 use instructions::BranchKind;
@@ -28,6 +29,23 @@ fn naming(n: u32, i: Instruction) -> Instruction
         0..=LAST_REGISTER => return i,
         _ => return Instruction::Illegal,
     }
+}
+
+// The register that a form writes whose source and destination are one: none where it would only be copied.
+fn unless_hint(rd: u32, operand: u32) -> u32
+    ensures { λ r. ⌜ r ≡ unlessHint rd operand ⌝ }
+{
+    match operand {
+        0 => return 0,
+        _ => return rd,
+    }
+}
+
+// An immediate operation on a register in place.
+fn in_place(op: Alu, rd: u32, value: u32) -> Instruction
+    ensures { λ r. ⌜ r ≡ Instruction.Integer (IntegerInstruction.OpImm op (unlessHint rd value) rd value) ⌝ }
+{
+    op_imm(op, unless_hint(rd, value), rd, value)
 }
 
 fn op_imm(op: Alu, rd: u32, rs1: u32, value: u32) -> Instruction
@@ -126,13 +144,13 @@ pub fn meaning(s: ShortForm) -> Instruction
         ShortForm::Ld { rd, rs1, offset } => return clc(rd, rs1, offset),
         ShortForm::Sw { rs1, rs2, offset } => return sw(rs1, rs2, offset),
         ShortForm::Sd { rs1, rs2, offset } => return csc(rs1, rs2, offset),
-        ShortForm::Addi { rd, value } => return naming(rd, op_imm(Alu::Add, rd, rd, value)),
+        ShortForm::Addi { rd, value } => return naming(rd, in_place(Alu::Add, rd, value)),
         ShortForm::Jal { offset } => return jal(RA, offset),
         ShortForm::Li { rd, value } => return naming(rd, op_imm(Alu::Add, rd, 0, value)),
         ShortForm::Addi16sp { value } => return from_sp(SP, value),
         ShortForm::Lui { rd, value } => return naming(rd, lui(rd, value)),
-        ShortForm::Srli { rd, shamt } => return op_imm(Alu::Srl, rd, rd, shamt),
-        ShortForm::Srai { rd, shamt } => return op_imm(Alu::Sra, rd, rd, shamt),
+        ShortForm::Srli { rd, shamt } => return in_place(Alu::Srl, rd, shamt),
+        ShortForm::Srai { rd, shamt } => return in_place(Alu::Sra, rd, shamt),
         ShortForm::Andi { rd, value } => return op_imm(Alu::And, rd, rd, value),
         ShortForm::Sub { rd, rs2 } => return op(Alu::Sub, rd, rd, rs2),
         ShortForm::Xor { rd, rs2 } => return op(Alu::Xor, rd, rd, rs2),
@@ -141,7 +159,7 @@ pub fn meaning(s: ShortForm) -> Instruction
         ShortForm::J { offset } => return jal(0, offset),
         ShortForm::Beqz { rs1, offset } => return branch(BranchKind::Beq, rs1, offset),
         ShortForm::Bnez { rs1, offset } => return branch(BranchKind::Bne, rs1, offset),
-        ShortForm::Slli { rd, shamt } => return naming(rd, op_imm(Alu::Sll, rd, rd, shamt)),
+        ShortForm::Slli { rd, shamt } => return naming(rd, in_place(Alu::Sll, rd, shamt)),
         ShortForm::Lwsp { rd, offset } => return naming(rd, lw(rd, SP, offset)),
         ShortForm::Ldsp { rd, offset } => return naming(rd, clc(rd, SP, offset)),
         ShortForm::Jr { rs1 } => return naming(rs1, jalr(0, rs1)),

@@ -13,7 +13,8 @@ use crate::immediates::offset_store_double;
 use crate::immediates::offset_store_word;
 use crate::immediates::offset_word;
 ghost use mathlib.Core.Path.{_≡_};
-ghost use Rattle.short_forms.specs.Forms.{addi4spnOf, quadrant0, addi16spOf, upperOf, twoOf, arithmeticOf, quadrant1, slliOf, lwspOf, ldspOf, movesOf, addsOf};
+ghost use Rattle.short_forms.specs.Forms.{addi4spnOf, quadrant0, addi16spOf, upperOf, twoOf, arithmeticOf, quadrant1, slliOf, lwspOf, ldspOf};
+ghost use Rattle.short_forms.specs.Forms.{movesOf, addsOf};
 ghost use Rattle.short_forms.specs.Forms.{registersOf, quadrant2};
 
 // Quadrant 0.

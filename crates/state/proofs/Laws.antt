@@ -30,10 +30,24 @@ pub cond-holds : {A : Type 0} (P : A → Type 0) (t : Bool) (x y : A) → P x �
 cond-holds P true x y h k = h
 cond-holds P false x y h k = k
 
--- what holds of an effect and of every trap holds where a check may fail
-pub checked-holds : (P : Effect → Type 0) (r cause : ℕ) (e : Effect) → ((n v : ℕ) → P (Trap n v)) → P e → P (checked r cause e)
+-- what holds of an effect and of the capability trap holds where a check may fail
+pub checked-trap : (P : Effect → Type 0) (r cause : ℕ) (e : Effect) → ((v : ℕ) → P (Trap capabilityFault v)) → P e → P (checked r cause e)
 unfolding checked
-checked-holds P r cause e t h = cond-holds P (eqb cause 0) e (capabilityTrap r cause) h (t capabilityFault _)
+checked-trap P r cause e t h = cond-holds P (eqb cause 0) e (capabilityTrap r cause) h (t _)
+
+-- and what holds of every trap
+pub checked-holds : (P : Effect → Type 0) (r cause : ℕ) (e : Effect) → ((n v : ℕ) → P (Trap n v)) → P e → P (checked r cause e)
+checked-holds P r cause e t h = checked-trap P r cause e (t capabilityFault) h
+
+-- two effects after the same check, where the relation holds of a trap and itself
+pub checked-both : (R : Effect → Effect → Type 0) (r cause : ℕ) (d e : Effect) → ((v : ℕ) → R (Trap capabilityFault v) (Trap capabilityFault v)) → R d e
+    → R (checked r cause d) (checked r cause e)
+unfolding checked
+checked-both R r cause d e t h = go (eqb cause 0)
+  where
+    go : (b : Bool) → R (cond b d (capabilityTrap r cause)) (cond b e (capabilityTrap r cause))
+    go true = h
+    go false = t _
 
 -- a store of nothing has no byte outside memory
 nothing-within : (size : ℕ) (x : Stored) → Nothing x → Within size x

@@ -6,7 +6,8 @@ use Rattle.capability.specs.Capability.{moveOf}
 use Rattle.capability.specs.declared.Capability.{Capability}
 use Rattle.state.specs.Registers.{pcOf}
 
--- the bytes that a jump's target must have in bounds, those of the shortest instruction (the report's min_instruction_bytes), and what its address is a multiple of
+-- the bytes that a jump's target must have in bounds, those of the shortest instruction (the report's min_instruction_bytes), and what its address is a
+-- multiple of
 abbrev pub targetBytes : ℕ
 targetBytes = 2
 

@@ -6,7 +6,16 @@ use Rattle.execution.proofs.effect_in.Tie as tie
 
 returns : tie.Need-returns
 unfolding effectIn
-returns c = simp (c .trap-or .ensures, c .before .execute .ensures, c .before .before .word-in .ensures, c .before .before .before .instruction-in .ensures, c .before .before .before .before .length-in .ensures)
+returns c =
+    let word = c .before .before in
+    let instruction = word .before in
+    simp (
+      c .trap-or .ensures,
+      c .before .execute .ensures,
+      word .word-in .ensures,
+      instruction .instruction-in .ensures,
+      instruction .before .length-in .ensures,
+    )
 
 pub effect-in-spec : {M : Type 1} → statement M
 effect-in-spec =

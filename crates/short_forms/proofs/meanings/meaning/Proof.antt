@@ -26,7 +26,7 @@ returns-5 c = simp (c .csc .ensures, c .before .before .s5 .given .1)
 
 returns-6 : tie.Need-returns-6
 unfolding meaningOf
-returns-6 c = simp (c .naming .ensures, c .before .op-imm .ensures, c .before .before .before .s6 .given .1)
+returns-6 c = simp (c .naming .ensures, c .before .in-place .ensures, c .before .before .before .s6 .given .1)
 
 returns-7 : tie.Need-returns-7
 unfolding meaningOf
@@ -34,7 +34,7 @@ returns-7 c = simp (c .jal .ensures, c .before .before .s7 .given .1)
 
 returns-8 : tie.Need-returns-8
 unfolding meaningOf
-returns-8 c = simp (c .naming2 .ensures, c .before .op-imm2 .ensures, c .before .before .before .s8 .given .1)
+returns-8 c = simp (c .naming2 .ensures, c .before .op-imm .ensures, c .before .before .before .s8 .given .1)
 
 returns-9 : tie.Need-returns-9
 unfolding meaningOf
@@ -46,15 +46,15 @@ returns-10 c = simp (c .naming3 .ensures, c .before .lui .ensures, c .before .be
 
 returns-11 : tie.Need-returns-11
 unfolding meaningOf
-returns-11 c = simp (c .op-imm3 .ensures, c .before .before .s11 .given .1)
+returns-11 c = simp (c .in-place2 .ensures, c .before .before .s11 .given .1)
 
 returns-12 : tie.Need-returns-12
 unfolding meaningOf
-returns-12 c = simp (c .op-imm4 .ensures, c .before .before .s12 .given .1)
+returns-12 c = simp (c .in-place3 .ensures, c .before .before .s12 .given .1)
 
 returns-13 : tie.Need-returns-13
 unfolding meaningOf
-returns-13 c = simp (c .op-imm5 .ensures, c .before .before .s13 .given .1)
+returns-13 c = simp (c .op-imm2 .ensures, c .before .before .s13 .given .1)
 
 returns-14 : tie.Need-returns-14
 unfolding meaningOf
@@ -86,7 +86,7 @@ returns-20 c = simp (c .branch2 .ensures, c .before .before .s20 .given .1)
 
 returns-21 : tie.Need-returns-21
 unfolding meaningOf
-returns-21 c = simp (c .naming4 .ensures, c .before .op-imm6 .ensures, c .before .before .before .s21 .given .1)
+returns-21 c = simp (c .naming4 .ensures, c .before .in-place4 .ensures, c .before .before .before .s21 .given .1)
 
 returns-22 : tie.Need-returns-22
 unfolding meaningOf

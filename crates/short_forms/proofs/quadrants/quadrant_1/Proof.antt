@@ -18,7 +18,10 @@ returns-3 c = rw (c .before .match .keys3) (simp (c .immediate-six2 .ensures))
 
 returns-4 : tie.Need-returns-4
 unfolding quadrant1
-returns-4 c = rw (c .before .before .before .match .keys4, c .before .before .match2 .keys1) (simp (c .addi16sp .ensures, c .before .immediate-sixteens .ensures))
+returns-4 c = rw (c .before .before .before .match .keys4, c .before .before .match2 .keys1) (simp (
+  c .addi16sp .ensures,
+  c .before .immediate-sixteens .ensures,
+))
 
 returns-5 : tie.Need-returns-5
 unfolding quadrant1
