@@ -167,7 +167,7 @@ impl Scene<'_> {
     /// stepped over or jumped to is a word as it was written.
     fn write_code(&mut self, mix: &Mix, granules: u32) {
         let Layout { start, size } = self.parts.code;
-        let in_pairs = !self.random.one_in(4);
+        let in_pairs = !self.random.one_in(8);
         let mut at = 0;
         while at < size {
             let word = if in_pairs && at % 4 == 2 {
@@ -189,7 +189,7 @@ impl Scene<'_> {
         for (index, word) in (0..).zip(HANDLER) {
             self.write(handler.wrapping_add(4 * index), word);
         }
-        let bytes = self.random.pick([2, 4, 4, 4]);
+        let bytes = self.random.pick([2, 4, 4, 4, 4, 4, 4, 4]);
         self.write(handler.wrapping_add(4 * STEP), ADD_TO_C15 | bytes << 20);
         let unit = self.random.pick([2, 4, 4, 4]);
         let target = self.parts.code.inside(self.random, unit);

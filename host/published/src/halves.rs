@@ -196,7 +196,7 @@ fn state(kind: u32) -> State {
         let number = [0, 1, 0x8000_0000, u32::MAX, 0x1234_5678][place as usize % 5];
         let value = match kind {
             0 => Capability::tagged(DATA + 0x100 + 8 * place, MEMORY_ROOT),
-            1 => Capability::tagged(DATA + 6 * place, EXECUTABLE_ROOT | place % 4 << 22),
+            1 => Capability::tagged(DATA + 6 * place, EXECUTABLE_ROOT | (place % 4) << 22),
             _ => Capability::integer(number),
         };
         state.set(place as usize, value);
@@ -340,7 +340,7 @@ mod tests {
         // c.jal .+4 links two on; a machine that links four on is found.
         let wrong: Machine = |state, call| {
             let answer = second(state, call);
-            state.regs[3] |= 4 * u32::from(state.regs[3] == PLACE + 2);
+            state.regs[3] += 2 * u32::from(state.regs[3] == PLACE + 2);
             answer
         };
         assert!(check(second, 0x2011, Fate::Same, 0x0040_00EF).is_ok());
