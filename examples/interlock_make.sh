@@ -19,5 +19,6 @@ make() { # NAME SOURCE TEXT-ADDRESS ASSEMBLER-OPTION..
   [ "$out" = . ] || cp "$work/$name.elf" "$out"
 }
 make interlock_image interlock_image.s 0x20000100
+make interlock_image_short interlock_image.s 0x20000100 -march=rv32ic
 make interlock_small interlock_board.s 0x20000000 --defsym STACK_END=0x20000800
 make interlock_large interlock_board.s 0x20000000 --defsym STACK_END=0x20002000

@@ -39,6 +39,22 @@ elf_files() {
   (cd "$work" && "$bench" run interlock_small.elf interlock_image.elf) | grep -F '2000010c, word fe113c23, byte 0 of plan'
 }
 
+# The image with short words does on both boards what the other does: it makes as many steps, and ends, or is stopped by
+# the same request; only the addresses of its code differ.
+short_image() {
+  local board name
+  for board in small large; do
+    for name in image image_short; do
+      host/bench/target/release/bench run --json --map "examples/interlock_$board.map" "examples/interlock_$board.hex" "examples/interlock_$name.hex" |
+        python3 -c 'import json, sys
+run = json.load(sys.stdin)
+trap = run["trap"] or {"cause": None, "asked": None, "authority": None}
+print(run["end"], run["retired"], run["trapped"], run["state"]["registers"][10], trap["cause"], trap["asked"], trap["authority"])' >"$work/$name" || return 1
+    done
+    [ -s "$work/image" ] && cmp "$work/image" "$work/image_short" || return 1
+  done
+}
+
 # What README.md shows at its head is what the demonstration writes.
 readme_shows() {
   ./bench demo >"$work/demo"
@@ -128,4 +144,5 @@ check "the demonstration" ./bench demo
 check "README.md shows the demonstration's output" readme_shows
 check "the demonstration's HEX files are their sources'" hex_files
 check "the demonstration's ELF files run as the HEX files" elf_files
+check "the demonstration's image with short words runs as the other" short_image
 exit $bad

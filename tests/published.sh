@@ -1,6 +1,6 @@
 #!/usr/bin/env bash
 # What others published, and capability programs, on the proved machine: published.sh [PART..], by
-# default all of routines, instructions, decoding and programs. The proved library is built by
+# default all of routines, instructions, decoding, halves and programs. The proved library is built by
 # rt, or lies in the directory that ODDERSNOW_STATICLIB names; the RISC-V tools and qemu are
 # Debian's. What a part wrote is in host/target/published.
 set -u
@@ -21,11 +21,11 @@ build() {
   library bench_api && (cd host && cargo build --offline --release -p published --bin published)
 }
 
-[ $# -gt 0 ] || set -- routines instructions decoding programs
+[ $# -gt 0 ] || set -- routines instructions decoding halves programs
 part tools tools && part build build || exit 1
 for name in "$@"; do
   case $name in
-  routines | instructions | decoding | programs)
+  routines | instructions | decoding | halves | programs)
     part "$name" host/target/release/published "$name" &&
       tail -n 2 "$out/$name.txt" | head -n 1
     ;;

@@ -1,6 +1,7 @@
 #!/usr/bin/env bash
 # The speed programs: every step retires on both machines, and the proved machine needs no more of the
-# host's instructions for a step than the second program. The bounds lookup: the proved routine needs no
+# host's instructions for a step than the second program, and for one of the integer program by short words
+# at most a quarter more than by long ones. The bounds lookup: the proved routine needs no
 # more than the second program's and than the tuned one. Callgrind counts them, so that what else the
 # computer does changes nothing. The proved libraries are built by rt, or lie in the directory that
 # ODDERSNOW_STATICLIB names.
@@ -24,13 +25,18 @@ no_more() { # COUNT COUNT
 check "the proved libraries" library bench_api label
 check "the speed program builds" build
 check "valgrind is here" need valgrind valgrind
-for program in integer memory capability bounded multiply; do
+for program in integer short memory capability bounded multiply; do
   for engine in proved second; do
     check "every step of $program retires ($engine)" count "$engine" "$program"
     echo "$engine, $program: $(cat "$work/count.$engine.$program") instructions a step"
   done
   check "the proved machine takes no more instructions for $program" no_more ".proved.$program" ".second.$program"
 done
+a_quarter_more() { # COUNT COUNT
+  local left right
+  left=$(cat "$work/count$1") && right=$(cat "$work/count$2") && [ $((4 * left)) -le $((5 * right)) ]
+}
+check "short words take at most a quarter more than long ones" a_quarter_more .proved.short .proved.integer
 for kind in random whole exponent4 small; do
   for routine in proved second tuned; do
     check "lookups of $kind words ($routine)" count lookup "$routine" "$kind"

@@ -53,7 +53,7 @@
     finish
 
 // Metadata is 0x7E000000 + E * 2^18 + T * 2^9 + B, of the memory root's code 0x3F.
-// run: 200
+// run: 400
 // expect: trapped = 0
 // [0x20000001, 0x20000200): E 0, T 0, B 1; exact.
 // expect: cap results = 0x20000001 0x7e000001 1

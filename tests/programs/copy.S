@@ -57,7 +57,7 @@ lost:
     .org  0x8a0
 
 // source is 0x20000800: T 0x20, B 0. kept: T 0x60, B 0x40. lost: T 0xA0, B 0x80.
-// run: 150
+// run: 300
 // expect: trapped = 2
 // expect: cap source = source 0x7e004000 1
 // expect: cap source+8 = kept 0x7e00c040 1

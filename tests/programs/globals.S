@@ -34,7 +34,7 @@ table:
     .word 0x600d600d
 
 // table is 0x20000800: T 0x40, B 0.
-// run: 100
+// run: 200
 // expect: trapped = 0
 // expect: c7 = code+0x800 0x5e3e0000 1
 // expect: c8 = code+0xfffff804 0x5e3e0000 1

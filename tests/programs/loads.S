@@ -83,7 +83,7 @@ token:
 
 // revoke: token token+8
 // next is 0x20000840: T 0x50, B 0x40: 0x7E00A040. token is 0x200008C0: T 0xC8, B 0xC0.
-// run: 250
+// run: 500
 // Without GL and LG the code is 0 1 1 SL LM 0; without SD and LM then 0 1 0 1 0 0, 0x14.
 // expect: cap results = next 0x2800a040 0
 // expect: cap results+8 = next 0x7e00a040 0

@@ -43,7 +43,7 @@ other_opcode:
     .org  0x800
 table:
 
-// run: 300
+// run: 500
 // expect: trapped = 2
 // -21 and 3 * 2^32 - 21; -7 = 3 * -2 - 1 and 2^32 - 7 = 3 * 0x55555553.
 // expect: word results = 0xffffffeb

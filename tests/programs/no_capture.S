@@ -46,7 +46,7 @@ stack:
 
 // node is 0x20000800: T 0x10, B 0. next: T 0x20, B 0x10. globals: T 0x110, B 0x100, code without SL
 // 0x3B. stack: T 0x190, B 0x180. Without GL and LG: the code 0 1 1 SL LM 0 is 0x1E.
-// run: 100
+// run: 200
 // expect: trapped = 3
 // expect: c9 = node 0x3c002000 1
 // expect: c11 = next 0x3c004010 1

@@ -39,7 +39,7 @@ above:
     .word 0x55555555
 
 // buffer is 0x20000800: T 0x20, B 0. stack is 0x20000840: T 0x80, B 0x40.
-// run: 320
+// run: 500
 // expect: trapped = 5
 // c7, cause 1, four times; then c10, cause 2.
 // expect: word log = 28

@@ -57,7 +57,7 @@
     ask   cgetaddr, x7, c12
     finish
 
-// run: 250
+// run: 500
 // expect: trapped = 0
 // The root: base 0; top and length 2^32, given as 2^32 - 1.
 // expect: cap results = 0 0 0

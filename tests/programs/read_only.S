@@ -42,7 +42,7 @@ next:
 // node is 0x20000800: T 0x10, B 0. next: T 0x20, B 0x10. The rights 0x07F without SD and LM keep GL
 // LG LD MC (SL has no place in that row): the code GL 1 0 1 0 LG is 0x35. Without SD alone: GL 1 0
 // 1 LM LG, 0x37.
-// run: 100
+// run: 200
 // expect: trapped = 3
 // expect: c7 = node 0x7e002000 1
 // expect: c8 = next 0x7e004010 1

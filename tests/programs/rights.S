@@ -50,7 +50,7 @@
 cell:
     .org  0x808
 
-// run: 250
+// run: 500
 // Memory: GL LD MC SD SL LM LG; then the read-only row, which has no SL.
 // expect: word results = 0x07f
 // expect: word results+4 = 0x06b

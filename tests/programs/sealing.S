@@ -106,7 +106,7 @@ data:
 
 // data is 0x20000800. Bounds of 64 bytes there: E 0, T 0x40, B 0: 0x7E000000 + 0x40 * 2^9. A stored
 // type t adds t * 2^22. The authority [9, 10): T 10, B 9, of the sealing root's code 0x27.
-// run: 250
+// run: 500
 // expect: trapped = 5
 // expect: c7 = data 0x7e008000 1
 // expect: c8 = 9 0x4e001409 1

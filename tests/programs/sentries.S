@@ -54,7 +54,7 @@ entry:
     finish
 
 // The executable root's metadata is 0x5E3E0000; a type t adds t * 2^22.
-// run: 200
+// run: 400
 // expect: trapped = 1
 // expect: x13 = 0x27
 // expect: c8 = entry 0x5e7e0000 1

@@ -2,7 +2,8 @@
 //
 // Document 01: of mstatus MIE (bit 3) and MPIE (bit 7) can be written, all of it is read; mcause and
 // mtval take every word. MTCC and MEPCC are written and read by a move to the address without its
-// two low bits, of an aligned one too. MTDC and MScratchC hold anything.
+// two low bits and without its lowest (document 02, 3), of an aligned one too. MTDC and MScratchC hold
+// anything.
 
 #include "cheriot.inc"
 #include "handler.inc"
@@ -47,7 +48,7 @@ here:
     cspecialrw c1, MTDC, c11
     finish
 
-// run: 200
+// run: 400
 // expect: trapped = 0
 // The values before each write.
 // expect: cap results = 0x12340000 0 0
@@ -64,10 +65,10 @@ here:
 // expect: cap results+72 = 31 0 0
 // expect: cap results+80 = 30 0 0
 // expect: mtval = 30
-// Read, then written, with two bits too many.
-// expect: c8 = 0x20000004 0x5e3e0000 1
+// Read, then written, with one bit too many.
+// expect: c8 = 0x20000006 0x5e3e0000 1
 // expect: c9 = here+0xffffffff 0x5e3e0000 1
-// expect: MEPCC = here+0xfffffffc 0x5e3e0000 1
+// expect: MEPCC = here+0xfffffffe 0x5e3e0000 1
 // A sealed value loses its tag in MTCC, not in MTDC.
 // expect: c10 = skip 0x5e3e0000 1
 // expect: c11 = 0x20000018 0x5e7e0000 1

@@ -47,7 +47,7 @@ after:
     .word 0x77777777
 
 // cells is 0x20000800: T 0x40, B 0. The data row GL 1 0 0 LD SD is 0x33; without GL 0x1F.
-// run: 220
+// run: 440
 // expect: trapped = 12
 // expect: c8 = cells 0x66008000 1
 // expect: c9 = cells 0x3e008000 1

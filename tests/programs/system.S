@@ -33,7 +33,7 @@ compartment:
 
     finish
 
-// run: 200
+// run: 400
 // expect: trapped = 6
 // The rights 0x1EB without SR: the code GL 0 1 0 LM LG is 0x2B.
 // expect: c6 = compartment 0x563e0000 1

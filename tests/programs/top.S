@@ -30,3 +30,23 @@
 // expect: retired = 1
 // expect: c1 = 0 0x5e900100 0
 // expect: PCC = 0xfffffff8 0x5e100100 1
+// The last two bytes: a short word runs there, c.nop, and PCC is then untagged at 0; with c.jal .-2 the
+// link is. A long word's second half would be at 2^32: out of bounds, and not at 0.
+// lend: word 0xfffffffc = 0x00010000
+// lend: PCC = 0xfffffffe 0x5e100100 1
+// run: 1
+// expect: retired = 1
+// expect: PCC = 0 0x5e100100 0
+// lend: word 0xfffffffc = 0x3ffd0000
+// lend: PCC = 0xfffffffe 0x5e100100 1
+// run: 1
+// expect: retired = 1
+// expect: c1 = 0 0x5e900100 0
+// expect: PCC = 0xfffffffc 0x5e100100 1
+// lend: word 0xfffffffc = 0x00130000
+// lend: PCC = 0xfffffffe 0x5e3e0000 1
+// run: 1
+// expect: trapped = 1
+// expect: mcause = 28
+// expect: mtval = 0x401
+// expect: MEPCC = 0xfffffffe 0x5e3e0000 1

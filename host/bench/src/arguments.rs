@@ -41,8 +41,8 @@ pub struct Run {
     /// The bytes of memory [default: 65536, or the map's]
     #[arg(long, value_parser = size, conflicts_with = "state")]
     pub size: Option<u64>,
-    /// The address of the first instruction [default: the image's, else memory's start]
-    #[arg(long, value_parser = word, conflicts_with = "state")]
+    /// The address of the first instruction, even [default: the image's, else memory's start]
+    #[arg(long, value_parser = even, conflicts_with = "state")]
     pub entry: Option<u32>,
     /// The most steps to run
     #[arg(long, value_parser = number, default_value = "1000000")]
@@ -120,6 +120,14 @@ fn word(text: &str) -> Result<u32, String> {
     u32::try_from(number(text)?).map_err(|_| "not below 2^32".into())
 }
 
+/// An address that an instruction may have.
+fn even(text: &str) -> Result<u32, String> {
+    match word(text)? {
+        address if address % 2 == 0 => Ok(address),
+        _ => Err("odd, and an instruction's address is even".into()),
+    }
+}
+
 fn size(text: &str) -> Result<u64, String> {
     let size = number(text)?;
     if size <= 1 << 32 {
@@ -158,5 +166,12 @@ mod tests {
         assert_eq!(word("0x100000000"), Err("not below 2^32".into()));
         assert_eq!(size("0x100000001"), Err("more than 2^32".into()));
         assert_eq!(size("0x100000000"), Ok(1 << 32));
+    }
+
+    #[test]
+    fn an_instructions_address_is_even() {
+        assert_eq!(even("0x20000002"), Ok(0x2000_0002));
+        assert!(even("0x20000001").unwrap_err().starts_with("odd"));
+        assert!(even("0x100000000").unwrap_err().starts_with("not below"));
     }
 }

@@ -6,7 +6,9 @@ use crate::memory_rows::rows;
 use crate::names::Names;
 use crate::proved::{bounds, Refusal, Region};
 use crate::trap::{Action, Asked, Authority, Trap};
-use lent::{place_name, Capability, State, CAPABILITIES, MCAUSE, MSTATUS, MTVAL};
+use lent::{
+    instruction_bytes, place_name, Capability, State, CAPABILITIES, MCAUSE, MSTATUS, MTVAL,
+};
 use serde_json::{json, Value};
 
 /// A run that was made.
@@ -78,6 +80,7 @@ fn trap(trap: &Trap, state: &State, names: &Names) -> Value {
         "at": trap.pcc.address,
         "names": places(trap.pcc.address, names),
         "word": trap.word,
+        "length": trap.word.map(instruction_bytes),
         "cause": trap.cause,
         "mcause": trap.mcause,
         "mtval": trap.mtval,

@@ -13,6 +13,7 @@ mod names;
 mod probe;
 mod proved;
 mod report;
+mod request;
 mod save;
 #[cfg(test)]
 mod sequence;

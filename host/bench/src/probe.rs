@@ -5,10 +5,12 @@
 mod tests;
 
 use crate::proved;
-use lent::{Capability, State, EXECUTABLE_ROOT, MCAUSE, MEMORY_ROOT, MTVAL, PCC};
+use crate::request::Request;
+use lent::{
+    instruction_bytes, Capability, State, EXECUTABLE_ROOT, MCAUSE, MEMORY_ROOT, MTVAL, PCC,
+};
 
-// The fields of an instruction word that a probe puts in place.
-const FUNCT3: u32 = 7 << 12;
+// The field of a long word that a probe puts in place.
 const RS1: u32 = 31 << 15;
 const RS1_IS_C1: u32 = 1 << 15;
 
@@ -16,19 +18,30 @@ const RS1_IS_C1: u32 = 1 << 15;
 const CGETPERM: u32 = 0xFE00_80DB;
 const CGETTYPE: u32 = 0xFE10_80DB;
 
-const FETCH_MISALIGNED: u32 = 0;
 /// The mcause of a capability check.
 pub const CAPABILITY_CHECK: u32 = 28;
-/// The one even target whose four bytes a root does not hold.
-const LAST_TARGET: u32 = 0xFFFF_FFFE;
 
-/// A scratch state with one word of code at `start` and one capability in c1.
-fn scratch(start: u32, word: u32, first: Capability) -> State {
+/// Where an access is tried, and where its code is: an offset reaches 2,048 bytes, so that there is no
+/// memory where it goes.
+const TRIED: u32 = 0x4000_0000;
+const TRIED_FROM: u32 = 0xC000_0000;
+
+/// A scratch state with one word of code at `start` and one capability in a register.
+fn scratch(start: u32, word: u32, register: usize, value: Capability) -> State {
     let mut memory = vec![0; 64];
     memory[..4].copy_from_slice(&word.to_le_bytes());
     let mut state = State::reset(start, memory, start);
-    state.set(1, first);
+    state.set(register, value);
     state
+}
+
+/// A word and the register that it goes by, which a scratch state can set: in a long word c1, as c0 can
+/// hold nothing.
+fn free(word: u32) -> Option<(u32, usize)> {
+    match instruction_bytes(word) {
+        2 => Some((word, Request::of(word).register()?)),
+        _ => Some((word & !RS1 | RS1_IS_C1, 1)),
+    }
 }
 
 /// The integer that an instruction from c1 to c1 gives for a metadata word.
@@ -38,7 +51,7 @@ fn query(word: u32, metadata: u32) -> u32 {
         metadata,
         tag: 0,
     };
-    let mut state = scratch(0, word, asked);
+    let mut state = scratch(0, word, 1, asked);
     match proved::run(&mut state, 1) {
         Ok(_) => state.capability(1).address,
         Err(_) => 0,
@@ -55,25 +68,23 @@ pub fn seal_type(metadata: u32) -> u32 {
     query(CGETTYPE, metadata)
 }
 
-/// The address that a load or store asks for, its authority at `address`. The same word is made a
-/// byte access through a root, where there is no memory: that traps with the address in mtval.
+/// The address that a load or store asks for, its authority at `address`. The same word is tried
+/// through a root at another address, where there is no memory: that traps with the address in mtval,
+/// misaligned or outside memory.
 pub fn access(word: u32, address: u32) -> Option<u32> {
-    // An offset reaches 2,048 bytes, so half the address space away is far enough.
-    let start = address.wrapping_add(1 << 31) & !63;
-    let word = word & !(FUNCT3 | RS1) | RS1_IS_C1;
-    let mut state = scratch(start, word, Capability::tagged(address, MEMORY_ROOT));
-    let counts = proved::run(&mut state, 1).ok()?;
-    (counts.trapped == 1).then(|| state.register(MTVAL))
+    let (word, register) = free(word)?;
+    let authority = Capability::tagged(TRIED, MEMORY_ROOT);
+    let mut state = scratch(TRIED_FROM, word, register, authority);
+    proved::run(&mut state, 1).ok()?;
+    let offset = state.register(MTVAL).wrapping_sub(TRIED);
+    matches!(state.register(MCAUSE), 4..=7).then(|| address.wrapping_add(offset))
 }
 
-/// The target of a CJALR whose authority is at `address`.
+/// The target of a jump by a register whose authority is at `address`.
 pub fn register_jump(word: u32, address: u32) -> Option<u32> {
-    let word = word & !RS1 | RS1_IS_C1;
-    target(scratch(
-        0,
-        word,
-        Capability::tagged(address, EXECUTABLE_ROOT),
-    ))
+    let (word, register) = free(word)?;
+    let authority = Capability::tagged(address, EXECUTABLE_ROOT);
+    target(scratch(0, word, register, authority))
 }
 
 /// The target of the branch or CJAL that `state` is at, with PCC widened to the root.
@@ -83,13 +94,8 @@ pub fn relative_jump(state: &State, pcc: Capability) -> Option<u32> {
     target(state)
 }
 
-/// Where a jump by root authority goes, misaligned or not.
+/// Where a jump by root authority goes: a root holds the two bytes of every even target.
 fn target(mut state: State) -> Option<u32> {
     let counts = proved::run(&mut state, 1).ok()?;
-    match (counts.retired, state.register(MCAUSE)) {
-        (1, _) => Some(state.capability(PCC).address),
-        (_, FETCH_MISALIGNED) => Some(state.register(MTVAL)),
-        (_, CAPABILITY_CHECK) => Some(LAST_TARGET),
-        _ => None,
-    }
+    (counts.retired == 1).then(|| state.capability(PCC).address)
 }

@@ -5,6 +5,7 @@ use crate::drive::{End, Outcome};
 use crate::memory_rows::{rows, Row, ROW};
 use crate::names::Names;
 use crate::proved::bounds;
+use crate::request::digits;
 use crate::trap::{Action, Asked, Authority, Trap};
 use lent::{place_name, Capability, State, CAPABILITIES, GRANULE};
 use lent::{MCAUSE, MSTATUS, MTVAL, PCC};
@@ -33,9 +34,9 @@ pub fn trap(trap: &Trap, state: &State, names: &Names) -> String {
     }
     let _ = writeln!(text, "Trap: {}.\n", trap.cause);
     let place = names.place(trap.pcc.address);
-    let word = trap
-        .word
-        .map_or("not fetched".into(), |word| format!("word {word:08x}"));
+    let word = trap.word.map_or("not fetched".into(), |word| {
+        format!("word {}", digits(word))
+    });
     let _ = writeln!(text, "  at       {:08x}, {word}{place}", trap.pcc.address);
     if let Some(asked) = trap.asked {
         text.push_str(&asked_line(asked, trap, names));

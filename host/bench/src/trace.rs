@@ -2,8 +2,9 @@
 
 use crate::capability_text::{is_integer, region};
 use crate::proved::{bounds, Counts};
+use crate::request::digits;
 use crate::trap::Trap;
-use lent::{place_name, Capability, State, CAPABILITIES, CONTROL, MSTATUS, PCC};
+use lent::{instruction_bytes, place_name, Capability, State, CAPABILITIES, CONTROL, MSTATUS, PCC};
 
 /// The line of the step from `before` to `after`.
 pub fn line(number: u64, before: &State, after: &State, made: Counts) -> String {
@@ -12,19 +13,21 @@ pub fn line(number: u64, before: &State, after: &State, made: Counts) -> String 
         let trap = Trap::of_step(before, after);
         (trap.word, vec![format!("trap: {}", trap.cause)])
     } else {
-        (before.word(pcc.address), changes(before, after))
+        let word = before.instruction(pcc.address);
+        (word, changes(before, after, word.unwrap_or(0)))
     };
-    let word = word.map_or("--------".into(), |word| format!("{word:08x}"));
+    let word = word.map_or("--------".into(), digits);
     let text = format!(
-        "{number:>8}  {:08x}  {word}  {}",
+        "{number:>8}  {:08x}  {word:<8}  {}",
         pcc.address,
         changes.join(", ")
     );
     text.trim_end().into()
 }
 
-/// What a step that retired changed: registers, memory, and PCC where it is not the next in order.
-fn changes(before: &State, after: &State) -> Vec<String> {
+/// What a step by a word that retired changed: registers, memory, and PCC where it is not the next in
+/// order.
+fn changes(before: &State, after: &State, word: u32) -> Vec<String> {
     let mut changes = Vec::new();
     for place in (0..PCC).chain(PCC + 1..CAPABILITIES) {
         let (old, new) = (before.capability(place), after.capability(place));
@@ -39,7 +42,7 @@ fn changes(before: &State, after: &State) -> Vec<String> {
     }
     changes.extend(memory_change(before, after));
     let (mut next, new) = (before.capability(PCC), after.capability(PCC));
-    next.address = next.address.wrapping_add(4);
+    next.address = next.address.wrapping_add(instruction_bytes(word));
     if new != next {
         changes.push(format!("PCC := {}", shown(new)));
     }

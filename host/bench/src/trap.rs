@@ -7,7 +7,8 @@ mod tests;
 use crate::capability_text::is_sentry;
 use crate::probe::{self, CAPABILITY_CHECK};
 use crate::proved::{bounds, Region};
-use lent::{place_name, Capability, State, MCAUSE, MEPCC, MTCC, MTVAL, PCC};
+use crate::request::Request;
+use lent::{instruction_bytes, place_name, Capability, State, MCAUSE, MEPCC, MTCC, MTVAL, PCC};
 
 /// The name of PCC in mtval; a special register n is named by this plus n (the CHERIoT report,
 /// 7.11).
@@ -20,12 +21,8 @@ const BOUNDS: u32 = 1;
 const SEAL: u32 = 3;
 const SYSTEM_REGISTERS: u32 = 24;
 
-// The opcodes of what asks for an address.
-const LOAD: u32 = 0x03;
-const STORE: u32 = 0x23;
-const BRANCH: u32 = 0x63;
-const CJALR: u32 = 0x67;
-const CJAL: u32 = 0x6F;
+/// The bytes of a first half, which a fetch asks for first and a jump of its target.
+const HALF: u32 = 2;
 
 /// What the step was doing when it trapped.
 #[derive(Clone, Copy, PartialEq, Eq, Debug)]
@@ -75,7 +72,7 @@ pub struct Authority {
 pub struct Trap {
     /// PCC at the trap.
     pub pcc: Capability,
-    /// The instruction word, if it could be fetched.
+    /// The instruction word, short or long, if it could be fetched.
     pub word: Option<u32>,
     pub mcause: u32,
     pub mtval: u32,
@@ -107,7 +104,7 @@ impl Trap {
     fn new(after: &State, pcc: Capability) -> Trap {
         let (mcause, mtval) = (after.register(MCAUSE), after.register(MTVAL));
         let action = action(after, pcc, mcause, mtval);
-        let word = after.word(pcc.address);
+        let word = after.instruction(pcc.address);
         let word = word.filter(|_| action != Action::Fetch);
         let authority = authority(after, pcc, mcause, mtval, action, word);
         let mut trap = Trap {
@@ -152,21 +149,26 @@ impl Trap {
         Some(Asked { address, size })
     }
 
-    /// The bytes of the access: funct3 of a load or store holds the power of two, an instruction
-    /// has 4.
+    /// The bytes of the access. A fetch asks for four where its first half has passed.
     fn size(&self) -> u32 {
-        match (self.action, self.word) {
-            (Action::Load | Action::Store, Some(word)) => 1 << (word >> 12 & 3),
-            _ => 4,
+        match self.word.map(Request::of) {
+            Some(Request::Load { size, .. } | Request::Store { size, .. }) => size,
+            _ if self.action == Action::Fetch && self.second_half() => 2 * HALF,
+            _ => HALF,
         }
+    }
+
+    /// Whether a fetch was refused for the bounds of its second half.
+    fn second_half(&self) -> bool {
+        let outside = self.mcause == CAPABILITY_CHECK && self.mtval % 32 == BOUNDS;
+        outside && holds(bounds(self.pcc), self.pcc.address, HALF)
     }
 }
 
 /// What the step was doing.
 fn action(after: &State, pcc: Capability, mcause: u32, mtval: u32) -> Action {
-    let word = after.word(pcc.address).unwrap_or(0);
+    let word = after.instruction(pcc.address);
     match mcause {
-        0 if target(after, pcc, word) == Some(mtval) => Action::Jump,
         0 | 1 => Action::Fetch,
         4 | 5 => Action::Load,
         6 | 7 => Action::Store,
@@ -175,30 +177,31 @@ fn action(after: &State, pcc: Capability, mcause: u32, mtval: u32) -> Action {
     }
 }
 
-/// The target of the jump or branch at an aligned PCC.
+/// The target of the jump or branch at an even PCC.
 fn target(after: &State, pcc: Capability, word: u32) -> Option<u32> {
-    match (pcc.address % 4, word & 0x7F) {
-        (0, BRANCH | CJAL) => probe::relative_jump(after, pcc),
-        (0, CJALR) => probe::register_jump(word, after.capability(source(word)).address),
+    match (pcc.address % HALF, Request::of(word)) {
+        (0, Request::RelativeJump) => probe::relative_jump(after, pcc),
+        (0, Request::RegisterJump { by }) => {
+            probe::register_jump(word, after.capability(by).address)
+        }
         _ => None,
     }
 }
 
-/// The register in the rs1 field.
-fn source(word: u32) -> usize {
-    (word >> 15 & 15) as usize
-}
-
 /// What a capability check refused. One of PCC is a fetch, unless the fetch was in bounds.
-fn checked_action(pcc: Capability, word: u32, mtval: u32) -> Action {
+fn checked_action(pcc: Capability, word: Option<u32>, mtval: u32) -> Action {
     let (name, cause) = (mtval / 32, mtval % 32);
-    match (name, word & 0x7F) {
+    let fetched = word.is_some_and(|word| {
+        let bytes = instruction_bytes(word);
+        holds(bounds(pcc), pcc.address, bytes)
+    });
+    match (name, word.map(Request::of)) {
         _ if cause == SYSTEM_REGISTERS => Action::Other,
-        (PCC_NAME, _) if cause == BOUNDS && holds(bounds(pcc), pcc.address, 4) => Action::Jump,
+        (PCC_NAME, _) if cause == BOUNDS && fetched => Action::Jump,
         (PCC_NAME, _) => Action::Fetch,
-        (_, LOAD) => Action::Load,
-        (_, STORE) => Action::Store,
-        (_, CJALR) => Action::Jump,
+        (_, Some(Request::Load { .. })) => Action::Load,
+        (_, Some(Request::Store { .. })) => Action::Store,
+        (_, Some(Request::RegisterJump { .. })) => Action::Jump,
         _ => Action::Other,
     }
 }
@@ -222,11 +225,9 @@ fn authority(
         value,
         bounds: bounds(value),
     };
-    let by_register = matches!(word, Some(word) if word & 0x7F == CJALR);
     let place = match (mcause, action) {
         (CAPABILITY_CHECK, _) if mtval / 32 < 16 => (mtval / 32) as usize,
-        (_, Action::Load | Action::Store) => source(word?),
-        (0, Action::Jump) if by_register => source(word?),
+        (_, Action::Load | Action::Store) => Request::of(word?).register()?,
         (0 | 1 | CAPABILITY_CHECK, _) => return Some(named("PCC".into(), pcc)),
         _ => return None,
     };

@@ -162,6 +162,7 @@ fn odd_files_are_refused_by_name_and_place() {
     let directory = directory("odd_files");
     let mut files = bad_elf_files();
     let cut_hex = hex().replace(":00000001FF\n", "").into_bytes();
+    let odd_start = hex().replace(":0400000520000100D6", ":0400000520000101D5");
     let wrong_sum = hex().replace(":0400000520000100D6", ":0400000520000100D7");
     files.extend([
         ("empty", Vec::new()),
@@ -169,6 +170,8 @@ fn odd_files_are_refused_by_name_and_place() {
         ("hex cut short", cut_hex),
         ("hex without data", b":00000001FF\n".to_vec()),
         ("hex with a wrong sum", wrong_sum.into_bytes()),
+        ("hex with an odd start", odd_start.into_bytes()),
+        ("elf with an odd start", program(0x2000_0101)),
         ("hex that is not text", b":\xFF\xFE".to_vec()),
     ]);
     let mut text = String::new();

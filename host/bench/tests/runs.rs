@@ -191,6 +191,36 @@ fn the_trace_shows_new_bounds_of_pcc_and_no_word_that_was_not_fetched() {
     assert_eq!(lines, said);
 }
 
+/// c.li x10, 7; c.jal .+4 over c.nop; a long word between two multiples of four; c.ebreak. The start is at
+/// an address that is even and no multiple of four.
+#[test]
+fn the_trace_shows_short_words_by_four_digits() {
+    let directory = directory("trace_short");
+    let halves = [0u16, 0x451D, 0x2011, 0x0001, 0x0513, 0x0095, 0x9002];
+    let image: Vec<u8> = halves.iter().flat_map(|half| half.to_le_bytes()).collect();
+    std::fs::write(directory.join("image"), image).unwrap();
+    let run = ["run", "image", "--trace", "--entry", "0x20000002"];
+    let answer = bench_in(&directory, &run);
+    let lines: Vec<&str> = answer.out.lines().take(4).collect();
+    let said = [
+        "       1  20000002  451d      c10 := 00000007",
+        "       2  20000004  2011      c1 := 20000006 [00000000, 100000000), \
+         PCC := 20000008 [00000000, 100000000)",
+        "       3  20000008  00950513  c10 := 00000010",
+        "       4  2000000c  9002      trap: breakpoint (EBREAK)",
+    ];
+    assert_eq!(lines, said);
+    let value = bench_in(&directory, &[&run[..], &["--json"]].concat()).json();
+    let trap = &value["trap"];
+    assert_eq!(
+        (&trap["word"], &trap["length"]),
+        (&json!(0x9002), &json!(2))
+    );
+    let odd = bench_in(&directory, &["run", "image", "--entry", "0x20000003"]);
+    assert_eq!((odd.status, odd.out.as_str()), (3, ""));
+    assert!(odd.err.contains("an instruction's address is even"));
+}
+
 /// MUL, DIV by zero and REM of -7 and 3.
 #[test]
 fn the_trace_shows_products_and_quotients() {

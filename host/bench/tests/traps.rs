@@ -15,13 +15,22 @@ const fn small(code: u32) -> u32 {
     code << 25 | 0x80 << 9 | 0x40
 }
 
+/// The same with one byte more.
+const fn one_more(code: u32) -> u32 {
+    code << 25 | 0x81 << 9 | 0x40
+}
+
 const ALL: u32 = 0b11_1111;
 const EXECUTE_WITHOUT_SR: u32 = 0b10_1011;
 const SEALED: u32 = 1 << 22;
 /// An executable PCC of [START, START + 0x40).
 const SHORT: u32 = EXECUTE_WITHOUT_SR << 25 | 0x40 << 9;
+/// An executable PCC of two bytes.
+const END_AFTER_TWO: u32 = EXECUTE_WITHOUT_SR << 25 | 2 << 9;
 const WITHOUT_SR: u32 = EXECUTE_WITHOUT_SR << 25 | 0x3E_0000;
 const MIDDLE: u32 = START + 0x40;
+/// The last two bytes of memory.
+const LAST_HALF: u32 = START + 0xFE;
 
 /// A name, a capability that is put in a place, and the word at START.
 type Case = (&'static str, usize, (u32, u32, u32), u32);
@@ -33,9 +42,13 @@ fn fetches() -> Vec<Case> {
         ("fetch, sealed", PCC, (START, EXECUTABLE | SEALED, 1), ECALL),
         ("fetch, no right", PCC, (START, MEMORY, 1), ECALL),
         ("fetch, bounds", PCC, (START + 0x80, small(EXECUTE_WITHOUT_SR), 1), ECALL),
-        ("fetch, misaligned", PCC, (START + 2, EXECUTABLE, 1), ECALL),
+        ("fetch, bounds of the second half", PCC, (START, END_AFTER_TWO, 1), ECALL),
+        ("fetch, misaligned", PCC, (START + 1, EXECUTABLE, 1), ECALL),
         ("fetch, outside memory", PCC, (0x1000_0000, EXECUTABLE, 1), ECALL),
+        ("fetch, second half outside memory", PCC, (LAST_HALF, EXECUTABLE, 1), ECALL),
         ("illegal", 1, (0, 0, 0), 0xFFFF_FFFF),
+        ("illegal short word", 1, (0, 0, 0), 0x1234_8002),
+        ("short breakpoint", 1, (0, 0, 0), C_EBREAK),
         ("breakpoint", 1, (0, 0, 0), EBREAK),
         ("call", 1, (0, 0, 0), ECALL),
         ("csr, no right", PCC, (START, WITHOUT_SR, 1), csr()),
@@ -55,6 +68,8 @@ fn loads() -> Vec<Case> {
         ("load, outside memory", 2, (0x3000_0000, MEMORY, 1), load(0, 0)),
         ("capability load, misaligned", 2, (MIDDLE, MEMORY, 1), load(3, 4)),
         ("capability load, memory's end", 2, (START + 0x100, MEMORY, 1), load(3, 0)),
+        ("short load, past the bounds", 9, (MIDDLE, small(ALL), 1), C_LW),
+        ("short load by the stack, no tag", 2, (MIDDLE, MEMORY, 0), C_LDSP),
     ]
 }
 
@@ -70,6 +85,7 @@ fn stores() -> Vec<Case> {
         ("store, outside memory", 2, (START - 4, MEMORY, 1), store(2, 0)),
         ("capability store, no right", 2, (MIDDLE, small(0b11_0011), 1), store(3, 0)),
         ("local capability store, no right", 2, (MIDDLE, small(0b11_1011), 1), store(3, 8)),
+        ("short store, misaligned", 9, (MIDDLE + 2, MEMORY, 1), C_SD),
     ]
 }
 
@@ -81,11 +97,12 @@ fn jumps() -> Vec<Case> {
         ("jump, sentry at an offset", 2, (MIDDLE, EXECUTABLE | SEALED, 1), cjalr(4)),
         ("jump, no right", 2, (MIDDLE, MEMORY, 1), cjalr(0)),
         ("jump, bounds", 2, (MIDDLE, small(EXECUTE_WITHOUT_SR), 1), cjalr(-8)),
-        ("jump, the end of the space", 2, (0xFFFF_FFFE, EXECUTABLE, 1), cjalr(0)),
-        ("jump, misaligned", 2, (MIDDLE, EXECUTABLE, 1), cjalr(2)),
+        ("jump, one byte in bounds", 2, (MIDDLE, one_more(EXECUTE_WITHOUT_SR), 1), cjalr(0x40)),
         ("relative jump, bounds", PCC, (START, SHORT, 1), cjal(0x40)),
-        ("relative jump, misaligned", PCC, (START, SHORT, 1), cjal(6)),
         ("branch, bounds", PCC, (START, SHORT, 1), branch(0x80)),
+        ("short jump, bounds", PCC, (START, SHORT, 1), C_JAL),
+        ("short branch, bounds", PCC, (START, SHORT, 1), C_BEQZ),
+        ("short jump by a register, no right", 2, (MIDDLE, MEMORY, 1), C_JALR),
     ]
 }
 
@@ -100,6 +117,9 @@ fn start(case: &Case) -> State {
         tag,
     };
     state.set(place, value);
+    if (place, address) == (PCC, LAST_HALF) {
+        state.write(LAST_HALF, &word.to_le_bytes()[..2]);
+    }
     state
 }
 

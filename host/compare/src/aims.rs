@@ -7,10 +7,10 @@ use crate::capabilities::{
 use crate::cuts::request;
 use crate::operands::{any, encode, Operands};
 use crate::random::Random;
-use crate::rows::{Aim, Form, Row, EXTREMES};
+use crate::rows::{Aim, Form, Outcome, Row, EXTREMES};
 use crate::state::{as_second, lend};
 use lent::{State, PCC};
-use second::capability::{bounds, has, narrow, set_bounds, EX};
+use second::capability::{bounds, has, move_address, narrow, set_bounds, EX};
 use second::Capability;
 
 /// A state under construction, and the operands that are made to fit it.
@@ -18,6 +18,7 @@ struct Scene<'a> {
     random: &'a mut Random,
     layout: Layout,
     state: &'a mut State,
+    form: Form,
     operands: Operands,
 }
 
@@ -29,6 +30,7 @@ pub fn word(random: &mut Random, layout: Layout, state: &mut State, row: &Row) -
         random,
         layout,
         state,
+        form: row.form,
         operands,
     };
     if !scene.random.one_in(4) {
@@ -91,7 +93,9 @@ impl Scene<'_> {
             }
             Aim::AddAddress => {
                 let sum = self.aimed_address().wrapping_sub(self.first().address);
-                self.operands.immediate = sum;
+                let beyond = self.hold(sum);
+                let first = self.first();
+                self.set_first(move_address(first, first.address.wrapping_add(beyond)));
                 if row.form == Form::Register {
                     self.set_second(integer(sum));
                 }
@@ -102,9 +106,21 @@ impl Scene<'_> {
             Aim::Compare => self.aim_compare(),
             Aim::Extremes => self.aim_extremes(),
         }
-        if row.form == Form::Branch && self.random.one_in(2) {
-            self.aim_compare();
+        if self.random.one_in(2) && row.can(Outcome::Taken) {
+            match row.form {
+                Form::Branch => self.aim_compare(),
+                _ => {
+                    let value = self.random.near(0);
+                    self.set_first(integer(value));
+                }
+            }
         }
+    }
+
+    /// Takes a wanted immediate as far as the form can hold it: what is left to add elsewhere.
+    fn hold(&mut self, wanted: u32) -> u32 {
+        self.operands.immediate = self.form.held(wanted);
+        wanted.wrapping_sub(self.operands.immediate)
     }
 
     /// An address for an access of so many bytes: mostly aligned and in memory.
@@ -126,10 +142,11 @@ impl Scene<'_> {
     fn authorise(&mut self, rights: Rights, address: u32, size: u32) {
         let authority = if self.random.one_in(3) {
             let authority = tight(self.random, rights, address, size);
-            self.operands.immediate = address.wrapping_sub(authority.address);
-            authority
+            let beyond = self.hold(address.wrapping_sub(authority.address));
+            move_address(authority, authority.address.wrapping_add(beyond))
         } else {
-            self.operands.immediate = self.random.pick([0u32, 0, 0, 8, 4, 1, 0xFFFF_FFF8]);
+            let wanted = self.random.pick([0u32, 0, 0, 8, 4, 1, 0xFFFF_FFF8]);
+            self.hold(wanted);
             let from = address.wrapping_sub(self.operands.immediate);
             wide(self.random, self.layout, rights, from)
         };
@@ -185,8 +202,8 @@ impl Scene<'_> {
     /// A jump target: mostly an instruction in memory.
     fn target(&mut self) -> u32 {
         match self.random.below(8) {
-            0..=3 => self.layout.inside(self.random, 4),
-            4 => self.layout.inside(self.random, 2),
+            0..=2 => self.layout.inside(self.random, 4),
+            3 | 4 => self.layout.inside(self.random, 2),
             5 => self.layout.inside(self.random, 1),
             _ => self.layout.address(self.random),
         }
@@ -198,18 +215,19 @@ impl Scene<'_> {
         let (low, high) = bounds(pcc.address, pcc.metadata);
         let target = match self.random.below(4) {
             0 => self.random.near(low),
-            1 => self.random.near((high as u32).wrapping_sub(4)),
+            1 => self.random.near((high as u32).wrapping_sub(2)),
             _ => self.target(),
         };
-        self.operands.immediate = target.wrapping_sub(pcc.address);
+        self.hold(target.wrapping_sub(pcc.address));
     }
 
     fn aim_jump_register(&mut self) {
         let target = self.target();
         if self.random.one_in(4) {
-            return self.authorise(Rights::Executable, target, 4);
+            return self.authorise(Rights::Executable, target, 2);
         }
-        self.operands.immediate = self.random.pick([0, 0, 0, 0, 0, 4, 1, 0xFFFF_FFFC]);
+        let wanted = self.random.pick([0, 0, 0, 0, 0, 4, 1, 0xFFFF_FFFE]);
+        self.hold(wanted);
         let from = target.wrapping_sub(self.operands.immediate);
         let source = if self.random.one_in(2) {
             sentry(self.random, self.layout, from)

@@ -6,6 +6,15 @@ use crate::random::Random;
 use second::capability::{bounds, move_address, set_bounds, with_type};
 use second::Capability;
 
+/// An executable capability whose high is above 2^32 (T above 256 with exponent 24), at an address.
+pub fn beyond(random: &mut Random, address: u32) -> Capability {
+    let metadata = root(0b101111, address).metadata & !(0x1FF << 9);
+    Capability {
+        metadata: metadata | (257 + random.below(255)) << 9,
+        ..root(0b101111, address)
+    }
+}
+
 /// The kinds of rights, by the rows of document 01's table.
 #[derive(Clone, Copy, PartialEq, Eq)]
 pub enum Rights {
@@ -170,8 +179,8 @@ pub fn tight(random: &mut Random, rights: Rights, address: u32, size: u32) -> Ca
 /// An executable capability whose bounds hold an instruction and little more, at its address.
 pub fn around(random: &mut Random, address: u32) -> Capability {
     let code = code(random, Rights::Executable);
-    let below = random.pick([0, 0, 4, 8, 64]).min(address);
-    let above = random.pick([4, 4, 5, 6, 8, 64, 512]);
+    let below = random.pick([0, 0, 2, 4, 8, 64]).min(address);
+    let above = random.pick([2, 3, 4, 4, 5, 6, 8, 64, 512]);
     move_address(cut(code, address - below, below + above), address)
 }
 
@@ -243,7 +252,7 @@ pub fn register(random: &mut Random, layout: Layout) -> Capability {
             sealed(capability, random.below(8))
         }
         8 => {
-            let address = layout.inside(random, 4);
+            let address = layout.inside(random, 2);
             sentry(random, layout, address)
         }
         9 => {

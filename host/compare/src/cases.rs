@@ -3,14 +3,16 @@
 //! anything, and buffers that are refused.
 
 use crate::aims;
-use crate::capabilities::{anything, around, register, root, sealed, tight, wide, Layout, Rights};
+use crate::capabilities::{
+    anything, around, beyond, register, root, sealed, tight, wide, Layout, Rights,
+};
 use crate::operands::near_miss;
 use crate::programs;
 use crate::random::Random;
 use crate::refusals;
 use crate::rows::Table;
 use crate::state::{lend, Call, Case};
-use lent::{State, CAPABILITIES, WORDS};
+use lent::{instruction_bytes, State, CAPABILITIES, WORDS};
 use lent::{MCAUSE, MEPCC, MSCRATCHC, MSTATUS, MTCC, MTDC, MTVAL, PCC};
 use second::capability::{move_address, narrow, SR};
 use second::Capability;
@@ -78,7 +80,8 @@ fn fill_bits(random: &mut Random, size: usize, bits: &mut Vec<u8>) {
 
 /// PCC: mostly able to run, with bounds around memory or close around the instruction.
 pub fn program_counter(random: &mut Random, layout: Layout) -> Capability {
-    let address = layout.inside(random, 4);
+    let unit = random.pick([2, 4]);
+    let address = layout.inside(random, unit);
     let whole = if random.one_in(4) {
         around(random, address)
     } else {
@@ -99,7 +102,7 @@ pub fn program_counter(random: &mut Random, layout: Layout) -> Capability {
 /// A PCC that fails one check of the fetch.
 fn spoilt_counter(random: &mut Random, layout: Layout, pcc: Capability) -> Capability {
     let elsewhere = layout.address(random);
-    match random.below(8) {
+    match random.below(9) {
         0 => Capability { tag: 0, ..pcc },
         1 => sealed(pcc, random.below(8)),
         2 => {
@@ -107,12 +110,13 @@ fn spoilt_counter(random: &mut Random, layout: Layout, pcc: Capability) -> Capab
             wide(random, layout, rights, pcc.address)
         }
         3 => move_address(pcc, pcc.address.wrapping_add(random.below(4))),
-        4 => root(0b101111, elsewhere & !3),
+        4 => root(0b101111, elsewhere & !1),
         5 => root(0b101111, elsewhere),
         6 => Capability {
             address: elsewhere,
             ..tight(random, Rights::Executable, pcc.address, 4)
         },
+        7 => beyond(random, pcc.address),
         _ => anything(random),
     }
 }
@@ -122,7 +126,7 @@ fn special(random: &mut Random, layout: Layout) -> Capability {
     let address = match random.below(4) {
         0 => layout.inside(random, 1),
         1 => layout.address(random),
-        _ => layout.inside(random, 4),
+        _ => layout.inside(random, 2),
     };
     let value = match random.below(8) {
         0 => register(random, layout),
@@ -171,13 +175,21 @@ fn single(table: &Table, random: &mut Random, case: &mut Case) {
         2 => aims::word(random, layout, state, row) ^ 1 << random.below(32),
         _ => aims::word(random, layout, state, row),
     };
-    let place = state.capability(PCC).address;
-    state.write(place, &word.to_le_bytes());
+    write_instruction(state, state.capability(PCC).address, word);
     case.call = match random.below(16) {
         0 => Call::Run(1),
         1 => Call::Run(random.below(4)),
         _ => Call::Step,
     };
+}
+
+/// Writes an instruction, a short one in two bytes; of a long one at memory's end the first half.
+pub fn write_instruction(state: &mut State, place: u32, word: u32) {
+    let bytes = word.to_le_bytes();
+    state.write(place, &bytes[..2]);
+    if instruction_bytes(word) == 4 {
+        state.write(place.wrapping_add(2), &bytes[2..]);
+    }
 }
 
 /// A state that is anything, within what is not refused.
@@ -192,7 +204,7 @@ fn wild(random: &mut Random, case: &mut Case) {
     }
     state.regs[..3].fill(0);
     if random.one_in(2) {
-        let address = layout.inside(random, 4);
+        let address = layout.inside(random, 2);
         state.set(PCC, lend(root(0b101111, address)));
     }
     case.call = match random.below(4) {

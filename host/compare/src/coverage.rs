@@ -1,20 +1,26 @@
 //! What the machine comparison reached, counted for every cell that the papers make reachable:
 //! each instruction with each thing it can do, products and quotients of each pair of extremes,
-//! each failed fetch, words that are no instruction, each refusal alone and with each later one,
-//! and runs.
+//! each failed fetch of a first half and of a second, words of both lengths that are no instruction,
+//! each refusal alone and with each later one, and runs.
 
 use crate::instructions::{BOUNDS, EXECUTE, FETCH_ACCESS, FETCH_MISALIGNED, ILLEGAL, SEAL, TAG};
 use crate::machines::second;
 use crate::refusals::reasons;
 use crate::rows::{Aim, Outcome, Row, Table, COLUMNS, EXTREMES};
 use crate::state::{as_second, Call, Case};
-use lent::{Answer, State, MCAUSE, MTVAL, PCC};
+use lent::{instruction_bytes, Answer, State, MCAUSE, MTVAL, PCC};
 use second::capability::{has, in_bounds, is_sealed, EX};
 use std::fmt::Write;
 
 /// The opcodes under which a word can be no instruction whatever registers it names; the last
 /// stands for every opcode that has no instruction.
 const OPCODES: [u32; 10] = [0x03, 0x0F, 0x13, 0x23, 0x33, 0x5B, 0x63, 0x67, 0x73, 0x00];
+
+/// The short words among which some are no instruction whatever registers they name, by quadrant and
+/// funct3: reserved ones, floating point, shifts by 32 and more, and words of RV64.
+const HALVES: [u32; 12] = [
+    0x0000, 0x2000, 0x8000, 0xA000, 0x6001, 0x8001, 0x0002, 0x2002, 0x4002, 0x6002, 0x8002, 0xA002,
+];
 
 /// Pairs of extremes.
 const PAIRS: usize = EXTREMES.len() * EXTREMES.len();
@@ -35,7 +41,11 @@ pub struct Coverage {
     /// Of each row, the pairs of extremes that it retired with.
     pairs: Vec<[u64; PAIRS]>,
     fetch: [u64; COLUMNS],
+    /// Of a long word whose first half passed; apart from those whose second half would be at 2^32.
+    second_half: [u64; COLUMNS],
+    second_half_at_top: [u64; COLUMNS],
     unknown: [u64; OPCODES.len()],
+    unknown_halves: [u64; HALVES.len()],
     refused: [u64; 6],
     refused_also: [[u64; 6]; 6],
     runs: [u64; RUNS.len()],
@@ -47,12 +57,28 @@ pub struct Coverage {
     misread: u64,
 }
 
-/// The word at PCC if the fetch passes its checks (document 01, "Traps").
-fn fetched(state: &State) -> Option<u32> {
+/// What a fetch finds.
+enum Fetched {
+    /// An instruction; a short one has zeros above it.
+    Word(u32),
+    /// The first half fails a check, or the second one does.
+    First,
+    Second,
+}
+
+/// The fetch at PCC (documents 01, "Traps", and 02, 3).
+fn fetched(state: &State) -> Fetched {
     let pcc = as_second(state.capability(PCC));
     let usable = pcc.tag == 1 && !is_sealed(pcc.metadata) && has(pcc.metadata, EX);
-    let here = in_bounds(pcc, pcc.address, 4) && pcc.address.is_multiple_of(4);
-    (usable && here).then(|| state.word(pcc.address))?
+    let here = in_bounds(pcc, pcc.address, 2) && pcc.address.is_multiple_of(2);
+    match state.half(pcc.address) {
+        Some(half) if usable && here => {
+            let whole = instruction_bytes(half.into()) == 2 || in_bounds(pcc, pcc.address, 4);
+            let word = state.instruction(pcc.address).filter(|_| whole);
+            word.map_or(Fetched::Second, Fetched::Word)
+        }
+        _ => Fetched::First,
+    }
 }
 
 /// The trap that a state has just taken.
@@ -85,8 +111,11 @@ fn name(outcome: Outcome) -> String {
     text.to_string()
 }
 
-/// What a failed fetch can be.
+/// What a failed fetch can be, and one of a second half.
 const FETCH: [Outcome; 6] = [TAG, SEAL, EXECUTE, BOUNDS, FETCH_MISALIGNED, FETCH_ACCESS];
+const SECOND_HALF: [Outcome; 2] = [BOUNDS, FETCH_ACCESS];
+/// The address of the last half of the address space.
+const LAST_HALF: u32 = 0xFFFF_FFFE;
 
 impl Coverage {
     pub fn new(table: &Table) -> Coverage {
@@ -94,7 +123,10 @@ impl Coverage {
             rows: vec![[0; COLUMNS]; table.rows.len()],
             pairs: vec![[0; PAIRS]; table.rows.len()],
             fetch: [0; COLUMNS],
+            second_half: [0; COLUMNS],
+            second_half_at_top: [0; COLUMNS],
             unknown: [0; OPCODES.len()],
+            unknown_halves: [0; HALVES.len()],
             refused: [0; 6],
             refused_also: [[0; 6]; 6],
             runs: [0; RUNS.len()],
@@ -146,19 +178,31 @@ impl Coverage {
     }
 
     fn count_step(&mut self, table: &Table, before: &State, after: &State, retired: bool) {
-        let Some(word) = fetched(before) else {
-            self.fetch[trap(after).column()] += 1;
-            return;
+        let column = trap(after).column();
+        let word = match fetched(before) {
+            Fetched::Word(word) => word,
+            Fetched::First => {
+                self.fetch[column] += 1;
+                return;
+            }
+            Fetched::Second if before.capability(PCC).address == LAST_HALF => {
+                self.second_half_at_top[column] += 1;
+                return;
+            }
+            Fetched::Second => {
+                self.second_half[column] += 1;
+                return;
+            }
         };
         let Some(index) = table.find(word) else {
-            let opcode = OPCODES.iter().position(|&opcode| opcode == word & 0x7F);
-            self.unknown[opcode.unwrap_or(OPCODES.len() - 1)] += 1;
-            self.misread += u64::from(retired || trap(after) != ILLEGAL);
+            self.count_unknown(word);
+            let misread = retired || trap(after) != ILLEGAL || after.regs[MTVAL] != word;
+            self.misread += u64::from(misread);
             return;
         };
         let counts = &mut self.rows[index];
         if !retired {
-            counts[trap(after).column()] += 1;
+            counts[column] += 1;
             return;
         }
         counts[Outcome::Retired.column()] += 1;
@@ -168,6 +212,33 @@ impl Coverage {
         if let Some(more) = retired_how(&table.rows[index], word, before, after) {
             counts[more.column()] += 1;
         }
+    }
+
+    /// Counts a word that is no instruction.
+    fn count_unknown(&mut self, word: u32) {
+        if instruction_bytes(word) == 2 {
+            let group = HALVES.iter().position(|&group| group == word & 0xE003);
+            match group {
+                Some(group) => self.unknown_halves[group] += 1,
+                None => self.misread += 1,
+            }
+            return;
+        }
+        let opcode = OPCODES.iter().position(|&opcode| opcode == word & 0x7F);
+        self.unknown[opcode.unwrap_or(OPCODES.len() - 1)] += 1;
+    }
+
+    /// The failed fetches: what failed, its outcomes and their counts.
+    fn fetches(&self) -> [(&'static str, &'static [Outcome], &[u64; COLUMNS]); 3] {
+        [
+            ("fetch", &FETCH, &self.fetch),
+            ("fetch of a second half", &SECOND_HALF, &self.second_half),
+            (
+                "fetch of one at 2^32",
+                &SECOND_HALF,
+                &self.second_half_at_top,
+            ),
+        ]
     }
 
     /// How often a row's step did this.
@@ -192,11 +263,14 @@ impl Coverage {
                 cells.push((format!("{} of {}", row.name, pair_name(pair)), count));
             }
         }
-        for outcome in FETCH {
-            cells.push((
-                format!("fetch {}", name(outcome)),
-                self.fetch[outcome.column()],
-            ));
+        for (what, outcomes, counts) in self.fetches() {
+            for &outcome in outcomes {
+                let cell = format!("{what} {}", name(outcome));
+                cells.push((cell, counts[outcome.column()]));
+            }
+        }
+        for (group, &count) in HALVES.iter().zip(&self.unknown_halves) {
+            cells.push((format!("no instruction, half {group:04x}"), count));
         }
         for (opcode, &count) in OPCODES.iter().zip(&self.unknown) {
             cells.push((format!("no instruction, opcode {opcode:02x}"), count));
@@ -223,7 +297,7 @@ impl Coverage {
         }
         let rows = table.rows.iter().zip(&self.rows);
         let rows = rows.map(|(row, counts)| (row.name, row.outcomes.as_slice(), counts));
-        for (name, outcomes, counts) in rows.chain([("fetch", &FETCH[..], &self.fetch)]) {
+        for (name, outcomes, counts) in rows.chain(self.fetches()) {
             let listed = outcomes.iter().map(|outcome| counts[outcome.column()]);
             if listed.sum::<u64>() != counts.iter().sum() {
                 faults.push(format!("reached more than its row lists: {name}"));
@@ -247,7 +321,12 @@ impl Coverage {
         for (row, counts) in table.rows.iter().zip(&self.rows) {
             let _ = writeln!(text, "{:28}{}", row.name, line(&row.outcomes, counts));
         }
-        let _ = writeln!(text, "{:28}{}", "fetch", line(&FETCH, &self.fetch));
+        for (what, outcomes, counts) in self.fetches() {
+            let _ = writeln!(text, "{what:28}{}", line(outcomes, counts));
+        }
+        for (group, count) in HALVES.iter().zip(&self.unknown_halves) {
+            let _ = writeln!(text, "no instruction, half {group:04x}   {count}");
+        }
         for (opcode, count) in OPCODES.iter().zip(&self.unknown) {
             let _ = writeln!(text, "no instruction, opcode {opcode:02x}   {count}");
         }
@@ -301,11 +380,12 @@ fn pair_name(pair: usize) -> String {
 
 /// More of how an instruction retired: a branch that was taken, the tag of what was written.
 fn retired_how(row: &Row, word: u32, before: &State, after: &State) -> Option<Outcome> {
-    let next = before.capability(PCC).address.wrapping_add(4);
+    let bytes = instruction_bytes(word);
+    let next = before.capability(PCC).address.wrapping_add(bytes);
     if row.can(Outcome::Taken) {
         return (after.capability(PCC).address != next).then_some(Outcome::Taken);
     }
-    let rd = (word >> 7 & 31) as usize;
+    let rd = row.form.written(word);
     if !row.can(Outcome::Untagged) || rd == 0 {
         return None;
     }
@@ -320,7 +400,7 @@ fn rewrites_itself(state: &State, steps: u32) -> bool {
     let mut now = state.clone();
     for _ in 0..steps.min(2000) {
         let pcc = now.capability(PCC).address;
-        if fetched(&now).is_some_and(|word| state.word(pcc) != Some(word)) {
+        if matches!(fetched(&now), Fetched::Word(word) if state.instruction(pcc) != Some(word)) {
             return true;
         }
         second(&mut now, Call::Step);

@@ -4,22 +4,34 @@
 use crate::operands::{any, encode, Operands};
 use crate::random::Random;
 use crate::rows::{Aim, Form, Outcome, Row, Table};
+use lent::instruction_bytes;
 
 /// Two authorities over the pool of capabilities in memory, and one to seal and to unseal; a word
 /// seldom writes them.
 pub const POOL_WRITER: u32 = 8;
 pub const POOL_READER: u32 = 9;
 pub const SEALER: u32 = 10;
+/// Short words of the stack use c2: a third authority over the pool.
+pub const STACK: u32 = 2;
 
 /// Registers for capabilities that come and go; c1 takes links, AUICGP adds to c3.
 pub const CARRIERS: [u32; 7] = [1, 3, 11, 12, 13, 14, 15];
+/// Those that a short word's fields of three bits can name.
+const POPULAR_CARRIERS: [u32; 5] = [11, 12, 13, 14, 15];
 /// Registers for lengths, addresses and masks.
-pub const NUMBERS: [u32; 5] = [2, 4, 5, 6, 7];
+pub const NUMBERS: [u32; 4] = [4, 5, 6, 7];
 
 /// How often which rows come up: of some, one as often as another.
 const WEIGHTS: &[(u32, &[&str])] = &[
     (20, &["CLC"]),
     (10, &["CSC"]),
+    (8, &["C.LD", "C.LDSP"]),
+    (6, &["C.SD", "C.SDSP"]),
+    (4, &["C.ADDI16SP", "C.ADDI4SPN"]),
+    (2, &["C.MV", "C.ADD", "C.ADDI", "C.SLLI", "C.LI", "C.LUI"]),
+    (1, &["C.LW", "C.LWSP", "C.SW", "C.SWSP"]),
+    (1, &["C.JALR", "C.JR"]),
+    (1, &["C.JAL", "C.J", "C.BEQZ", "C.BNEZ"]),
     (9, &["CSetBounds", "CSetBoundsExact", "CSetBoundsImm"]),
     (10, &["CSetAddr", "CIncAddr", "CIncAddrImm"]),
     (5, &["CAndPerm"]),
@@ -88,6 +100,14 @@ impl<'a> Mix<'a> {
         row.map_or(0, |row| encode(row, &operands))
     }
 
+    /// A short word of a program.
+    pub fn short_word(&self, random: &mut Random, granules: u32) -> u32 {
+        let mut words = (0..32).map(|_| self.word(random, granules));
+        words
+            .find(|&word| instruction_bytes(word) == 2)
+            .unwrap_or(C_NOP)
+    }
+
     /// A word of a program, for a pool of so many granules.
     pub fn word(&self, random: &mut Random, granules: u32) -> u32 {
         let row = self.pick(random);
@@ -95,14 +115,20 @@ impl<'a> Mix<'a> {
             rd: written(random, row),
             rs1: first(random, row),
             rs2: second(random, row),
-            immediate: immediate(random, row, granules),
+            immediate: row.form.held(immediate(random, row, granules)),
         };
-        encode(row, &operands)
+        row.some(encode(row, &operands), || any(random, row.form))
     }
 }
 
-fn carrier(random: &mut Random) -> u32 {
-    random.pick(CARRIERS)
+/// The no-op that stands where no other short word was drawn.
+const C_NOP: u32 = 0x0001;
+
+fn carrier(random: &mut Random, row: &Row) -> u32 {
+    match row.form {
+        Form::Short(_) => random.pick(POPULAR_CARRIERS),
+        _ => random.pick(CARRIERS),
+    }
 }
 
 fn number(random: &mut Random) -> u32 {
@@ -114,7 +140,7 @@ fn written(random: &mut Random, row: &Row) -> u32 {
     match random.below(48) {
         0 => random.below(16),
         1 => 0,
-        _ if row.can(Outcome::Tagged) || row.can(Outcome::Untagged) => carrier(random),
+        _ if row.can(Outcome::Tagged) || row.can(Outcome::Untagged) => carrier(random, row),
         _ => number(random),
     }
 }
@@ -130,7 +156,8 @@ fn first(random: &mut Random, row: &Row) -> u32 {
         (Aim::SetAddress, 1 | 2) => SEALER,
         (Aim::Special, 1..=3) => 0,
         (Aim::Compare | Aim::Extremes, _) => number(random),
-        _ => carrier(random),
+        (Aim::Nothing, _) if matches!(row.form, Form::Short(_)) => number(random),
+        _ => carrier(random, row),
     }
 }
 
@@ -141,7 +168,7 @@ fn second(random: &mut Random, row: &Row) -> u32 {
     match (row.aim, pick) {
         (_, 0) => any_other,
         (Aim::Seal | Aim::Unseal, 1..=5) => SEALER,
-        (Aim::Store(8) | Aim::Seal | Aim::Unseal | Aim::Subset, _) => carrier(random),
+        (Aim::Store(8) | Aim::Seal | Aim::Unseal | Aim::Subset, _) => carrier(random, row),
         _ => number(random),
     }
 }
@@ -159,7 +186,7 @@ fn immediate(random: &mut Random, row: &Row, granules: u32) -> u32 {
         Aim::AddAddress => random
             .pick([8u32, 4, 1, 16, 64, 500])
             .wrapping_mul(sign(random)),
-        _ if matches!(row.form, Form::Branch | Form::Jump) => distance(random),
+        Aim::Jump => distance(random),
         _ if row.form == Form::Upper => random.pick([0, 0, usual]),
         _ => usual,
     }
@@ -171,7 +198,7 @@ fn sign(random: &mut Random) -> u32 {
 
 /// A few instructions on, now and then back.
 fn distance(random: &mut Random) -> u32 {
-    let distance = 4 * (1 + random.below(6));
+    let distance = 4 * (1 + random.below(6)) + random.pick([0, 0, 0, 2]);
     if random.one_in(8) {
         distance.wrapping_neg()
     } else {
@@ -183,7 +210,7 @@ fn distance(random: &mut Random) -> u32 {
 mod tests {
     use super::*;
     use crate::instructions::table;
-    use second::decode::decode;
+    use second::decode::instruction;
 
     #[test]
     fn every_row_that_has_a_weight_is_in_the_table() {
@@ -201,7 +228,7 @@ mod tests {
         let mut random = Random::new(1, 1);
         for _ in 0..10_000 {
             let word = mix.word(&mut random, 16);
-            assert!(decode(word).is_some(), "{word:08x}");
+            assert!(instruction(word).is_some(), "{word:08x}");
         }
     }
 }

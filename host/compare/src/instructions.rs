@@ -1,4 +1,4 @@
-//! The instructions, a row each. Written from documents 01 and 02, the CHERIoT report (7.5 to 7.12, 8 and
+//! The instructions, a row each. Written from documents 01 and 02, the CHERIoT report (7.5 to 7.14, 8 and
 //! 9) and the RISC-V standard, and not from either program: the words of the machine comparison
 //! are made from these rows, and what it reached is counted by them.
 
@@ -6,6 +6,8 @@ use crate::rows::Aim::*;
 use crate::rows::Form::*;
 use crate::rows::Outcome::{self, Retired, Tagged, Taken, Trap, Untagged, Violation};
 use crate::rows::{Aim, Form, Row, Table};
+use crate::short::Kind::{self, Signed, SignedNotZero, Unsigned, UnsignedNotZero};
+use crate::short::Short;
 
 // Ordinary causes (document 01, "Traps").
 pub const FETCH_MISALIGNED: Outcome = Trap(0);
@@ -36,11 +38,11 @@ const CAPABILITY: &[Outcome] = &[Retired, Tagged, Untagged];
 const UNTAGGED: &[Outcome] = &[Retired, Untagged];
 const PRIVILEGED: &[Outcome] = &[Retired, SYSTEM];
 const SPECIAL: &[Outcome] = &[Retired, Tagged, Untagged, SYSTEM];
-const BRANCH: &[Outcome] = &[Retired, Taken, BOUNDS, FETCH_MISALIGNED];
-const CJAL: &[Outcome] = &[Retired, Tagged, Untagged, BOUNDS, FETCH_MISALIGNED];
-#[rustfmt::skip]
-const CJALR: &[Outcome] =
-    &[Retired, Tagged, Untagged, TAG, SEAL, EXECUTE, BOUNDS, FETCH_MISALIGNED];
+const BRANCH: &[Outcome] = &[Retired, Taken, BOUNDS];
+const JUMP: &[Outcome] = &[Retired, BOUNDS];
+const CJAL: &[Outcome] = &[Retired, Tagged, Untagged, BOUNDS];
+const JUMP_REGISTER: &[Outcome] = &[Retired, TAG, SEAL, EXECUTE, BOUNDS];
+const CJALR: &[Outcome] = &[Retired, Tagged, Untagged, TAG, SEAL, EXECUTE, BOUNDS];
 const BYTE_LOAD: &[Outcome] = &[Retired, TAG, SEAL, LOAD, BOUNDS, LOAD_ACCESS];
 #[rustfmt::skip]
 const WIDE_LOAD: &[Outcome] =
@@ -200,41 +202,100 @@ const LINES: &[(&str, Form, u32, Aim, &[Outcome])] = &[
     ("CUnseal", Register, two(0x0C), Unseal, CAPABILITY),
 ];
 
-/// Every instruction. A register number above 15 is illegal in every form that names registers.
+/// The registers that a form means by itself: zero, the link and the stack pointer.
+const C0: u32 = 0;
+const C1: u32 = 1;
+const C2: u32 = 2;
+
+/// A short word: name, layout, what the immediate is, rd, rs1 and rs2 where the layout has none, aim, and
+/// what a step of it can do.
+type ShortLine = (
+    &'static str,
+    &'static str,
+    Kind,
+    [u32; 3],
+    Aim,
+    &'static [Outcome],
+);
+
+/// The short words by the standard's tables of the three quadrants, with the CHERIoT report's 7.14.
+#[rustfmt::skip]
+const SHORT_LINES: &[ShortLine] = &[
+    ("C.ADDI4SPN", "000 i5:4 i9:6 i2 i3 d' 00", UnsignedNotZero, [C0, C2, C0], AddAddress, CAPABILITY),
+    ("C.LW", "010 i5:3 s' i2 i6 d' 00", Unsigned, [C0; 3], Load(4), WIDE_LOAD),
+    ("C.LD", "011 i5:3 s' i7:6 d' 00", Unsigned, [C0; 3], Load(8), CAPABILITY_LOAD),
+    ("C.SW", "110 i5:3 s' i2 i6 t' 00", Unsigned, [C0; 3], Aim::Store(4), WIDE_STORE),
+    ("C.SD", "111 i5:3 s' i7:6 t' 00", Unsigned, [C0; 3], Aim::Store(8), CAPABILITY_STORE),
+    ("C.ADDI", "000 i5 e i4:0 01", Signed, [C0; 3], Compare, PLAIN),
+    ("C.JAL", "001 i11 i4 i9:8 i10 i6 i7 i3:1 i5 01", Signed, [C1, C0, C0], Aim::Jump, CJAL),
+    ("C.LI", "010 i5 d i4:0 01", Signed, [C0; 3], Nothing, PLAIN),
+    ("C.ADDI16SP", "011 i9 00010 i4 i6 i8:7 i5 01", SignedNotZero, [C2, C2, C0], AddAddress, CAPABILITY),
+    ("C.LUI", "011 i17 d-2 i16:12 01", SignedNotZero, [C0; 3], Nothing, PLAIN),
+    ("C.SRLI", "100 0 00 e' i4:0 01", Unsigned, [C0; 3], Nothing, PLAIN),
+    ("C.SRAI", "100 0 01 e' i4:0 01", Unsigned, [C0; 3], Nothing, PLAIN),
+    ("C.ANDI", "100 i5 10 e' i4:0 01", Signed, [C0; 3], Compare, PLAIN),
+    ("C.SUB", "100 0 11 e' 00 t' 01", Unsigned, [C0; 3], Compare, PLAIN),
+    ("C.XOR", "100 0 11 e' 01 t' 01", Unsigned, [C0; 3], Compare, PLAIN),
+    ("C.OR", "100 0 11 e' 10 t' 01", Unsigned, [C0; 3], Compare, PLAIN),
+    ("C.AND", "100 0 11 e' 11 t' 01", Unsigned, [C0; 3], Compare, PLAIN),
+    ("C.J", "101 i11 i4 i9:8 i10 i6 i7 i3:1 i5 01", Signed, [C0; 3], Aim::Jump, JUMP),
+    ("C.BEQZ", "110 i8 i4:3 s' i7:6 i2:1 i5 01", Signed, [C0; 3], Aim::Jump, BRANCH),
+    ("C.BNEZ", "111 i8 i4:3 s' i7:6 i2:1 i5 01", Signed, [C0; 3], Aim::Jump, BRANCH),
+    ("C.SLLI", "000 0 e i4:0 10", Unsigned, [C0; 3], Nothing, PLAIN),
+    ("C.LWSP", "010 i5 d-0 i4:2 i7:6 10", Unsigned, [C0, C2, C0], Load(4), WIDE_LOAD),
+    ("C.LDSP", "011 i5 d-0 i4:3 i8:6 10", Unsigned, [C0, C2, C0], Load(8), CAPABILITY_LOAD),
+    ("C.JR", "100 0 s-0 00000 10", Unsigned, [C0; 3], JumpRegister, JUMP_REGISTER),
+    ("C.MV", "100 0 d t-0 10", Unsigned, [C0; 3], Compare, PLAIN),
+    ("C.EBREAK", "100 1 00000 00000 10", Unsigned, [C0; 3], Nothing, &[BREAKPOINT]),
+    ("C.JALR", "100 1 s-0 00000 10", Unsigned, [C1, C0, C0], JumpRegister, CJALR),
+    ("C.ADD", "100 1 e t-0 10", Unsigned, [C0; 3], Compare, PLAIN),
+    ("C.SWSP", "110 i5:2 i7:6 t 10", Unsigned, [C0, C2, C0], Aim::Store(4), WIDE_STORE),
+    ("C.SDSP", "111 i5:3 i8:6 t 10", Unsigned, [C0, C2, C0], Aim::Store(8), CAPABILITY_STORE),
+];
+
+/// A row; a register number above 15 is illegal in every form that can name one.
+fn row(name: &'static str, form: Form, bits: u32, aim: Aim, outcomes: &[Outcome]) -> Row {
+    let mut outcomes = outcomes.to_vec();
+    if form.names_registers() {
+        outcomes.push(ILLEGAL);
+    }
+    Row {
+        name,
+        form,
+        bits,
+        aim,
+        outcomes,
+    }
+}
+
+/// Every instruction.
 pub fn table() -> Table {
-    let row = |&(name, form, bits, aim, outcomes): &(&'static str, Form, u32, Aim, &[Outcome])| {
-        let mut outcomes = outcomes.to_vec();
-        if form.names_registers() {
-            outcomes.push(ILLEGAL);
-        }
-        Row {
-            name,
-            form,
-            bits,
-            aim,
-            outcomes,
-        }
-    };
-    Table::new(LINES.iter().map(row).collect())
+    let long = LINES.iter();
+    let long = long.map(|&(name, form, bits, aim, outcomes)| row(name, form, bits, aim, outcomes));
+    let short = SHORT_LINES.iter();
+    let short = short.map(|&(name, layout, kind, means, aim, outcomes)| {
+        let (short, bits) = Short::new(layout, kind, means);
+        row(name, Form::Short(short), bits, aim, outcomes)
+    });
+    Table::new(long.chain(short).collect())
 }
 
 #[cfg(test)]
 mod tests {
     use super::*;
+    use crate::operands::{any, encode};
     use crate::random::Random;
-    use second::decode::decode;
+    use second::decode::instruction;
 
     #[test]
     fn no_word_is_of_two_rows_and_the_second_program_knows_them_all() {
         let rows = table().rows;
         let mut random = Random::new(1, 1);
         for row in &rows {
-            for _ in 0..100 {
-                // All register fields below 16.
-                let free = random.word() & !0x0108_0800;
-                let word = row.bits | free & !row.form.mask();
+            for _ in 0..200 {
+                let word = encode(row, &any(&mut random, row.form));
                 assert_eq!(rows.iter().filter(|other| other.fits(word)).count(), 1);
-                assert!(decode(word).is_some(), "{} {word:08x}", row.name);
+                assert!(instruction(word).is_some(), "{} {word:08x}", row.name);
             }
         }
     }
@@ -249,9 +310,24 @@ mod tests {
                 | 3
                 | random.word() & 0x7F;
             assert!(
-                table.find(word).is_some() || decode(word).is_none(),
+                table.find(word).is_some() || instruction(word).is_none(),
                 "{word:08x}"
             );
+        }
+    }
+
+    #[test]
+    fn every_short_word_of_a_row_with_registers_below_16_and_no_other_is_known() {
+        let table = table();
+        for half in (0..1 << 16).filter(|half| half & 3 != 3) {
+            let high = |row: usize| match table.rows[row].form {
+                Form::Short(short) => [short.rd, short.rs1, short.rs2]
+                    .iter()
+                    .any(|named| named.of(half) > 15),
+                _ => true,
+            };
+            let legal = table.find(half).is_some_and(|row| !high(row));
+            assert_eq!(instruction(half).is_some(), legal, "{half:04x}");
         }
     }
 }

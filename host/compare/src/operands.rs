@@ -28,6 +28,7 @@ pub fn encode(row: &Row, operands: &Operands) -> u32 {
         Form::Number => (immediate & 31) << 15 | rd,
         Form::Whole => 0,
         Form::Ignored => immediate & !0x707F,
+        Form::Short(short) => short.encode(operands),
     };
     row.bits | free
 }
@@ -63,8 +64,8 @@ fn twelve_bits(random: &mut Random) -> u32 {
 /// An even offset at an edge of its format, small, or any.
 fn offset(random: &mut Random) -> u32 {
     match random.below(8) {
-        0..=2 => random.pick([4u32, 8, 12, 16]),
-        3..=5 => random.pick([4u32, 8, 12, 16]).wrapping_neg(),
+        0..=2 => random.pick([2u32, 4, 6, 8, 12, 16]),
+        3..=5 => random.pick([2u32, 4, 6, 8, 12, 16]).wrapping_neg(),
         6 => random.pick([0, 2, 0xFFE, 0x1000, 0xF_FFFE, 0x10_0000, 0x800]),
         _ => random.word() & !1,
     }
@@ -82,6 +83,9 @@ fn upper_bits(random: &mut Random) -> u32 {
 
 /// Any operands of a row.
 pub fn any(random: &mut Random, form: Form) -> Operands {
+    if let Form::Short(short) = form {
+        return short.any(random);
+    }
     let immediate = match form {
         Form::Branch | Form::Jump => offset(random),
         Form::Upper => upper_bits(random),
@@ -97,8 +101,12 @@ pub fn any(random: &mut Random, form: Form) -> Operands {
     }
 }
 
-/// A word with the opcode and funct3 of a row, and anything else that names no register above 15.
+/// A word with the opcode and funct3 of a row, and anything else; in a long one all registers but rs2
+/// are below 16.
 pub fn near_miss(random: &mut Random, row: &Row) -> u32 {
+    if let Form::Short(_) = row.form {
+        return row.bits & 0xE003 | random.word() & 0x1FFC;
+    }
     let free = random.word() & !0x0008_0800;
     row.bits & 0x707F | free & !0x707F
 }

@@ -3,20 +3,22 @@
 //! every instruction, what it stores over its own code among them.
 
 use crate::capabilities::{register, rights, wide, Layout, Rights};
-use crate::cases::{fill, fill_registers};
+use crate::cases::{fill, fill_registers, write_instruction};
 use crate::operands::{any, encode, Operands};
 use crate::random::Random;
 use crate::rows::{Aim, Form, Outcome, Row, Table};
 use crate::state::{lend, Call, Case};
-use lent::{State, MEPCC, MOST_STEPS, MTCC, MTDC, PCC};
+use lent::{instruction_bytes, State, MEPCC, MOST_STEPS, MTCC, MTDC, PCC};
 
 /// The most steps of most runs.
 const MANY_STEPS: u32 = 20_000;
 
-/// A handler that steps over the instruction that trapped: c15 := MEPCC; c15 := c15 + 4;
-/// MEPCC := c15; MRET.
+/// A handler that steps over the instruction that trapped, or over its first half: c15 := MEPCC;
+/// c15 := c15 + 4 or + 2; MEPCC := c15; MRET.
 const HANDLER: [u32; 4] = [0x03F0_07DB, 0x0047_97DB, 0x03F7_805B, 0x3020_0073];
-/// CJAL c0 to 16 instructions before.
+/// CIncAddrImm c15, c15, 2.
+const TWO_ON: u32 = 0x0027_97DB;
+/// CJAL c0 to 64 bytes before.
 const JUMP_BACK: u32 = 0xFC1F_F06F;
 
 /// Registers 8 to 13 are kept for capabilities most of the time, 1 to 7 for integers.
@@ -54,28 +56,26 @@ fn word(random: &mut Random, row: &Row) -> u32 {
         Aim::AddAddress => random.pick([8u32, 0xFFFF_FFF8, 4, 64, 1, 0]),
         _ => any(random, row.form).immediate,
     };
-    let immediate = match row.form {
-        Form::Branch | Form::Jump => short_offset(random),
+    let immediate = match (row.form, row.aim) {
+        (Form::Branch | Form::Jump, _) | (_, Aim::Jump) => short_offset(random),
         _ => immediate,
     };
-    encode(
-        row,
-        &Operands {
-            rd,
-            rs1,
-            rs2,
-            immediate,
-        },
-    )
+    let immediate = row.form.held(immediate);
+    let operands = Operands {
+        rd,
+        rs1,
+        rs2,
+        immediate,
+    };
+    row.some(encode(row, &operands), || any(random, row.form))
 }
 
 /// A few instructions on or back.
 fn short_offset(random: &mut Random) -> u32 {
-    let distance = 4 * (1 + random.below(8));
+    let distance = 2 * (1 + random.below(16));
     match random.below(8) {
-        0..=3 => distance,
-        4..=6 => distance.wrapping_neg(),
-        _ => distance.wrapping_add(2),
+        0..=4 => distance,
+        _ => distance.wrapping_neg(),
     }
 }
 
@@ -113,10 +113,12 @@ fn layout(random: &mut Random) -> Layout {
 
 /// Instructions everywhere, with a few capabilities among them.
 fn write_program(table: &Table, random: &mut Random, layout: Layout, state: &mut State) {
-    for at in (0..layout.size).step_by(4) {
+    let mut at = 0;
+    while at < layout.size {
         let row = table.pick(random);
         let word = word(random, row);
-        state.write(layout.start.wrapping_add(at), &word.to_le_bytes());
+        write_instruction(state, layout.start.wrapping_add(at), word);
+        at += instruction_bytes(word);
     }
     state.tags.fill(0);
     for _ in 0..layout.size / 64 {
@@ -132,6 +134,9 @@ fn write_handler(random: &mut Random, layout: Layout, state: &mut State) {
     let handler = end.wrapping_sub(16);
     for (index, word) in HANDLER.iter().enumerate() {
         state.write(handler.wrapping_add(4 * index as u32), &word.to_le_bytes());
+    }
+    if random.one_in(2) {
+        state.write(handler.wrapping_add(4), &TWO_ON.to_le_bytes());
     }
     state.write(handler.wrapping_sub(4), &JUMP_BACK.to_le_bytes());
     let places = [(PCC, layout.start), (MTCC, handler), (MEPCC, layout.start)];
@@ -173,5 +178,6 @@ mod tests {
             panic!("no jump");
         };
         assert_eq!(offset, 0u32.wrapping_sub(64));
+        assert_eq!(TWO_ON, HANDLER[1] - (2 << 20));
     }
 }

@@ -1,7 +1,10 @@
 //! What a row of the instruction table says: an encoding, how its operands are aimed, and
 //! everything that a step of it can do. The rows themselves are in instructions.rs.
 
+use crate::operands::{encode, Operands};
 use crate::random::Random;
+use crate::short::Short;
+use std::mem::discriminant;
 
 /// What a step can do: a column of the coverage table.
 #[derive(Clone, Copy, PartialEq, Eq, Debug)]
@@ -60,6 +63,8 @@ pub enum Form {
     Whole,
     /// Every field but opcode and funct3 is ignored.
     Ignored,
+    /// A short word.
+    Short(Short),
 }
 
 impl Form {
@@ -71,11 +76,34 @@ impl Form {
             Form::Upper | Form::Jump => 0x0000_007F,
             Form::Single | Form::Number => 0xFFF0_707F,
             Form::Whole => 0xFFFF_FFFF,
+            Form::Short(short) => short.mask,
         }
     }
 
+    /// Whether a word of the form can name a register above 15.
     pub fn names_registers(self) -> bool {
-        !matches!(self, Form::Whole | Form::Ignored)
+        match self {
+            Form::Whole | Form::Ignored => false,
+            Form::Short(short) => short.names_any_register(),
+            _ => true,
+        }
+    }
+
+    /// The immediate closest to a wanted one that a word of the form can hold. A long word drops what
+    /// it has no place for.
+    pub fn held(self, immediate: u32) -> u32 {
+        match self {
+            Form::Short(short) => short.held(immediate),
+            _ => immediate,
+        }
+    }
+
+    /// The register that a word writes.
+    pub fn written(self, word: u32) -> usize {
+        match self {
+            Form::Short(short) => short.rd.of(word) as usize,
+            _ => (word >> 7 & 31) as usize,
+        }
     }
 }
 
@@ -119,7 +147,20 @@ pub struct Row {
 impl Row {
     /// Whether a word is of this row, whatever registers it names.
     pub fn fits(&self, word: u32) -> bool {
-        word & self.form.mask() == self.bits
+        let admitted = match self.form {
+            Form::Short(short) => short.admits(word),
+            _ => true,
+        };
+        admitted && word & self.form.mask() == self.bits
+    }
+
+    /// A word if it is of this row, else one with other operands: a short form does not admit all.
+    pub fn some(&self, word: u32, others: impl FnOnce() -> Operands) -> u32 {
+        if self.fits(word) {
+            word
+        } else {
+            encode(self, &others())
+        }
     }
 
     pub fn can(&self, outcome: Outcome) -> bool {
@@ -127,7 +168,8 @@ impl Row {
     }
 }
 
-/// Every instruction, and the classes: rows of one opcode with the same form and aim.
+/// Every instruction, and the classes: rows of one opcode with the same form and aim; short ones
+/// with the same aim.
 pub struct Table {
     pub rows: Vec<Row>,
     classes: Vec<Vec<usize>>,
@@ -136,7 +178,13 @@ pub struct Table {
 impl Table {
     /// The table of these rows.
     pub fn new(rows: Vec<Row>) -> Table {
-        let class = |row: &Row| (row.bits & 0x7F, row.form, row.aim);
+        let class = |row: &Row| {
+            let opcode = match row.form {
+                Form::Short(_) => 0,
+                _ => row.bits & 0x7F,
+            };
+            (opcode, discriminant(&row.form), row.aim)
+        };
         let mut classes: Vec<Vec<usize>> = Vec::new();
         for (index, row) in rows.iter().enumerate() {
             let mut known = classes.iter_mut();

@@ -8,17 +8,17 @@ use crate::capabilities::{
     Rights,
 };
 use crate::cases;
-use crate::derivations::{Mix, NUMBERS, POOL_READER, POOL_WRITER, SEALER};
+use crate::derivations::{Mix, NUMBERS, POOL_READER, POOL_WRITER, SEALER, STACK};
 use crate::held::{held, Authority, Place};
 use crate::random::Random;
 use crate::state::lend;
-use lent::{State, MEPCC, MSCRATCHC, MSTATUS, MTCC, MTDC, PCC};
+use lent::{instruction_bytes, State, MEPCC, MSCRATCHC, MSTATUS, MTCC, MTDC, PCC};
 use second::capability::{move_address, narrow, GL, LG, LM, MC, SD, SR};
 use second::Capability;
 
-/// The handler: it steps over the instruction that trapped, or starts again where the tag of its
-/// address is lost. c15 := MEPCC; c14 := c15's tag; if that is 0, on to AUIPCC; c15 := c15 + 4;
-/// MEPCC := c15; MRET; c15 := PCC; then a distance is added to c15; MEPCC := c15; MRET.
+/// The handler: it steps over the instruction that trapped, or over its first half, or starts again
+/// where the tag of its address is lost. c15 := MEPCC; c14 := c15's tag; if that is 0, on to AUIPCC;
+/// c15 := c15 + 4 or + 2; MEPCC := c15; MRET; c15 := PCC; then a distance is added to c15; MEPCC := c15; MRET.
 const HANDLER: [u32; 10] = [
     0x03F0_07DB,
     0xFE47_875B,
@@ -33,7 +33,8 @@ const HANDLER: [u32; 10] = [
 ];
 /// CIncAddrImm c15, c15, 0.
 const ADD_TO_C15: u32 = 0x0007_97DB;
-/// The places of AUIPCC and of the addition after it.
+/// The place of the addition that steps on, and of AUIPCC, which has an addition after it.
+const STEP: u32 = 3;
 const AGAIN: u32 = 6;
 
 /// The bytes kept for the handler at the end of memory.
@@ -152,10 +153,7 @@ impl Scene<'_> {
             }
         }
         let granules = (pool.size / 8).min(255);
-        for at in (0..code.size).step_by(4) {
-            let word = mix.word(self.random, granules);
-            self.write(code.start.wrapping_add(at), word);
-        }
+        self.write_code(mix, granules);
         let back = code.size - 4;
         let link = self.random.below(2);
         self.write(
@@ -163,6 +161,23 @@ impl Scene<'_> {
             mix.jump(link, back.wrapping_neg()),
         );
         self.write_handler();
+    }
+
+    /// Words of both lengths. Mostly a long one starts at a multiple of four, so that most of what is
+    /// stepped over or jumped to is a word as it was written.
+    fn write_code(&mut self, mix: &Mix, granules: u32) {
+        let Layout { start, size } = self.parts.code;
+        let in_pairs = !self.random.one_in(8);
+        let mut at = 0;
+        while at < size {
+            let word = if in_pairs && at % 4 == 2 {
+                mix.short_word(self.random, granules)
+            } else {
+                mix.word(self.random, granules)
+            };
+            cases::write_instruction(self.state, start.wrapping_add(at), word);
+            at += instruction_bytes(word);
+        }
     }
 
     fn write(&mut self, address: u32, word: u32) {
@@ -174,7 +189,10 @@ impl Scene<'_> {
         for (index, word) in (0..).zip(HANDLER) {
             self.write(handler.wrapping_add(4 * index), word);
         }
-        let target = self.parts.code.inside(self.random, 4);
+        let bytes = self.random.pick([2, 4, 4, 4, 4, 4, 4, 4]);
+        self.write(handler.wrapping_add(4 * STEP), ADD_TO_C15 | bytes << 20);
+        let unit = self.random.pick([2, 4, 4, 4]);
+        let target = self.parts.code.inside(self.random, unit);
         let distance = target.wrapping_sub(handler.wrapping_add(4 * AGAIN));
         let place = handler.wrapping_add(4 * (AGAIN + 1));
         self.write(place, ADD_TO_C15 | distance << 20);
@@ -190,8 +208,10 @@ impl Scene<'_> {
             self.state.set(place as usize, lend(integer(value)));
         }
         let half = self.parts.pool.size / 16 * 8;
-        let writer = self.pool_authority(half);
-        self.state.set(POOL_WRITER as usize, lend(writer));
+        for place in [POOL_WRITER, STACK] {
+            let writer = self.pool_authority(half);
+            self.state.set(place as usize, lend(writer));
+        }
         let reader = self.pool_authority(self.parts.pool.size);
         let mask = self.random.pick([!0, !SD, !SD, !SD]);
         self.state
@@ -209,7 +229,8 @@ impl Scene<'_> {
     /// PCC and MEPCC in the code, half of them without SR; MTCC at the handler.
     fn set_counters(&mut self) {
         for place in [PCC, MEPCC] {
-            let address = self.parts.code.inside(self.random, 4);
+            let unit = self.random.pick([2, 4, 4, 4]);
+            let address = self.parts.code.inside(self.random, unit);
             let value = self.executable(self.parts.code, address);
             let mask = self.random.pick([!0, !SR]);
             self.state.set(place, lend(narrow(value, mask)));
@@ -285,7 +306,7 @@ impl Scene<'_> {
     /// A sentry into the code, or another sealed executable capability.
     fn sentry(&mut self) -> Capability {
         let code = self.parts.code;
-        let early = 4 * self.random.below(code.size / 16);
+        let early = 2 * self.random.below(code.size / 8);
         let value = self.executable(code, code.start.wrapping_add(early));
         let stored_type = self.random.pick([1, 2, 3, 1, 2, 3, 4, 5, 6, 7]);
         sealed(value, stored_type)
@@ -342,7 +363,7 @@ mod tests {
         assert_eq!(offset, 4 * (AGAIN - 2));
         let again = shown[AGAIN as usize];
         assert!(matches!(again, Some(Instruction::Auipcc { offset: 0, .. })));
-        for (place, number) in [(3, 4), (AGAIN + 1, 0)] {
+        for (place, number) in [(STEP, 4), (AGAIN + 1, 0)] {
             let Some(Instruction::Derive {
                 derivation,
                 operand,

@@ -34,6 +34,15 @@ fn bit_of(offset: usize) -> (usize, u8) {
     (granule / 8, 1 << (granule % 8))
 }
 
+/// The bytes of an instruction by its first half: two, or four if its low two bits are set (the RISC-V
+/// standard).
+pub fn instruction_bytes(instruction: u32) -> u32 {
+    match instruction & 3 {
+        3 => 4,
+        _ => 2,
+    }
+}
+
 impl State {
     /// Memory with null registers, and without tags or revoked granules.
     pub fn new(start: u32, mem: Vec<u8>) -> State {
@@ -116,6 +125,23 @@ impl State {
         Some(u32::from_le_bytes(*bytes))
     }
 
+    /// The half word at an address, if it is in memory.
+    pub fn half(&self, address: u32) -> Option<u16> {
+        let offset = self.offset(address, 2)?;
+        let bytes = self.mem.get(offset..)?.first_chunk()?;
+        Some(u16::from_le_bytes(*bytes))
+    }
+
+    /// The instruction that stands at an address, if all of it is in memory: its first half, or the word if
+    /// the half says so.
+    pub fn instruction(&self, address: u32) -> Option<u32> {
+        let half = u32::from(self.half(address)?);
+        match instruction_bytes(half) {
+            2 => Some(half),
+            _ => self.word(address),
+        }
+    }
+
     /// Writes bytes if they are all in memory.
     pub fn write(&mut self, address: u32, bytes: &[u8]) {
         if let Some(offset) = self.offset(address, bytes.len()) {
@@ -194,6 +220,21 @@ mod tests {
         state.write(0xFFFF_FFFE, &[1; 4]);
         state.set_tag(0, false);
         assert_eq!(state, before);
+    }
+
+    #[test]
+    fn an_instruction_has_two_or_four_bytes() {
+        let mut state = State::new(START, vec![0; 64]);
+        state.write(START + 60, &[0x13, 0x05, 0x73, 0x9F]);
+        assert_eq!(state.instruction(START), Some(0));
+        assert_eq!(state.instruction(START + 60), Some(0x9F73_0513));
+        // The low bits of 0x9F73 are set, and the rest of it is outside.
+        assert_eq!(state.half(START + 62), Some(0x9F73));
+        assert_eq!(state.instruction(START + 62), None);
+        state.write(START + 62, &[0x72, 0x9F]);
+        assert_eq!(state.instruction(START + 62), Some(0x9F72));
+        assert_eq!(state.half(START + 63), None);
+        assert_eq!([0, 1, 2, 3, 7].map(instruction_bytes), [2, 2, 2, 4, 4]);
     }
 
     #[test]

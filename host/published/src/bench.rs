@@ -172,13 +172,14 @@ impl<'a> Bench<'a> {
         let (cause, value) = (self.ours.regs[MCAUSE], self.ours.regs[MTVAL]);
         let place = self.ours.capability(MEPCC).address;
         let register = value >> 5;
-        let jump = register << 15 | 0x67;
+        // CJALR c0 and C.JR by the register.
+        let jumps = [register << 15 | 0x67, register << 7 | 0x8002].map(Some);
         match (cause, value & 31) {
             (BREAKPOINT, 0) if value == 0 && place == self.returned => Ok(End::Returned),
             (BREAKPOINT, 0) if value == 0 => Ok(End::Broke(place)),
             (CAPABILITY_TRAP, TAG_VIOLATION)
                 if register < 16
-                    && self.image.word(place) == Some(jump)
+                    && jumps.contains(&self.image.instruction(place))
                     && self.ours.capability(register as usize).address == self.returned =>
             {
                 Ok(End::IntegerReturn)

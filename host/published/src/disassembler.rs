@@ -51,6 +51,34 @@ impl Listing {
     }
 }
 
+/// The bytes from one half to the next: each is followed by a no-op, so that it is read by itself.
+pub const HALF_STRIDE: usize = 4;
+const C_NOP: u16 = 0x0001;
+
+/// How the disassembler reads each half that is a short word as code of a machine, rv32 or rv64, with
+/// every extension that it knows; the others as no-ops.
+pub fn read_halves(place: &Path, machine: &str) -> Result<Vec<String>, String> {
+    let bytes = place.join("halves.bin");
+    // One that begins a long word would take what follows with it.
+    let alone = |half: u16| if half & 3 == 3 { C_NOP } else { half };
+    let pair = |half: u16| [alone(half).to_le_bytes(), C_NOP.to_le_bytes()].concat();
+    let all: Vec<u8> = (0..=u16::MAX).flat_map(pair).collect();
+    tools::write(&bytes, &all)?;
+    let mut objdump = tools::tool("objdump");
+    objdump.args(["-D", "-z", "-b", "binary", "-M", "no-aliases,numeric"]);
+    objdump.args(["-m", &format!("riscv:{machine}")]);
+    let text = tools::run(objdump.arg(&bytes))?;
+    let mut texts = vec![String::new(); 1 << 16];
+    for (address, text) in text.lines().filter_map(line) {
+        if address.is_multiple_of(HALF_STRIDE) {
+            if let Some(known) = texts.get_mut(address / HALF_STRIDE) {
+                *known = text;
+            }
+        }
+    }
+    Ok(texts)
+}
+
 /// A line of the listing: the address and the text behind the word.
 fn line(line: &str) -> Option<(usize, String)> {
     let (address, rest) = line.trim_start().split_once(":\t")?;

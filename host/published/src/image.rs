@@ -1,6 +1,7 @@
 //! A linked image: the bench's memory and the same code as a program for qemu.
 
 use crate::tools::{self, Symbols};
+use lent::instruction_bytes;
 use std::path::{Path, PathBuf};
 
 /// The address at which every image begins; image.ld has it too.
@@ -14,7 +15,7 @@ pub struct Image {
     pub program: PathBuf,
     /// The bench's memory as it is lent.
     pub memory: Vec<u8>,
-    /// The words of the routines, without the stub and the handler.
+    /// The instructions of the routines, short and long, without the stub and the handler.
     pub code: Vec<u32>,
     pub symbols: Symbols,
 }
@@ -73,7 +74,11 @@ impl Image {
         }
         image.memory.resize(size, 0);
         let (first, last) = (image.offset("routine_start")?, image.offset("routine_end")?);
-        image.code = words(&image.memory[first..last]);
+        image.code = instructions(&image.memory[first..last]);
+        // The linker may leave a zero half behind the last routine.
+        while image.code.last() == Some(&0) {
+            image.code.pop();
+        }
         let returned = image.offset("returned")?;
         image.memory[returned..returned + 4].copy_from_slice(&EBREAK.to_le_bytes());
         Ok(image)
@@ -90,12 +95,25 @@ impl Image {
         self.address(name).map(|address| (address - START) as usize)
     }
 
-    /// The word at an address of the memory.
-    pub fn word(&self, address: u32) -> Option<u32> {
+    /// The instruction at an address of the memory.
+    pub fn instruction(&self, address: u32) -> Option<u32> {
         let offset = address.checked_sub(START)? as usize;
-        let bytes = self.memory.get(offset..)?.first_chunk()?;
-        Some(u32::from_le_bytes(*bytes))
+        let bytes = self.memory.get(offset..)?;
+        instructions(bytes.get(..4)?).first().copied()
     }
+}
+
+/// Bytes as instructions of two and four bytes.
+fn instructions(bytes: &[u8]) -> Vec<u32> {
+    let mut rest = bytes;
+    let mut found = Vec::new();
+    while let [low, ..] = rest {
+        let length = instruction_bytes((*low).into()) as usize;
+        let (first, others) = rest.split_at(length.min(rest.len()));
+        found.extend(words(first));
+        rest = others;
+    }
+    found
 }
 
 /// Bytes as little-endian words.
@@ -116,5 +134,12 @@ mod tests {
     #[test]
     fn little_endian_words() {
         assert_eq!(words(&[1, 2, 3, 4, 5]), [0x0403_0201, 5]);
+    }
+
+    #[test]
+    fn instructions_of_both_lengths() {
+        // c.nop; ret; c.ebreak.
+        let bytes = [0x01, 0x00, 0x67, 0x80, 0x00, 0x00, 0x02, 0x90];
+        assert_eq!(instructions(&bytes), [0x0001, 0x0000_8067, 0x9002]);
     }
 }

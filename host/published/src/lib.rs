@@ -11,6 +11,7 @@ pub mod arguments;
 pub mod bench;
 pub mod decoding;
 pub mod disassembler;
+pub mod halves;
 pub mod image;
 pub mod instructions;
 pub mod programs;

@@ -3,17 +3,18 @@
 
 use compare::conclude;
 use compare::machines::{second, Machine};
-use published::{decoding, instructions, programs, routines};
+use published::{decoding, halves, instructions, programs, routines};
 use std::process::ExitCode;
 
 const PROVED: Machine = |state, call| call.on(state, proved::step, proved::run);
 
 type Part = fn(Machine) -> Result<String, String>;
 
-const PARTS: [(&str, Part); 4] = [
+const PARTS: [(&str, Part); 5] = [
     ("routines", routines::run),
     ("instructions", instructions::run),
     ("decoding", decoding::run),
+    ("halves", halves::run),
     ("programs", programs::run),
 ];
 

@@ -13,7 +13,11 @@ use std::path::{Path, PathBuf};
 
 const SIZE: u32 = 4096;
 /// The fewest programs and expectations, so that none goes unnoticed.
-const FEWEST: (usize, usize) = (21, 537);
+const FEWEST: (usize, usize) = (22, 584);
+/// Programs that are about the places of long words: a PCC that ends in one, steps that are counted, and
+/// the last word of the address space. The others run a second time as the assembler makes them with
+/// short words wherever it can, and meet the same expectations.
+const LONG_ALONE: [&str; 3] = ["fetch", "repair", "top"];
 
 /// A program's state on both machines, and the counts of its last run.
 struct Running {
@@ -156,18 +160,24 @@ fn memory(source: &str) -> Result<(u32, u32), String> {
     }
 }
 
-/// Assembles, links and runs a program; how many expectations it met.
-fn program(machine: Machine, place: &Path, source: &Path) -> Result<usize, String> {
+/// Assembles, links and runs a program; how many expectations it met, and how many bytes of it are not 0.
+fn program(
+    machine: Machine,
+    place: &Path,
+    source: &Path,
+    architecture: &str,
+) -> Result<(usize, usize), String> {
     let text = String::from_utf8_lossy(&tools::read(source)?).into_owned();
     let (start, size) = memory(&text)?;
     let named = place.join(source.file_name().unwrap_or_default());
     let (object, linked) = (named.with_extension("o"), named.with_extension("elf"));
-    tools::assemble(source, &object)?;
+    tools::assemble_for(architecture, source, &object)?;
     let mut ld = tools::tool("ld");
     ld.args(["-m", "elf32lriscv", "--no-relax", "-e", "0"]);
     ld.arg(format!("-Ttext={start:#x}")).arg(&object);
     tools::run(ld.arg("-o").arg(&linked))?;
     let image = tools::section(&linked, ".text")?;
+    let used = image.iter().filter(|&&byte| byte != 0).count();
     let mut running = Running::new(machine, start, image, size);
     let mut met = 0;
     for (number, line) in lines(&text, &tools::symbols(&linked)?)? {
@@ -177,7 +187,7 @@ fn program(machine: Machine, place: &Path, source: &Path) -> Result<usize, Strin
     if met == 0 {
         return Err("expects nothing".to_string());
     }
-    Ok(met)
+    Ok((met, used))
 }
 
 /// Runs every program.
@@ -189,18 +199,29 @@ pub fn run(machine: Machine) -> Result<String, String> {
         .filter(|path| path.extension().is_some_and(|end| end == "S"))
         .collect();
     sources.sort();
-    let (mut expectations, mut report) = (0, String::new());
+    let (mut expectations, mut compressed, mut saved) = (0, 0, 0);
+    let mut report = String::new();
     for source in &sources {
         let name = source.file_stem().unwrap_or_default().to_string_lossy();
-        let met = program(machine, &place, source).map_err(|text| format!("{name}: {text}"))?;
+        let told = |text| format!("{name}: {text}");
+        let (met, used) = program(machine, &place, source, tools::LONG).map_err(told)?;
         expectations += met;
         report.push_str(&format!("{name}: {met}\n"));
+        if !LONG_ALONE.contains(&&*name) {
+            let (again, fewer) = program(machine, &place, source, tools::SHORT).map_err(told)?;
+            if again != met || fewer > used {
+                return Err(told(format!("{again} expectations with short words")));
+            }
+            compressed += 1;
+            saved += used - fewer;
+        }
     }
     let totals = format!(
-        "{report}{} programs, {expectations} expectations",
+        "{report}{} programs, {expectations} expectations; {compressed} of them with short words too",
         sources.len()
     );
-    if sources.len() < FEWEST.0 || expectations < FEWEST.1 {
+    let few = sources.len() < FEWEST.0 || expectations < FEWEST.1;
+    if few || saved == 0 || compressed + LONG_ALONE.len() != sources.len() {
         return Err(format!("{totals}: fewer than there were"));
     }
     Ok(totals)

@@ -35,12 +35,17 @@ repair:
     slli  x1, x1, 3
     cincaddr c4, c15, x1
     lw    x5, 0(c4)
-    // The instruction that trapped: CJALR has the opcode 0x67.
+    // The instruction that trapped: CJALR has the opcode 0x67; C.JR and C.JALR have 4 for funct3, no
+    // second register, and 2 for their quadrant.
     cspecialr c6, MEPCC
-    lw    x7, 0(c6)
-    andi  x7, x7, 0x7f
-    li    x8, 0x67
-    beq   x7, x8, derive
+    lhu   x7, 0(c6)
+    andi  x8, x7, 0x7f
+    li    x9, 0x67
+    beq   x8, x9, derive
+    li    x8, 0xe07f
+    and   x7, x7, x8
+    li    x9, 0x8002
+    beq   x7, x9, derive
     cspecialr c6, MTDC
 derive:
     csetaddr c6, c6, x5

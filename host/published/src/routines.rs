@@ -1,5 +1,5 @@
-//! Published programs: the routines of GCC's library for RV32E, without and with the M extension,
-//! which nobody here wrote, each linked from Debian's archives and called on the proved machine, on
+//! Published programs: the routines of GCC's library for RV32E, without and with the M extension, and with
+//! M and compressed code, which nobody here wrote, each linked from Debian's archives and called on the proved machine, on
 //! the second program and under qemu-riscv32, on the same registers and stack words.
 //!
 //! A routine that touches no memory runs as it is: the first trap ends the call. All of them run
@@ -12,6 +12,7 @@ use crate::image::{Image, Linker};
 use crate::{qemu, tools};
 use compare::machines::Machine;
 use compare::random::Random;
+use lent::instruction_bytes;
 use std::fmt;
 use std::path::Path;
 
@@ -53,7 +54,7 @@ const SIGNATURES: [(&str, &str); 25] = [
 ];
 
 /// What the archive has besides, by the reason for which it is not called.
-const NOT_CALLED: [(&str, &str); 4] = [
+const NOT_CALLED: [(&str, &str); 5] = [
     (
         "needs a C library's malloc, free or abort",
         "_Unwind_ __register_frame __deregister_frame __frame_state_for __gcc_personality __emutls",
@@ -63,6 +64,7 @@ const NOT_CALLED: [(&str, &str); 4] = [
         "__riscv_save __riscv_restore",
     ),
     ("has 96 bytes by reference", "__multc3 __divtc3"),
+    ("has LR and SC of the A extension", "__sync_"),
     (
         "is a table",
         "__clz_tab __popcount_tab __CTOR_LIST__ __DTOR_LIST__",
@@ -72,34 +74,44 @@ const NOT_CALLED: [(&str, &str); 4] = [
 /// Calls at random for each routine, beyond the pairs of edges.
 const MORE: usize = 2000;
 
-/// An archive, and the fewest routines that it must have: in all, without memory, and with words of
-/// the M extension. So none goes unnoticed.
+/// An archive, and the fewest routines that it must have: in all, without memory, with words of the M
+/// extension, and with short words. So none goes unnoticed.
 struct Archive {
     architecture: &'static str,
     routines: usize,
     plain: usize,
     multiplying: usize,
+    compressed: usize,
 }
 
-const ARCHIVES: [Archive; 2] = [
+const ARCHIVES: [Archive; 3] = [
     Archive {
         architecture: "rv32e",
         routines: 110,
         plain: 44,
         multiplying: 0,
+        compressed: 0,
     },
     Archive {
         architecture: "rv32em",
         routines: 110,
         plain: 46,
         multiplying: 22,
+        compressed: 0,
+    },
+    Archive {
+        architecture: "rv32emac",
+        routines: 113,
+        plain: 46,
+        multiplying: 22,
+        compressed: 113,
     },
 ];
 
 /// What the code of an image is made of.
 #[derive(Clone, Copy, PartialEq, Eq, Debug)]
 enum Code {
-    /// LUI, OP-IMM, OP, branches and jumps, and EBREAK.
+    /// LUI, OP-IMM, OP, branches and jumps, and EBREAK, and their short forms.
     Plain,
     /// Loads and stores of integers too.
     Memory,
@@ -110,6 +122,14 @@ enum Code {
 fn code(words: &[u32]) -> Code {
     let mut found = Code::Plain;
     for &word in words {
+        if instruction_bytes(word) == 2 {
+            match short_code(word) {
+                Code::Plain => {}
+                Code::Memory => found = Code::Memory,
+                other => return other,
+            }
+            continue;
+        }
         match (word & 0x7F, word >> 12 & 7) {
             (0x13 | 0x33 | 0x37 | 0x63 | 0x67 | 0x6F, _) => {}
             (0x73, _) if word == 0x0010_0073 => {}
@@ -118,6 +138,17 @@ fn code(words: &[u32]) -> Code {
         }
     }
     found
+}
+
+/// The same of a short word, by quadrant and funct3: C.LW, C.SW and those of the stack use memory; the
+/// capability forms and the reserved ones are of another kind.
+fn short_code(half: u32) -> Code {
+    match (half & 3, half >> 13) {
+        (0 | 2, 2 | 6) => Code::Memory,
+        (1, _) | (2, 0 | 4) => Code::Plain,
+        (0, 0) if half != 0 => Code::Plain,
+        _ => Code::Other(half),
+    }
 }
 
 /// Whether some word multiplies or divides.
@@ -131,6 +162,10 @@ struct Totals {
     routines: usize,
     plain: usize,
     multiplying: usize,
+    compressed: usize,
+    /// Instructions in all of them, and short ones.
+    words: usize,
+    short_words: usize,
     calls: usize,
     broke: usize,
     integer_returns: usize,
@@ -143,10 +178,13 @@ impl fmt::Display for Totals {
     fn fmt(&self, out: &mut fmt::Formatter) -> fmt::Result {
         write!(
             out,
-            "{} routines of libgcc, {} with words of M; {} without memory: {} calls, {} ended by \
-             EBREAK, {} at a return through an integer; {} calls with the repairing handler, {} repairs",
+            "{} routines of libgcc, {} with words of M; {} words, {} short; {} without memory: {} calls, \
+             {} ended by EBREAK, {} at a return through an integer; {} calls with the repairing handler, \
+             {} repairs",
             self.routines,
             self.multiplying,
+            self.words,
+            self.short_words,
             self.plain,
             self.calls,
             self.broke,
@@ -181,7 +219,8 @@ fn run_archive(machine: Machine, archive: &Archive) -> Result<Totals, String> {
     }
     let few = totals.routines < archive.routines
         || totals.plain < archive.plain
-        || totals.multiplying < archive.multiplying;
+        || totals.multiplying < archive.multiplying
+        || totals.compressed < archive.compressed;
     if few {
         return Err(format!("{totals}\nfewer routines than there were"));
     }
@@ -219,12 +258,17 @@ fn routine(
             0x17 => "has an AUIPC, which is AUIPCC here",
             _ => "has a word of another kind",
         };
-        totals.not_run.push(format!("{name} {what}: {word:08x}"));
+        totals.not_run.push(format!("{name} {what}: {word:x}"));
         return Ok(());
     }
     totals.routines += 1;
     totals.plain += usize::from(code == Code::Plain);
     totals.multiplying += usize::from(multiplies(&image.code));
+    let short = |word: &&u32| instruction_bytes(**word) == 2;
+    let short_words = image.code.iter().filter(short).count();
+    totals.compressed += usize::from(short_words > 0);
+    totals.words += image.code.len();
+    totals.short_words += short_words;
     check(machine, &image, name, signature, code, totals)
 }
 
@@ -282,5 +326,10 @@ mod tests {
         assert_eq!(code(&[0x0000_0517, 0x0081_2083]), Code::Other(0x517));
         assert_eq!(code(&[0x0000_0073]), Code::Other(0x73));
         assert_eq!(code(&[0x0000_3003]), Code::Other(0x3003));
+        // c.mv, c.ret; c.lwsp; c.ldsp, the zero half.
+        assert_eq!(code(&[0x82AA, 0x8082]), Code::Plain);
+        assert_eq!(code(&[0x4082, 0x8082]), Code::Memory);
+        assert_eq!(code(&[0x6082]), Code::Other(0x6082));
+        assert_eq!(code(&[0]), Code::Other(0));
     }
 }

@@ -54,10 +54,20 @@ pub fn read(path: &Path) -> Result<Vec<u8>, String> {
     fs::read(path).map_err(|error| format!("{}: {error}", path.display()))
 }
 
-/// Assembles a source, with the programs' macros at hand.
+/// The code that an assembler makes: without short words, or with them wherever it can.
+pub const LONG: &str = "rv32em_zicsr";
+pub const SHORT: &str = "rv32emc_zicsr";
+
+/// Assembles a source without short words but those it writes itself.
 pub fn assemble(source: &Path, object: &Path) -> Result<(), String> {
+    assemble_for(LONG, source, object)
+}
+
+/// Assembles a source for an architecture, with the programs' macros at hand.
+pub fn assemble_for(architecture: &str, source: &Path, object: &Path) -> Result<(), String> {
     let mut gcc = tool("gcc");
-    gcc.args(["-march=rv32em_zicsr", "-mabi=ilp32e", "-c", "-I"]);
+    gcc.arg(format!("-march={architecture}"));
+    gcc.args(["-mabi=ilp32e", "-c", "-I"]);
     gcc.arg(programs()).arg("-o").arg(object).arg(source);
     run(&mut gcc).map(|_| ())
 }

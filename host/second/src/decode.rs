@@ -1,10 +1,35 @@
 //! Instruction words to instructions: RV32E of the RISC-V unprivileged standard with its M
 //! extension (document 02, 1), its six CSR instructions, MRET and WFI, and the CHERIoT report's
 //! chapter 8. Everything else is illegal, and so is a register number above 15 (document 01,
-//! "Traps").
+//! "Traps"). Short words are in compressed.rs.
 
 #[cfg(test)]
 mod tests;
+
+use crate::compressed;
+
+/// The bytes of a short word and of a long one.
+pub const SHORT_BYTES: u32 = 2;
+pub const LONG_BYTES: u32 = 4;
+
+/// The bytes of the word that begins so: both low bits are set in a long one (RISC-V unprivileged
+/// standard, on the length of instructions). Lengths above four are not in use here.
+pub fn length(word: u32) -> u32 {
+    if word & 3 == 3 {
+        LONG_BYTES
+    } else {
+        SHORT_BYTES
+    }
+}
+
+/// The instruction of a word of either length; a short one has zeros above it.
+pub fn instruction(word: u32) -> Option<Instruction> {
+    if length(word) == LONG_BYTES {
+        decode(word)
+    } else {
+        compressed::decode(u16::try_from(word).ok()?)
+    }
+}
 
 /// The number of a general register, 0 to 15.
 #[derive(Clone, Copy, PartialEq, Eq, Debug)]
@@ -26,6 +51,11 @@ impl Register {
 
 /// The global pointer that AUICGP adds to (CHERIoT report, 7.12).
 pub const CGP: Register = Register(3);
+
+// Registers that short words name by their form: zero, the link and the stack pointer.
+pub const ZERO: Register = Register(0);
+pub const LINK: Register = Register(1);
+pub const CSP: Register = Register(2);
 
 /// The second operand of an instruction.
 #[derive(Clone, Copy, PartialEq, Eq, Debug)]
@@ -246,7 +276,7 @@ impl Fields {
     }
 }
 
-/// The instruction that a word encodes, or nothing if it is illegal.
+/// The instruction that a long word encodes, or nothing if it is illegal.
 pub fn decode(word: u32) -> Option<Instruction> {
     let fields = Fields(word);
     match word & 0x7F {

@@ -1,5 +1,5 @@
-//! The second bench machine: plain Rust, written from document 01 (the scope) and the CHERIoT
-//! report alone, so that comparing it in bulk with the proved program means something.
+//! The second bench machine: plain Rust, written from documents 01 and 02, the CHERIoT report and
+//! the RISC-V standard alone, so that comparing it in bulk with the proved program means something.
 //!
 //! Every public function is total: slices of any length, any words, no panic.
 
@@ -7,6 +7,7 @@
 
 pub mod calls;
 pub mod capability;
+pub mod compressed;
 pub mod decode;
 pub mod machine;
 pub mod text;

@@ -9,8 +9,9 @@ use crate::capability::{
     Capability, EX, GL, LD, MC, NULL, SD, SL, SR,
 };
 use crate::decode::{
-    decode, Arithmetic, Condition, Csr, CsrOperation, Derivation, Instruction, LoadWidth, Operand,
-    Pairing, Query, Register, Special, StoreWidth, CGP,
+    instruction, length, Arithmetic, Condition, Csr, CsrOperation, Derivation, Instruction,
+    LoadWidth, Operand, Pairing, Query, Register, Special, StoreWidth, CGP, LONG_BYTES,
+    SHORT_BYTES,
 };
 
 // Places in the register file, counted in capabilities, then in words.
@@ -60,13 +61,11 @@ const PCC_NAME: u32 = 32;
 const DISABLING_SENTRY: u32 = 2;
 const ENABLING_SENTRY: u32 = 3;
 
-/// Instructions have four bytes and no fewer: there is no compressed code.
-const INSTRUCTION_BYTES: u32 = 4;
-/// The bytes that must be in bounds at a jump target, min_instruction_bytes in the CHERIoT
-/// report's CJAL and CJALR. Its prose says 2 (7.5), for a core that always has compressed
-/// code; in this configuration the smallest instruction has four.
-const TARGET_BYTES: u32 = INSTRUCTION_BYTES;
 const CAPABILITY_BYTES: u32 = 8;
+
+// The low address bits that are cleared on the way through MTCC and MEPCC (document 02, 3).
+const MTCC_BITS: u32 = 3;
+const MEPCC_BITS: u32 = 1;
 
 const MOST_STEPS: u32 = 1_000_000;
 
@@ -120,10 +119,11 @@ fn aligned(address: u32, size: u32, cause: u32) -> Result<(), Trap> {
     )
 }
 
-/// The two checks of a jump target, bounds and alignment.
+/// The check of a jump target: the bytes of the smallest instruction are in bounds, which is
+/// min_instruction_bytes in the CHERIoT report's CJAL and CJALR and 2 in its 7.5. A target is even:
+/// PCC is and offsets are, and CJALR clears bit 0.
 fn target_allowed(authority: Capability, name: u32, target: u32) -> Result<(), Trap> {
-    within(authority, name, target, TARGET_BYTES)?;
-    aligned(target, INSTRUCTION_BYTES, FETCH_MISALIGNED)
+    within(authority, name, target, SHORT_BYTES)
 }
 
 /// An integer result: the NULL capability with that address (CHERIoT report, 7.3).
@@ -134,10 +134,10 @@ fn integer(value: u32) -> Capability {
     }
 }
 
-/// A capability as it passes through MTCC or MEPCC: the low two address bits cleared by the
-/// address-move rule, also of an address that is aligned (document 01, "Traps").
-fn legalised(capability: Capability) -> Capability {
-    move_address(capability, capability.address & !3)
+/// A capability as it passes through MTCC or MEPCC: low address bits cleared by the address-move
+/// rule, also of an address that has none set (document 01, "Traps").
+fn legalised(capability: Capability, bits: u32) -> Capability {
+    move_address(capability, capability.address & !bits)
 }
 
 /// The lent state, checked.
@@ -272,23 +272,33 @@ impl<'a> Machine<'a> {
         }
     }
 
-    /// The instruction word at PCC (document 01, "Traps", on fetches).
+    /// The word at PCC, a short one with zeros above it (document 01, "Traps", on fetches, as
+    /// document 02, 3, amends it): all checks of the first two bytes, and if the word is long those
+    /// of two more.
     fn fetch(&self) -> Result<u32, Trap> {
         let pcc = self.capability(PCC);
         usable(pcc, PCC_NAME, EX, EXECUTE)?;
-        within(pcc, PCC_NAME, pcc.address, INSTRUCTION_BYTES)?;
-        aligned(pcc.address, INSTRUCTION_BYTES, FETCH_MISALIGNED)?;
-        let bytes = self.read(pcc.address).ok_or(Trap {
+        within(pcc, PCC_NAME, pcc.address, SHORT_BYTES)?;
+        aligned(pcc.address, SHORT_BYTES, FETCH_MISALIGNED)?;
+        let outside = |address| Trap {
             cause: FETCH_ACCESS,
-            value: pcc.address,
-        })?;
-        Ok(u32::from_le_bytes(bytes))
+            value: address,
+        };
+        let half = self.read(pcc.address).ok_or(outside(pcc.address))?;
+        let half = u32::from(u16::from_le_bytes(half));
+        if length(half) == SHORT_BYTES {
+            return Ok(half);
+        }
+        within(pcc, PCC_NAME, pcc.address, LONG_BYTES)?;
+        let second = pcc.address.wrapping_add(SHORT_BYTES);
+        let whole = self.read(pcc.address).ok_or(outside(second))?;
+        Ok(u32::from_le_bytes(whole))
     }
 
     /// Trap entry. MTCC itself stays; no trap is vectored.
     fn enter_trap(&mut self, trap: Trap) {
-        self.set_capability(MEPCC, legalised(self.capability(PCC)));
-        self.set_capability(PCC, legalised(self.capability(MTCC)));
+        self.set_capability(MEPCC, legalised(self.capability(PCC), MEPCC_BITS));
+        self.set_capability(PCC, legalised(self.capability(MTCC), MTCC_BITS));
         let enabled = self.interrupts_enabled();
         self.set_status(MPIE, enabled);
         self.set_status(MIE, false);
@@ -308,25 +318,28 @@ impl<'a> Machine<'a> {
         }
     }
 
-    /// The capability of the next instruction in order.
-    fn next(&self) -> Capability {
+    /// The capability of the next instruction in order, after one of so many bytes.
+    fn next(&self, bytes: u32) -> Capability {
         let pcc = self.capability(PCC);
-        move_address(pcc, pcc.address.wrapping_add(INSTRUCTION_BYTES))
+        move_address(pcc, pcc.address.wrapping_add(bytes))
     }
 
-    /// Executes one instruction word: the next PCC, or a trap with nothing changed.
+    /// Executes a word of either length: the next PCC, or a trap with nothing changed.
     #[rustfmt::skip]
     fn execute(&mut self, word: u32) -> Result<Capability, Trap> {
         use Instruction as I;
         let illegal = Trap { cause: ILLEGAL, value: word };
-        match decode(word).ok_or(illegal)? {
+        let bytes = length(word);
+        match instruction(word).ok_or(illegal)? {
             I::Lui { rd, value } => self.set_register(rd, integer(value)),
             I::Auipcc { cd, offset } => self.add_to(cd, self.capability(PCC), offset),
             I::Auicgp { cd, offset } => self.add_to(cd, self.register(CGP), offset),
-            I::Cjal { cd, offset } => return self.jump(cd, offset),
-            I::Cjalr { cd, cs1, offset } => return self.jump_register(cd, cs1, offset),
+            I::Cjal { cd, offset } => return self.jump(cd, offset, bytes),
+            I::Cjalr { cd, cs1, offset } => return self.jump_register(cd, cs1, offset, bytes),
             I::Branch { condition, rs1, rs2, offset } => {
-                return self.branch(condition, rs1, rs2, offset)
+                if self.holds(condition, rs1, rs2) {
+                    return self.branch(offset);
+                }
             }
             I::Load { width, rd, cs1, offset } => self.load(width, rd, cs1, offset)?,
             I::Clc { cd, cs1, offset } => self.load_capability(cd, cs1, offset)?,
@@ -347,7 +360,7 @@ impl<'a> Machine<'a> {
             I::Ebreak => return Err(Trap { cause: BREAKPOINT, value: 0 }),
             I::Mret => return self.trap_return(),
         }
-        Ok(self.next())
+        Ok(self.next(bytes))
     }
 
     /// AUIPCC and AUICGP: a capability with an offset added to its address.
@@ -356,15 +369,15 @@ impl<'a> Machine<'a> {
         self.set_register(cd, move_address(source, sum));
     }
 
-    /// The link: the next instruction's PCC, sealed as a sentry that brings back the present
-    /// interrupt state (CHERIoT report, CJAL).
-    fn link(&self) -> Capability {
+    /// The link of an instruction of so many bytes: the next one's PCC, sealed as a sentry that
+    /// brings back the present interrupt state (CHERIoT report, CJAL).
+    fn link(&self, bytes: u32) -> Capability {
         let sentry = if self.interrupts_enabled() {
             ENABLING_SENTRY
         } else {
             DISABLING_SENTRY
         };
-        let next = self.next();
+        let next = self.next(bytes);
         Capability {
             metadata: with_type(next.metadata, sentry),
             ..next
@@ -372,11 +385,11 @@ impl<'a> Machine<'a> {
     }
 
     /// CJAL.
-    fn jump(&mut self, cd: Register, offset: u32) -> Result<Capability, Trap> {
+    fn jump(&mut self, cd: Register, offset: u32, bytes: u32) -> Result<Capability, Trap> {
         let pcc = self.capability(PCC);
         let target = pcc.address.wrapping_add(offset);
         target_allowed(pcc, PCC_NAME, target)?;
-        self.set_register(cd, self.link());
+        self.set_register(cd, self.link(bytes));
         Ok(move_address(pcc, target))
     }
 
@@ -386,6 +399,7 @@ impl<'a> Machine<'a> {
         cd: Register,
         cs1: Register,
         offset: u32,
+        bytes: u32,
     ) -> Result<Capability, Trap> {
         let (source, name) = (self.register(cs1), cs1.number());
         let target = source.address.wrapping_add(offset) & !1;
@@ -396,7 +410,7 @@ impl<'a> Machine<'a> {
         require(has(source.metadata, EX), capability_trap(name, EXECUTE))?;
         target_allowed(source, name, target)?;
         // The link holds the interrupt state from before the sentry changes it.
-        self.set_register(cd, self.link());
+        self.set_register(cd, self.link(bytes));
         match seal_type(source.metadata) {
             DISABLING_SENTRY => self.set_status(MIE, false),
             ENABLING_SENTRY => self.set_status(MIE, true),
@@ -409,26 +423,21 @@ impl<'a> Machine<'a> {
         Ok(move_address(unsealed, target))
     }
 
-    /// A branch; only a taken one checks its target (CHERIoT report, 7.5).
-    fn branch(
-        &self,
-        condition: Condition,
-        rs1: Register,
-        rs2: Register,
-        offset: u32,
-    ) -> Result<Capability, Trap> {
+    /// Whether a branch is taken.
+    fn holds(&self, condition: Condition, rs1: Register, rs2: Register) -> bool {
         let (left, right) = (self.register(rs1).address, self.register(rs2).address);
-        let taken = match condition {
+        match condition {
             Condition::Equal => left == right,
             Condition::NotEqual => left != right,
             Condition::Less => (left as i32) < right as i32,
             Condition::GreaterOrEqual => left as i32 >= right as i32,
             Condition::LessUnsigned => left < right,
             Condition::GreaterOrEqualUnsigned => left >= right,
-        };
-        if !taken {
-            return Ok(self.next());
         }
+    }
+
+    /// A branch that is taken; one that is not checks nothing (CHERIoT report, 7.5).
+    fn branch(&self, offset: u32) -> Result<Capability, Trap> {
         let pcc = self.capability(PCC);
         let target = pcc.address.wrapping_add(offset);
         target_allowed(pcc, PCC_NAME, target)?;
@@ -617,7 +626,7 @@ impl<'a> Machine<'a> {
         let enabled = self.words[MSTATUS] & MPIE != 0;
         self.set_status(MIE, enabled);
         self.set_status(MPIE, true);
-        Ok(legalised(self.capability(MEPCC)))
+        Ok(legalised(self.capability(MEPCC), MEPCC_BITS))
     }
 
     /// CSpecialRW: c0 as a source only reads.
@@ -627,14 +636,14 @@ impl<'a> Machine<'a> {
         special: Special,
         cs1: Register,
     ) -> Result<(), Trap> {
-        let (place, number, legalise) = match special {
-            Special::Mtcc => (MTCC, 28, true),
-            Special::Mtdc => (MTDC, 29, false),
-            Special::MScratchC => (MSCRATCHC, 30, false),
-            Special::Mepcc => (MEPCC, 31, true),
+        let (place, number, bits) = match special {
+            Special::Mtcc => (MTCC, 28, Some(MTCC_BITS)),
+            Special::Mtdc => (MTDC, 29, None),
+            Special::MScratchC => (MSCRATCHC, 30, None),
+            Special::Mepcc => (MEPCC, 31, Some(MEPCC_BITS)),
         };
         self.system_allowed(PCC_NAME + number)?;
-        let through = |value| if legalise { legalised(value) } else { value };
+        let through = |value| bits.map_or(value, |bits| legalised(value, bits));
         let (old, new) = (self.capability(place), self.register(cs1));
         self.set_register(cd, through(old));
         if cs1.number() != 0 {

@@ -1,10 +1,17 @@
-//! Endless programs, as instruction words: integer work, memory work, capability work, memory work
-//! through capabilities cut to memory, and multiplying and dividing.
+//! Endless programs, as instruction words: integer work, the same by short words, memory work,
+//! capability work, memory work through capabilities cut to memory, and multiplying and dividing.
 
 use lent::{Capability, State, EXECUTABLE_ROOT, MEMORY_ROOT, MTCC, PCC};
 
 /// The programs by name.
-pub const NAMES: [&str; 5] = ["integer", "memory", "capability", "bounded", "multiply"];
+pub const NAMES: [&str; 6] = [
+    "integer",
+    "short",
+    "memory",
+    "capability",
+    "bounded",
+    "multiply",
+];
 
 /// Where memory starts, and its size.
 const START: u32 = 0x2000_0000;
@@ -30,6 +37,20 @@ fn s_type(rs2: u32, rs1: u32, funct3: u32) -> u32 {
 
 /// A jump 16 bytes back: CJAL c0, -16.
 const BACK: u32 = 0xFF1F_F06F;
+
+/// The work of "integer" by short words, where there are some: c.addi x9, 1; c.xor x10, x9;
+/// c.add x11, x10; then sra x12, x11, x10, which has none, and so stands between two multiples of
+/// four; c.j .-10.
+const SHORT: [u16; 6] = [0x0485, 0x8D25, 0x95AA, 0xD633, 0x40A5, 0xBFDD];
+
+/// The bytes of a program's loop.
+fn code(name: &str) -> Option<Vec<u8>> {
+    if name == "short" {
+        return Some(SHORT.iter().flat_map(|half| half.to_le_bytes()).collect());
+    }
+    let words = words(name)?;
+    Some(words.iter().flat_map(|word| word.to_le_bytes()).collect())
+}
 
 /// The words of a program's loop.
 fn words(name: &str) -> Option<[u32; 5]> {
@@ -77,7 +98,7 @@ const FACTORS: [(usize, u32); 3] = [(1, 1), (6, 1_103_515_245), (7, 1_000_003)];
 
 /// A program ready to run from its first word.
 pub fn ready(name: &str) -> Option<State> {
-    let words = words(name)?;
+    let code = code(name)?;
     let mut state = State::new(START, vec![0; SIZE]);
     let roots = [
         (5, START + 0x100, MEMORY_ROOT),
@@ -97,8 +118,6 @@ pub fn ready(name: &str) -> Option<State> {
             state.set(place, Capability::integer(value));
         }
     }
-    for (bytes, word) in state.mem.chunks_exact_mut(4).zip(words) {
-        bytes.copy_from_slice(&word.to_le_bytes());
-    }
+    state.mem[..code.len()].copy_from_slice(&code);
     Some(state)
 }

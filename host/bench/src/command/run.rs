@@ -58,6 +58,10 @@ fn start(asked: &Run, names: &Names) -> Result<(State, Image), String> {
         return Ok((state, images));
     }
     let entry = asked.entry.or(images.entry).unwrap_or(start);
+    if !entry.is_multiple_of(2) {
+        let odd = "odd, and an instruction's address is even";
+        return Err(format!("the image's start, {entry:08x}, is {odd}"));
+    }
     let size = asked.size.unwrap_or(map_size).min(MOST_SIZE);
     Ok((State::reset(start, vec![0; size as usize], entry), images))
 }

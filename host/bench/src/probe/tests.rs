@@ -3,7 +3,7 @@
 use super::*;
 use crate::sequence::Sequence;
 use second::capability;
-use second::decode::{decode, Instruction};
+use second::decode::{decode, instruction, Instruction};
 
 #[test]
 fn rights_and_types_of_every_code_are_the_second_programs() {
@@ -61,7 +61,7 @@ fn a_relative_jumps_target_is_pccs_plus_the_offset() {
         let address = 0x4000_0000;
         let word = sequence.word() & !0x7F | 0x6F;
         if let Some(Instruction::Cjal { offset, .. }) = decode(word) {
-            let state = scratch(address, word, Capability::tagged(0, 0));
+            let state = scratch(address, word, 1, Capability::tagged(0, 0));
             let pcc = state.capability(PCC);
             let target = address.wrapping_add(offset);
             assert_eq!(relative_jump(&state, pcc), Some(target), "{word:08x}");
@@ -70,16 +70,57 @@ fn a_relative_jumps_target_is_pccs_plus_the_offset() {
 }
 
 #[test]
-fn a_target_that_no_capability_holds_is_told_too() {
+fn the_last_target_is_told_too() {
     // CJALR c0, 0(c1) and CJALR c0, -2(c1); CJAL c0, 126.
     let (here, two_below, forward) = (0x0000_8067, 0xFFE0_8067, 0x07E0_006F);
     assert_eq!(register_jump(here, 0xFFFF_FFFE), Some(0xFFFF_FFFE));
     assert_eq!(register_jump(here, 0xFFFF_FFFF), Some(0xFFFF_FFFE));
     assert_eq!(register_jump(two_below, 0), Some(0xFFFF_FFFE));
     assert_eq!(register_jump(here, 0xFFFF_FFFC), Some(0xFFFF_FFFC));
-    let state = scratch(0xFFFF_FF80, forward, Capability::tagged(0, 0));
+    let state = scratch(0xFFFF_FF80, forward, 1, Capability::tagged(0, 0));
     assert_eq!(
         relative_jump(&state, state.capability(PCC)),
         Some(0xFFFF_FFFE)
     );
+}
+
+/// The address that a short word asks for, its authority at one and PCC at another.
+fn of_half(half: u32, authority: u32, pcc: u32) -> Option<u32> {
+    match Request::of(half) {
+        Request::Load { .. } | Request::Store { .. } => access(half, authority),
+        Request::RegisterJump { .. } => register_jump(half, authority),
+        Request::RelativeJump => {
+            let state = scratch(pcc, half, 1, Capability::tagged(0, 0));
+            relative_jump(&state, state.capability(PCC))
+        }
+        Request::Other => None,
+    }
+}
+
+#[test]
+fn every_short_word_asks_for_the_second_programs_address() {
+    let mut sequence = Sequence(4);
+    let mut asking = 0;
+    for half in (0..1 << 16).filter(|half| half & 3 != 3) {
+        let (authority, pcc) = (sequence.word(), 0x4000_0000u32);
+        let address = match instruction(half) {
+            Some(
+                Instruction::Load { offset, .. }
+                | Instruction::Clc { offset, .. }
+                | Instruction::Store { offset, .. }
+                | Instruction::Csc { offset, .. },
+            ) => authority.wrapping_add(offset),
+            Some(Instruction::Cjalr { .. }) => authority & !1,
+            Some(Instruction::Cjal { offset, .. }) => pcc.wrapping_add(offset),
+            // A scratch state's registers are zero, so C.BEQZ is taken and C.BNEZ is not.
+            Some(Instruction::Branch { offset, .. }) if half >> 13 == 6 => pcc.wrapping_add(offset),
+            Some(Instruction::Branch { .. }) => pcc + 2,
+            _ => continue,
+        };
+        assert_eq!(of_half(half, authority, pcc), Some(address), "{half:04x}");
+        asking += 1;
+    }
+    // Loads and stores: 4 forms of 2,048, 2 of 960 and 2 of 1,024; 4,096 jumps; 4,096 branches; 30 by a
+    // register.
+    assert_eq!(asking, 4 * 2048 + 2 * 960 + 2 * 1024 + 4096 + 4096 + 30);
 }

@@ -5,6 +5,16 @@ pub const ECALL: u32 = 0x0000_0073;
 pub const EBREAK: u32 = 0x0010_0073;
 pub const MRET: u32 = 0x3020_0073;
 
+// Short words: c.ebreak; c.lw x10, 64(x9); c.ldsp x10, 8(x2); c.sd x10, 8(x9); c.jal .+64;
+// c.beqz x8, .+128; c.jalr x2.
+pub const C_EBREAK: u32 = 0x9002;
+pub const C_LW: u32 = 0x40A8;
+pub const C_LDSP: u32 = 0x6522;
+pub const C_SD: u32 = 0xE488;
+pub const C_JAL: u32 = 0x2081;
+pub const C_BEQZ: u32 = 0xC041;
+pub const C_JALR: u32 = 0x9102;
+
 /// The R format.
 pub fn r(funct7: u32, rs2: u32, rs1: u32, funct3: u32, rd: u32, opcode: u32) -> u32 {
     funct7 << 25 | rs2 << 20 | rs1 << 15 | funct3 << 12 | rd << 7 | opcode

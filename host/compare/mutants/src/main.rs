@@ -6,6 +6,7 @@
 use compare::authority;
 use compare::conclude;
 use compare::cuts::{self, CutAnswer, Label};
+use compare::halves;
 use compare::instructions::table;
 use compare::lists::{self, List};
 use compare::machines;
@@ -75,6 +76,10 @@ fn told_apart(comparison: &str, table: &Table, seed: u64, cases: u64) -> Option<
         "lists" => lists::compare(calls, seed, cases)
             .err()
             .map(|found| found.case),
+        // A round of all halves, for there are mistakes in a single one.
+        "halves" => halves::compare(machine, seed, halves::CASES, None)
+            .err()
+            .map(|found| found.number),
         "authority" => authority::search(machine, table, seed, cases.min(STARTS), None)
             .err()
             .map(|gain| gain.number),
@@ -88,7 +93,7 @@ fn told_apart(comparison: &str, table: &Table, seed: u64, cases: u64) -> Option<
 fn run(options: &Options) -> Result<String, String> {
     let table = table();
     let mut faults = Vec::new();
-    let right = ["cuts", "lists", "machine"].map(|comparison| (comparison, RIGHT_CASES));
+    let right = ["cuts", "lists", "machine", "halves"].map(|comparison| (comparison, RIGHT_CASES));
     for (comparison, cases) in right.into_iter().chain([("authority", RIGHT_STARTS)]) {
         if let Some(case) = told_apart(comparison, &table, options.seed, cases) {
             faults.push(format!("no mutant: {comparison} differs at case {case}"));

@@ -2,6 +2,7 @@
 
 mod bench;
 mod capabilities;
+mod compressed;
 mod control;
 mod integers;
 mod memory;

@@ -105,6 +105,14 @@ impl Bench {
         }
     }
 
+    /// Writes short words from PCC on; a long one is two.
+    pub fn halves(&mut self, halves: &[u16]) {
+        let at = (self.get(PCC).address - self.start) as usize;
+        for (index, half) in halves.iter().enumerate() {
+            self.mem[at + 2 * index..][..2].copy_from_slice(&half.to_le_bytes());
+        }
+    }
+
     /// Puts a capability into memory at an offset, with its tag.
     pub fn put(&mut self, offset: usize, value: Capability) {
         self.mem[offset..][..4].copy_from_slice(&value.address.to_le_bytes());
@@ -145,6 +153,14 @@ impl Bench {
         assert_eq!(self.get(PCC), tagged(pcc.address + 4, pcc.metadata));
     }
 
+    /// Runs one short word that must retire and move PCC on by two.
+    pub fn retire_half(&mut self, half: u16) {
+        self.halves(&[half]);
+        let pcc = self.get(PCC);
+        assert_eq!(self.step(), RETIRED, "half {half:04x}");
+        assert_eq!(self.get(PCC), tagged(pcc.address + 2, pcc.metadata));
+    }
+
     /// Runs one word that must trap, and checks the whole state after it.
     pub fn trap(&mut self, word: u32, mcause: u32, mtval: u32) {
         self.program(&[word]);
@@ -155,7 +171,7 @@ impl Bench {
     pub fn trap_in_place(&mut self, mcause: u32, mtval: u32) {
         let mut expected = self.clone();
         let pcc = self.get(PCC);
-        expected.set(MEPCC, tagged(pcc.address & !3, pcc.metadata));
+        expected.set(MEPCC, tagged(pcc.address & !1, pcc.metadata));
         expected.set(PCC, self.get(MTCC));
         let enabled = self.regs[MSTATUS] >> 3 & 1;
         expected.regs[MSTATUS] = self.regs[MSTATUS] & !0x88 | enabled << 7;

@@ -120,7 +120,7 @@ fn a_link_past_the_space() {
 }
 
 // CHERIoT report, 7.11, and the privileged standard: MRET moves MEPCC to PCC, MIE takes MPIE
-// and MPIE becomes 1. Document 01: low two address bits cleared by the address-move rule.
+// and MPIE becomes 1. Documents 01 and 02, 3: one low address bit cleared by the address-move rule.
 #[test]
 fn trap_return() {
     for (before, after) in [
@@ -134,7 +134,7 @@ fn trap_return() {
         let mepcc = tagged(START + 0x43, EXECUTABLE_ROOT);
         bench.set(MEPCC, mepcc);
         run_one(&mut bench, asm::MRET);
-        assert_eq!(bench.get(PCC), tagged(START + 0x40, EXECUTABLE_ROOT));
+        assert_eq!(bench.get(PCC), tagged(START + 0x42, EXECUTABLE_ROOT));
         assert_eq!(bench.get(MEPCC), mepcc);
         assert_eq!(bench.regs[MSTATUS], after);
     }
@@ -169,31 +169,33 @@ fn special_registers() {
     }
 }
 
-// Document 01, "Traps": MTCC and MEPCC are written and read by a move to the address without its
-// two low bits, of an aligned address too. MTDC and MScratchC are not.
+// Document 01, "Traps", and document 02, 3: MTCC and MEPCC are written and read by a move to the
+// address without its two low bits and its lowest, of an aligned address too. MTDC and MScratchC
+// are not.
 #[test]
 fn special_registers_legalise() {
     let code = set_bounds(tagged(START + 0x40, EXECUTABLE_ROOT), 16);
-    let odd = Capability {
-        address: START + 0x47,
-        ..code
-    };
-    let even = Capability {
-        address: START + 0x44,
+    let at = |offset: u32| Capability {
+        address: START + 0x40 + offset,
         ..code
     };
     let locked = sealed(code, 1);
     // Cleared bits can leave the representable range: [.., +3) from an odd base.
     let edge = set_bounds(tagged(START + 0x41, EXECUTABLE_ROOT), 3);
     let edge_after = untagged(tagged(START + 0x40, edge.metadata));
-    for (scr, place, plain) in [
-        (28, MTCC, false),
-        (29, MTDC, true),
-        (30, MSCRATCHC, true),
-        (31, MEPCC, false),
+    for (scr, place, odd_after) in [
+        (28, MTCC, Some(at(4))),
+        (29, MTDC, None),
+        (30, MSCRATCHC, None),
+        (31, MEPCC, Some(at(6))),
     ] {
-        for (value, through) in [(odd, even), (locked, untagged(locked)), (edge, edge_after)] {
-            let expected = if plain { value } else { through };
+        let values = [
+            (at(7), odd_after),
+            (locked, Some(untagged(locked))),
+            (edge, Some(edge_after)),
+        ];
+        for (value, through) in values {
+            let expected = odd_after.and(through).unwrap_or(value);
             let mut writing = Bench::new();
             writing.set(1, value);
             writing.retire(asm::two(0x01, 0, 1, scr));

@@ -23,12 +23,12 @@ fn without(capability: Capability, lost: u32) -> Capability {
 // checks that come later.
 #[test]
 fn fetch_capability_causes() {
-    let outside = START + 0x1002;
+    let outside = START + 0x1001;
     let cases = [
-        (untagged(sealed(memory(outside, 2), 1)), 1024 + 2),
-        (sealed(memory(outside, 2), 1), 1024 + 3),
-        (memory(outside, 2), 1024 + 17),
-        (set_bounds(tagged(outside, EXECUTABLE_ROOT), 3), 1024 + 1),
+        (untagged(sealed(memory(outside, 1), 1)), 1024 + 2),
+        (sealed(memory(outside, 1), 1), 1024 + 3),
+        (memory(outside, 1), 1024 + 17),
+        (set_bounds(tagged(outside, EXECUTABLE_ROOT), 1), 1024 + 1),
     ];
     for (pcc, mtval) in cases {
         let mut bench = Bench::new();
@@ -41,19 +41,18 @@ fn fetch_capability_causes() {
 }
 
 // A fetch that is misaligned is mcause 0, one outside memory 1, with the address. MEPCC gets the
-// address with its low two bits cleared.
+// address with its lowest bit cleared.
 #[test]
 fn fetch_ordinary_causes() {
     let mut bench = Bench::new();
-    bench.set(PCC, tagged(START + 0x1002, EXECUTABLE_ROOT));
-    bench.trap_in_place(0, START + 0x1002);
-    assert_eq!(bench.get(MEPCC), tagged(START + 0x1000, EXECUTABLE_ROOT));
-    let mut bench = Bench::new();
-    bench.set(PCC, tagged(START + 0x100, EXECUTABLE_ROOT));
-    bench.trap_in_place(1, START + 0x100);
-    let mut bench = Bench::new();
-    bench.set(PCC, tagged(START - 4, EXECUTABLE_ROOT));
-    bench.trap_in_place(1, START - 4);
+    bench.set(PCC, tagged(START + 0x1003, EXECUTABLE_ROOT));
+    bench.trap_in_place(0, START + 0x1003);
+    assert_eq!(bench.get(MEPCC), tagged(START + 0x1002, EXECUTABLE_ROOT));
+    for outside in [START + 0x100, START + 0x102, START - 2, START - 4] {
+        let mut bench = Bench::new();
+        bench.set(PCC, tagged(outside, EXECUTABLE_ROOT));
+        bench.trap_in_place(1, outside);
+    }
 }
 
 // A trap's entry is by moves, of aligned addresses too: a sealed PCC arrives untagged in MEPCC, a
@@ -238,8 +237,11 @@ fn jump_register_causes() {
     bench_with(untagged(sealed(data, 1)), integer(0)).trap(jump, 28, 32 + 2);
     bench_with(sealed(data, 1), integer(0)).trap(jump, 28, 32 + 3);
     bench_with(data, integer(0)).trap(jump, 28, 32 + 17);
-    bench_with(code(4), integer(0)).trap(jump, 28, 32 + 1);
-    bench_with(code(8), integer(0)).trap(jump, 0, START + 2);
+    bench_with(code(3), integer(0)).trap(jump, 28, 32 + 1);
+    let mut even = bench_with(code(4), integer(0));
+    even.program(&[asm::cjalr(3, C1, 3)]);
+    assert_eq!(even.step(), RETIRED);
+    assert_eq!(even.get(PCC).address, START + 2);
     // A sentry with an offset, and sealed executable capabilities that are no sentries.
     bench_with(sealed(code(8), 1), integer(0)).trap(asm::cjalr(4, C1, 3), 28, 32 + 3);
     for other in [4, 5, 6, 7] {
@@ -248,20 +250,21 @@ fn jump_register_causes() {
     }
 }
 
-// CHERIoT report, CJAL and 7.5: bounds of PCC (register 32), then alignment; taken branches
-// the same, branches not taken check nothing.
+// CHERIoT report, CJAL and 7.5: two bytes at the target in bounds of PCC (register 32); taken
+// branches the same, branches not taken check nothing.
 #[test]
 fn jump_and_branch_causes() {
-    let code = set_bounds(tagged(START, EXECUTABLE_ROOT), 16);
+    let code = set_bounds(tagged(START, EXECUTABLE_ROOT), 15);
     let mut bench = Bench::new();
     bench.set(PCC, code);
-    bench.clone().trap(asm::cjal(14, 3), 28, 1024 + 1);
-    bench.clone().trap(asm::cjal(16, 3), 28, 1024 + 1);
-    bench.clone().trap(asm::cjal(-4, 3), 28, 1024 + 1);
-    bench.clone().trap(asm::cjal(6, 3), 0, START + 6);
-    bench.clone().trap(asm::b(16, 0, 0, 0), 28, 1024 + 1);
-    bench.clone().trap(asm::b(-4, 0, 0, 0), 28, 1024 + 1);
-    bench.clone().trap(asm::b(10, 0, 0, 0), 0, START + 10);
-    bench.clone().retire(asm::b(16, 0, 0, 1));
-    bench.clone().retire(asm::b(10, 0, 0, 1));
+    for offset in [14, 16, -2, -4] {
+        bench.clone().trap(asm::cjal(offset, 3), 28, 1024 + 1);
+        bench.clone().trap(asm::b(offset, 0, 0, 0), 28, 1024 + 1);
+        bench.clone().retire(asm::b(offset, 0, 0, 1));
+    }
+    for word in [asm::cjal(12, 3), asm::b(12, 0, 0, 0), asm::cjal(10, 3)] {
+        let mut bench = bench.clone();
+        bench.program(&[word]);
+        assert_eq!(bench.step(), RETIRED);
+    }
 }
