@@ -13,7 +13,8 @@ returns c =
     let f = rw (fetch .before .before .pcc-of .ensures) at (fetch .fetch .ensures) in
     let e = rw f at (effect .effect-in .ensures) in
     let n = rw f at (commit .before .length-in .ensures) in
-    rw (e, n) at (commit .commit-effect .ensures)
+    let k = commit .commit-effect .ensures in
+    (rw (← e) (k .0), rw (← e, ← n) (k .1))
 
 pub take-step-spec : {M : Type 1} → statement M
 take-step-spec =
