@@ -127,6 +127,10 @@ top-of-memory =
 abbrev small : (tag : ℕ) → Capability
 small t = capability 0x20000018 0x7E004010 t
 
+-- [0x20000010, 0x20000011), a token of one byte: GL and U0, or GL alone
+abbrev pub token : (metadata tag : ℕ) → Capability
+token m t = capability 0x20000010 m t
+
 -- LW c2, 0(c1) through an untagged c1: cause 2 of register 1
 unfoldable pub untagged-load : Case
 untagged-load = plain (integer 0x20000000) (integer 0) 0 0 0x0000A103 0 (trap (execute 0x20000000) 28 (1 * 32 + 2)) 0
@@ -156,4 +160,7 @@ cases =
     ∷ environment-call
     -- a word that is no instruction
     ∷ plain (integer 0) (integer 0) 0 0 0xFFFFFFFF 0 (trap (execute 0x20000000) 2 0xFFFFFFFF) 0
+    -- CLC c2, 8(c1) of a token in a revoked granule: U0 spares it, and one without is revoked (document 02, 4)
+    ∷ plain (data-at 0x20000000) (token 0x48002210 1) 2 4 0x0080B103 1 (register 2 (token 0x48002210 1) []) 2
+    ∷ plain (data-at 0x20000000) (token 0x40002210 1) 2 4 0x0080B103 1 (register 2 (token 0x40002210 0) []) 2
     ∷ []
