@@ -1,8 +1,9 @@
 //! What the machine comparison reached, counted for every cell that the papers make reachable:
 //! each instruction with each thing it can do, products and quotients of each pair of extremes,
-//! each failed fetch, words that are no instruction, each refusal alone and with each later one,
+//! each question of the load filter, each failed fetch, words that are no instruction, each refusal alone and with each later one,
 //! and runs.
 
+use crate::filter::{self, QUESTIONS};
 use crate::instructions::{BOUNDS, EXECUTE, FETCH_ACCESS, FETCH_MISALIGNED, ILLEGAL, SEAL, TAG};
 use crate::machines::second;
 use crate::refusals::reasons;
@@ -34,6 +35,8 @@ pub struct Coverage {
     rows: Vec<[u64; COLUMNS]>,
     /// Of each row, the pairs of extremes that it retired with.
     pairs: Vec<[u64; PAIRS]>,
+    /// What the load filter was asked.
+    filter: [u64; QUESTIONS],
     fetch: [u64; COLUMNS],
     unknown: [u64; OPCODES.len()],
     refused: [u64; 6],
@@ -93,6 +96,7 @@ impl Coverage {
         Coverage {
             rows: vec![[0; COLUMNS]; table.rows.len()],
             pairs: vec![[0; PAIRS]; table.rows.len()],
+            filter: [0; QUESTIONS],
             fetch: [0; COLUMNS],
             unknown: [0; OPCODES.len()],
             refused: [0; 6],
@@ -165,6 +169,11 @@ impl Coverage {
         if let Some(pair) = pair_of_extremes(before, word) {
             self.pairs[index][pair] += 1;
         }
+        if table.rows[index].aim == Aim::Load(8) {
+            if let Some(question) = filter::question(before, word) {
+                self.filter[question] += 1;
+            }
+        }
         if let Some(more) = retired_how(&table.rows[index], word, before, after) {
             counts[more.column()] += 1;
         }
@@ -191,6 +200,9 @@ impl Coverage {
             for (pair, &count) in counts.iter().enumerate() {
                 cells.push((format!("{} of {}", row.name, pair_name(pair)), count));
             }
+        }
+        for (question, &count) in self.filter.iter().enumerate() {
+            cells.push((filter::name(question), count));
         }
         for outcome in FETCH {
             cells.push((
@@ -246,6 +258,9 @@ impl Coverage {
         let mut text = String::new();
         for (row, counts) in table.rows.iter().zip(&self.rows) {
             let _ = writeln!(text, "{:28}{}", row.name, line(&row.outcomes, counts));
+        }
+        for (question, count) in self.filter.iter().enumerate() {
+            let _ = writeln!(text, "{}   {count}", filter::name(question));
         }
         let _ = writeln!(text, "{:28}{}", "fetch", line(&FETCH, &self.fetch));
         for (opcode, count) in OPCODES.iter().zip(&self.unknown) {
