@@ -3,7 +3,7 @@
 //
 // Document 01, house: tag, seal, LD, bounds, alignment in that order; then access. A tagged value
 // loses GL and LG for want of LG, SD and LM for want of LM, its tag for want of MC; then comes
-// revocation, which spares SE and US alone. An untagged value stays as it is.
+// revocation, which spares SE, US and U0 (document 02, 4). An untagged value stays as it is.
 
 #include "cheriot.inc"
 #include "handler.inc"
@@ -21,6 +21,9 @@
     li    x5, GL | U0
     candperm c9, c9, x5
     csc   c9, 24(c7)            // U0 alone
+    li    x5, GL
+    candperm c9, c9, x5
+    csc   c9, 32(c7)            // none of them
 
     // Without MC: the losses come first.
     li    x5, ~MC
@@ -38,6 +41,8 @@
     clc   c11, 16(c7)
     keep  c11
     clc   c11, 24(c7)
+    keep  c11
+    clc   c11, 32(c7)
     keep  c11
 
     object c12, data, 16
@@ -88,14 +93,15 @@ token:
 // expect: cap results = next 0x2800a040 0
 // expect: cap results+8 = next 0x7e00a040 0
 // expect: cap results+16 = next 0x2800a040 1
-// Code 0x27, then GL 0 0 U0 0 0, 0x24.
+// Code 0x27, then GL 0 0 U0 0 0, 0x24, then GL alone, 0x20.
 // expect: cap results+24 = token 0x4e0190c0 1
-// expect: cap results+32 = token 0x480190c0 0
-// expect: cap results+40 = 0xffffff80 0 0
-// expect: cap results+48 = 0x80 0 0
-// expect: cap results+56 = 0xffff8001 0 0
-// expect: cap results+64 = 0x8001 0 0
-// expect: cap results+72 = 0x80017f80 0 0
+// expect: cap results+32 = token 0x480190c0 1
+// expect: cap results+40 = token 0x400190c0 0
+// expect: cap results+48 = 0xffffff80 0 0
+// expect: cap results+56 = 0x80 0 0
+// expect: cap results+64 = 0xffff8001 0 0
+// expect: cap results+72 = 0x8001 0 0
+// expect: cap results+80 = 0x80017f80 0 0
 // expect: trapped = 6
 // c15, cause 2; c14, cause 3; c13, cause 18; c12, cause 1; misaligned; outside.
 // expect: word log = 28

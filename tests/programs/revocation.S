@@ -1,8 +1,8 @@
 // A heap with revocation: after an object is freed, and its revocation bits are set, a stale
 // capability to it dies when it is loaded.
 //
-// Document 01, house: revoked is what has neither SE nor US and a low bound in a granule whose bit is
-// set; the tag in memory stays, and so does what is in a register.
+// Document 01, house: revoked is what has none of SE, US and U0 (document 02, 4) and a low bound in a
+// granule whose bit is set; the tag in memory stays, and so does what is in a register.
 
 #include "cheriot.inc"
 #include "handler.inc"
@@ -14,6 +14,9 @@
     place x10, freed
     csetaddr c10, c3, x10       // a sealing capability that begins at the same number
     csetboundsimm c10, c10, 8
+    li    x5, GL | U0
+    candperm c14, c10, x5
+    csetboundsimm c14, c14, 1   // a token of one byte there
     object c11, before, 128     // begins before the object and reaches into it
     cincaddrimm c11, c11, 0x50
     li    x5, 77
@@ -23,6 +26,7 @@
     csc   c8, 16(c2)
     csc   c10, 24(c2)
     csc   c11, 32(c2)
+    csc   c14, 48(c2)
     clc   c12, 0(c2)            // before it is freed
 wait:
     beqz  x15, wait
@@ -32,6 +36,7 @@ wait:
     clc   c8, 16(c2)
     clc   c10, 24(c2)
     clc   c11, 32(c2)
+    clc   c12, 48(c2)
     lw    x1, 0(c13)
     lw    x14, 0(c7)
     csc   c13, 40(c2)           // stored again, it has no tag to lose
@@ -45,7 +50,7 @@ freed:
 other:
 
 // freed is 0x20000800: T 0x40, B 0. other is 0x20000840: T 0x80, B 0x40. before is 0x200007C0: T
-// 0x40, B 0x1C0. The sealing capability: T 8, B 0.
+// 0x40, B 0x1C0. The sealing capability: T 8, B 0. The token, code 0x24: T 1, B 0.
 // run: 60
 // expect: trapped = 0
 // expect: PCC = wait 0x5e3e0000 1
@@ -59,6 +64,7 @@ other:
 // expect: c9 = freed+0x20 0x7e008000 0
 // expect: c8 = other 0x7e010040 1
 // expect: c10 = freed 0x4e001000 1
+// expect: c12 = freed 0x48000200 1
 // Its address is in the freed object, its low bound is not.
 // expect: c11 = freed+0x10 0x7e0081c0 1
 // c13, cause 2.

@@ -1,7 +1,7 @@
 -- What a capability loses as it is loaded. Document 01, "Loading capabilities"; CHERIoT report, 9.4 (CLC). Assumes nothing.
 use mathlib.Core.Bool.{Bool, true, false, cond, not, _&&_, _||_}
 use Prim.Native.Nat.{ℕ, _-_, _^_}
-use Rattle.metadata.specs.Rights.{GL, LG, SD, LM, MC, US, SE, allRights, narrowWord}
+use Rattle.metadata.specs.Rights.{GL, LG, SD, LM, MC, US, SE, U0, allRights, narrowWord}
 use Rattle.capability.specs.Capability.{capability, grants, sealed, tagged}
 use Rattle.capability.specs.declared.Capability.{Capability}
 
@@ -29,6 +29,6 @@ loseTag a v = capability (v .address) (v .metadata) (cond (grants a MC) (v .tag)
 unfoldable pub loadedOf : (authority value : Capability) → Capability
 loadedOf a v = loseTag a (loseMutable a (loseGlobal a v))
 
--- the values that the revocation test is for: tagged, and with no right to seal or unseal
+-- the values that the revocation test is for: tagged, and with no right to seal or unseal nor the user's own (CLC's isSealingCap; document 02, 4)
 unfoldable pub revocable : Capability → Bool
-revocable v = tagged v && not (grants v SE || grants v US)
+revocable v = tagged v && not ((grants v SE || grants v US) || grants v U0)

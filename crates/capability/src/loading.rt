@@ -66,7 +66,7 @@ pub fn loaded(authority: Capability, value: Capability) -> Capability
     lose_tag(granted, lose_mutable(granted, lose_global(granted, value)))
 }
 
-// Whether the revocation test is for this value: it is tagged, and can neither seal nor unseal.
+// Whether the revocation test is for this value: it is tagged, can neither seal nor unseal, and has no U0.
 pub fn is_revocable(v: Capability) -> bool
     ensures { λ r. ⌜ r ≡ revocable v ⌝ }
 {
@@ -75,5 +75,6 @@ pub fn is_revocable(v: Capability) -> bool
         metadata::has(held, metadata::SE),
         metadata::has(held, metadata::US),
     );
-    choices::both(is_tagged(v), !seals)
+    let spared = choices::either(seals, metadata::has(held, metadata::U0));
+    choices::both(is_tagged(v), !spared)
 }

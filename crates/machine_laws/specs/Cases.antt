@@ -130,6 +130,10 @@ top-of-memory =
 abbrev small : (tag : ℕ) → Capability
 small t = capability 0x20000018 0x7E004010 t
 
+-- [0x20000010, 0x20000011), a token of one byte: GL and U0, or GL alone
+abbrev pub token : (metadata tag : ℕ) → Capability
+token m t = capability 0x20000010 m t
+
 -- LW c2, 0(c1) through an untagged c1: cause 2 of register 1
 unfoldable pub untagged-load : Case
 untagged-load = plain (integer 0x20000000) (integer 0) 0 0 0x0000A103 0 (trap (execute 0x20000000) 28 (1 * 32 + 2)) 0
@@ -177,4 +181,7 @@ cases =
     ∷ standing (capability 0x20000000 0x5E000400 1) (integer 0) (integer 0) 0 0 0x00000013 0 (trap (capability 0x20000000 0x5E000400 1) 28 (32 * 32 + 1)) 0
     ∷ standing (execute 0x2000003E) (integer 0) (integer 0) 0 0 0x00000013 0 (trap (execute 0x2000003E) 1 0x20000040) 0
     ∷ standing (execute 0x20000001) (integer 0) (integer 0) 0 0 0x00000001 0 (trap (execute 0x20000000) 0 0x20000001) 0
+    -- CLC c2, 8(c1) of a token in a revoked granule: U0 spares it, and one without is revoked (document 02, 4)
+    ∷ plain (data-at 0x20000000) (token 0x48002210 1) 2 4 0x0080B103 1 (register 2 (token 0x48002210 1) []) 2
+    ∷ plain (data-at 0x20000000) (token 0x40002210 1) 2 4 0x0080B103 1 (register 2 (token 0x40002210 0) []) 2
     ∷ []

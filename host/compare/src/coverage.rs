@@ -1,8 +1,9 @@
 //! What the machine comparison reached, counted for every cell that the papers make reachable:
 //! each instruction with each thing it can do, products and quotients of each pair of extremes,
-//! each failed fetch of a first half and of a second, words of both lengths that are no instruction,
-//! each refusal alone and with each later one, and runs.
+//! each question of the load filter, each failed fetch of a first half and of a second, words of both lengths that are no
+//! instruction, each refusal alone and with each later one, and runs.
 
+use crate::filter::{self, QUESTIONS};
 use crate::instructions::{BOUNDS, EXECUTE, FETCH_ACCESS, FETCH_MISALIGNED, ILLEGAL, SEAL, TAG};
 use crate::machines::second;
 use crate::refusals::reasons;
@@ -40,6 +41,8 @@ pub struct Coverage {
     rows: Vec<[u64; COLUMNS]>,
     /// Of each row, the pairs of extremes that it retired with.
     pairs: Vec<[u64; PAIRS]>,
+    /// What the load filter was asked.
+    filter: [u64; QUESTIONS],
     fetch: [u64; COLUMNS],
     /// Of a long word whose first half passed; apart from those whose second half would be at 2^32.
     second_half: [u64; COLUMNS],
@@ -122,6 +125,7 @@ impl Coverage {
         Coverage {
             rows: vec![[0; COLUMNS]; table.rows.len()],
             pairs: vec![[0; PAIRS]; table.rows.len()],
+            filter: [0; QUESTIONS],
             fetch: [0; COLUMNS],
             second_half: [0; COLUMNS],
             second_half_at_top: [0; COLUMNS],
@@ -209,6 +213,11 @@ impl Coverage {
         if let Some(pair) = pair_of_extremes(before, word) {
             self.pairs[index][pair] += 1;
         }
+        if table.rows[index].aim == Aim::Load(8) {
+            if let Some(question) = filter::question(before, word) {
+                self.filter[question] += 1;
+            }
+        }
         if let Some(more) = retired_how(&table.rows[index], word, before, after) {
             counts[more.column()] += 1;
         }
@@ -262,6 +271,9 @@ impl Coverage {
             for (pair, &count) in counts.iter().enumerate() {
                 cells.push((format!("{} of {}", row.name, pair_name(pair)), count));
             }
+        }
+        for (question, &count) in self.filter.iter().enumerate() {
+            cells.push((filter::name(question), count));
         }
         for (what, outcomes, counts) in self.fetches() {
             for &outcome in outcomes {
@@ -320,6 +332,9 @@ impl Coverage {
         let mut text = String::new();
         for (row, counts) in table.rows.iter().zip(&self.rows) {
             let _ = writeln!(text, "{:28}{}", row.name, line(&row.outcomes, counts));
+        }
+        for (question, count) in self.filter.iter().enumerate() {
+            let _ = writeln!(text, "{}   {count}", filter::name(question));
         }
         for (what, outcomes, counts) in self.fetches() {
             let _ = writeln!(text, "{what:28}{}", line(outcomes, counts));

@@ -13,6 +13,7 @@ pub mod cases;
 pub mod coverage;
 pub mod cuts;
 pub mod derivations;
+pub mod filter;
 pub mod halves;
 pub mod held;
 pub mod instructions;

@@ -175,6 +175,13 @@ impl State {
         }
     }
 
+    /// Whether the granule that holds an address is marked as revoked; outside memory there is no
+    /// bit.
+    pub fn revocation(&self, address: u32) -> Option<bool> {
+        let (byte, bit) = bit_of(self.offset(address, 1)?);
+        Some(self.revoked.get(byte)? & bit != 0)
+    }
+
     /// Sets the revocation bit of a granule in memory.
     pub fn revoke(&mut self, address: u32) {
         if let Some((byte, bit)) = self.offset(address, GRANULE).map(bit_of) {
@@ -205,6 +212,8 @@ mod tests {
         state.revoke(START + 127);
         state.revoke(START + 120);
         assert_eq!(state.revoked, [0, 0x80]);
+        let revoked = [119, 120, 127, 128].map(|offset| state.revocation(START + offset));
+        assert_eq!(revoked, [Some(false), Some(true), Some(true), None]);
     }
 
     #[test]

@@ -395,7 +395,8 @@ pub fn load_filter(
         loaded.metadata = narrowed(loaded.metadata, !(SD | LM));
     }
     let (low, _) = bounds(loaded.address, loaded.metadata);
-    let revocable = rights(loaded.metadata) & (SE | US) == 0;
+    // The report's CLC spares what can seal or unseal, and tokens (document 02, 4).
+    let revocable = rights(loaded.metadata) & (SE | US | U0) == 0;
     let stays = authority_rights & MC != 0 && !(revocable && revoked(low));
     loaded.tag = kept(loaded.tag, stays);
     loaded

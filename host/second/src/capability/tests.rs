@@ -574,10 +574,20 @@ fn load_filter_revocation() {
     let object = move_address(memory(0x100, 0x40), 0x120);
     assert_eq!(load_filter(object, all, |low| low == 0x100).tag, 0);
     assert_eq!(load_filter(object, all, |low| low == 0x120).tag, 1);
-    let sealing = tagged(0, SEALING_ROOT);
-    assert_eq!(load_filter(sealing, all, |_| true).tag, 1);
-    assert_eq!(load_filter(narrow(sealing, SE), all, |_| true).tag, 1);
-    assert_eq!(load_filter(narrow(sealing, US), all, |_| true).tag, 1);
-    // House: U0 alone does not protect, unlike the report's page.
-    assert_eq!(load_filter(narrow(sealing, U0), all, |_| true).tag, 0);
+}
+
+// CHERIoT report, CLC, and document 02, 4: SE, US and U0 spare a value, each alone and together;
+// GL alone does not. A token of one byte is such a value.
+#[test]
+fn load_filter_spares_sealing_and_tokens() {
+    let all = LD | MC | LG | LM;
+    let token = set_bounds(tagged(0x100, SEALING_ROOT), 1);
+    for kept in 0..8 {
+        let spares = [(SE, 1), (US, 2), (U0, 4)].map(|(right, bit)| right * (kept / bit % 2));
+        let value = narrow(token, GL | spares[0] | spares[1] | spares[2]);
+        assert_eq!(load_filter(value, all, |low| low == 0x101), value);
+        let revoked = load_filter(value, all, |low| low == 0x100);
+        assert_eq!(revoked.tag, u32::from(kept != 0), "{kept}");
+        assert_eq!(revoked.metadata, value.metadata);
+    }
 }

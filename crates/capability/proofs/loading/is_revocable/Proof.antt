@@ -6,11 +6,14 @@ use Rattle.capability.proofs.loading.is_revocable.Tie as tie
 returns : tie.Need-returns
 unfolding revocable
 returns c =
-    let at-seals = c .before .before in
+    let at-spared = c .before .before in
+    let at-seals = at-spared .before .before in
     let at-rights = at-seals .before .before .before in
     simp (
       c .both .ensures,
       c .before .is-tagged .ensures,
+      at-spared .either2 .ensures,
+      at-spared .before .has3 .ensures,
       at-seals .either .ensures,
       at-seals .before .has2 .ensures,
       at-seals .before .before .has .ensures,
@@ -21,6 +24,8 @@ pub is-revocable-spec : {M : Type 1} → statement M
 is-revocable-spec =
     tie.close
     (tie.spec
+    (λ c κs. search needs)
+    (λ c κs. search needs)
     (λ c κs. search needs)
     (λ c κs. search needs)
     (λ c κs. search needs)
