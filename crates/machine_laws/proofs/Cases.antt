@@ -12,7 +12,7 @@ use Rattle.instructions.specs.Decode.{loadOf, storeOf, aluOf, opImmOf, jalOf, w
 use Rattle.state.specs.Registers.{capabilityAt, integerAt, writeRegister}
 use Rattle.state.specs.Addresses.{legalized}
 use Rattle.state.specs.Status.{trapStatus}
-use Rattle.state.specs.Memory.{placeOf, capabilityIn, revokedAt}
+use Rattle.state.specs.Memory.{placeOf, capabilityIn, revocationAt}
 use Rattle.state.specs.Checks.{checked, accessCause}
 use Rattle.integer_instructions.specs.Integer as Integers
 use Rattle.memory_instructions.specs.Access.{loadAt, loadEffect, storeAt, storeEffect, revokedValue, filtered, loadCapabilityAt, loadCapabilityEffect}
@@ -21,7 +21,7 @@ use Rattle.jump_instructions.specs.Jumps.{linkOf, aligned, targetCause, jalEffe
 use Rattle.system_instructions.specs.System.{systemEffect}
 use Rattle.commit.specs.Commit.{advanced, trapped, jumped, stored, retagged, storedCapability, applyEffect}
 use Rattle.execution.specs.Step.{effectOf, fetchedAt, nextEffect, stepOf}
-use Rattle.machine.specs.Refusals.{goodMemory, goodTags, goodZero, goodWords, goodBits, refusalOf}
+use Rattle.machine.specs.Refusals.{goodMemory, goodWindow, goodTags, goodZero, goodWords, goodBits, refusalOf}
 use Rattle.capability.specs.Capability.{low}
 use Rattle.state.specs.Registers.{setCapability}
 use Rattle.commit.specs.Commit.{retires}
@@ -30,10 +30,10 @@ use Rattle.machine_laws.specs.Cases.{all, holds, found, before, cases, t
 
 pub cases-hold : T (all cases)
 unfolding all holds found before cases top-of-memory untagged-load environment-call stepAnswer stepAfter refusalOf goodMemory goodTags goodZero
-    goodWords goodBits stepOf nextEffect fetchedAt effectOf applyEffect retires setCapability writeRegister advanced trapped jumped stored
+    goodWords goodWindow goodBits stepOf nextEffect fetchedAt effectOf applyEffect retires setCapability writeRegister advanced trapped jumped stored
     retagged storedCapability systemEffect linkOf aligned targetCause jalEffect jumpEffect loadAt loadEffect storeAt storeEffect revokedValue
     filtered loadCapabilityAt loadCapabilityEffect storeCapabilityCheck storeCapabilityAt storeCapabilityEffect memoryEffect Integers.aluOf
-    Integers.integerEffect checked accessCause placeOf capabilityIn revokedAt capabilityAt integerAt trapStatus legalized loadOf storeOf aluOf
+    Integers.integerEffect checked accessCause placeOf capabilityIn revocationAt capabilityAt integerAt trapStatus legalized loadOf storeOf aluOf
     opImmOf jalOf wholeOf systemOf decodeOf immediateI immediateS immediateJ loseGlobal loseMutable loseTag loadedOf revocable withObjectType
     low high rights sealed tagged covers sameBounds moveOf exponentOf lowOf highOf lowAt highAt rightsOf permissionsOf typeOf scaleOf topOf
     baseOf withType signExtend leBytes setBytes bitAt withBit putBit

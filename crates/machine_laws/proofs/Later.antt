@@ -21,7 +21,7 @@ use Rattle.integer_instructions.specs.Integer as Integers
 use Rattle.state.specs.Lent.{State}
 use Rattle.commit.specs.Commit.{advanced, trapped, applyEffect}
 use Rattle.execution.specs.Step.{effectOf, fetchedAt, nextEffect, stepOf}
-use Rattle.machine.specs.Refusals.{goodMemory, goodTags, goodZero, goodWords, goodBits, refusalOf}
+use Rattle.machine.specs.Refusals.{goodMemory, goodWindow, goodTags, goodZero, goodWords, goodBits, refusalOf}
 use Rattle.machine.specs.Run.{stepAfter}
 use Rattle.machine_laws.specs.Cases.{boardIn, before, top-of-memory}
 use Rattle.machine_laws.specs.Steps.{stepsAfter}
@@ -40,7 +40,7 @@ record Computed : Type 0 where
 
 computed : Computed
 unfolding before top-of-memory stepAfter refusalOf goodMemory goodTags goodZero goodWords goodBits stepOf nextEffect fetchedAt effectOf applyEffect
-    setCapability writeRegister advanced trapped Integers.aluOf Integers.integerEffect checked accessCause placeOf capabilityAt integerAt trapStatus
+    goodWindow setCapability writeRegister advanced trapped Integers.aluOf Integers.integerEffect checked accessCause placeOf capabilityAt integerAt trapStatus
     legalized aluOf opImmOf decodeOf immediateI low high rights sealed tagged covers sameBounds moveOf exponentOf lowOf highOf lowAt highAt rightsOf
     permissionsOf typeOf scaleOf topOf baseOf signExtend leBytes setBytes withBit
 computed = record { second-pcc = refl; third-pcc = refl; third-stays = refl }
