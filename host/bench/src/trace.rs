@@ -1,6 +1,8 @@
-//! A step on one line: where, the word, and what it changed.
+//! A step on one line: where, the word, and what it changed; of a load of a tagged capability also
+//! what the revocation bits said of its low bound.
 
-use crate::capability_text::{is_integer, region};
+use crate::capability_text::{is_integer, region, revocation_words};
+use crate::probe;
 use crate::proved::{bounds, Counts};
 use crate::trap::Trap;
 use lent::{place_name, Capability, State, CAPABILITIES, CONTROL, MSTATUS, PCC};
@@ -12,7 +14,10 @@ pub fn line(number: u64, before: &State, after: &State, made: Counts) -> String 
         let trap = Trap::of_step(before, after);
         (trap.word, vec![format!("trap: {}", trap.cause)])
     } else {
-        (before.word(pcc.address), changes(before, after))
+        let word = before.word(pcc.address);
+        let mut changes = changes(before, after);
+        changes.extend(word.and_then(|word| filtered(word, before, after)));
+        (word, changes)
     };
     let word = word.map_or("--------".into(), |word| format!("{word:08x}"));
     let text = format!(
@@ -44,6 +49,23 @@ fn changes(before: &State, after: &State) -> Vec<String> {
         changes.push(format!("PCC := {}", shown(new)));
     }
     changes
+}
+
+/// CLC's opcode and funct3.
+const CLC: u32 = 3 << 12 | 0x03;
+
+/// What the load filter asked, where the step was a CLC of a tagged capability.
+fn filtered(word: u32, before: &State, after: &State) -> Option<String> {
+    let [rd, rs1] = [7, 15].map(|place| (word >> place & 15) as usize);
+    if word & 0x707F != CLC || rd == 0 {
+        return None;
+    }
+    let address = probe::access(word, before.capability(rs1).address)?;
+    let low = bounds(after.capability(rd)).low;
+    let said = before
+        .tagged(address.into())
+        .then(|| probe::revocation(before, low))?;
+    Some(format!("low bound {}", revocation_words(said)))
 }
 
 fn shown(value: Capability) -> String {
