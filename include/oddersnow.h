@@ -60,25 +60,29 @@ uint32_t oddersnow_calls(uint32_t address, uint32_t metadata, uint32_t tag,
  *   regs     66 words: the capabilities c0 to c15, PCC, MTCC, MTDC, MScratchC and MEPCC, each as address,
  *            metadata and tag (0 or 1), then mstatus, mcause and mtval
  *   start    the address of mem[0], a multiple of 8
- *   mem      64 to 65,536 bytes, a multiple of 64, ending at 2^32 at the most
+ *   mem      64 to 1,048,576 bytes, a multiple of 64, ending at 2^32 at the most
  *   tags     mem_len / 64 bytes: bit i % 8 of byte i / 8 is the tag of the 8 bytes from mem[8 * i] on
- *   revoked  mem_len / 64 bytes, in the same order: the revocation bits, which nothing changes
+ *   window   the part of mem that has revocation bits: window_size bytes from mem[window_start] on, both
+ *            multiples of 64, inside mem; it may be empty, also at mem's end
+ *   revoked  window_size / 64 bytes, ordered as the tags: the window's revocation bits, which nothing changes
  *
  * The answer is number * 2^48 + trapped * 2^24 + retired, with the counts of the steps that trapped and of
  * those that retired; oddersnow_number and the two below take it apart. The number is
  *
  *   1  regs_len is not 66                   4  a tag word is above 1, or c0 is not all zero
- *   2  start or mem_len breaks the limits   5  a run asks for more than 1,000,000 steps
- *   3  tags_len or revoked_len is not mem_len / 64
+ *   2  start, mem_len or the window breaks  5  a run asks for more than 1,000,000 steps
+ *      its limits
+ *   3  tags_len is not mem_len / 64, or revoked_len is not window_size / 64
  *
  * and the lowest wins. Where it is not 0, nothing is changed and both counts are 0.
  */
 uint64_t oddersnow_step(uint32_t *regs, size_t regs_len, uint32_t start,
                         uint8_t *mem, size_t mem_len, uint8_t *tags, size_t tags_len,
-                        const uint8_t *revoked, size_t revoked_len);
+                        uint32_t window_start, uint32_t window_size, const uint8_t *revoked, size_t revoked_len);
 uint64_t oddersnow_run(uint32_t *regs, size_t regs_len, uint32_t start,
                        uint8_t *mem, size_t mem_len, uint8_t *tags, size_t tags_len,
-                       const uint8_t *revoked, size_t revoked_len, uint32_t steps);
+                       uint32_t window_start, uint32_t window_size, const uint8_t *revoked, size_t revoked_len,
+                       uint32_t steps);
 
 static inline uint32_t oddersnow_number(uint64_t answer) { return (uint32_t)(answer >> 48); }
 static inline uint32_t oddersnow_trapped(uint64_t answer) { return (uint32_t)(answer >> 24) & 0xffffff; }

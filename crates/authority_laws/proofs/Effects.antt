@@ -58,7 +58,7 @@ pub filtered-from : (authority value : Capability) (m : Lent) → From value (fi
 unfolding filtered
 filtered-from authority value m =
     let v = loadedOf authority value in
-    from-both {b = v} (loaded-from authority value) (keep-from (not (revokedValue (m .board) (length (m .mem)) (m .revoked) v)) v)
+    from-both {b = v} (loaded-from authority value) (keep-from (not (revokedValue (m .board) (m .revoked) v)) v)
 
 -- PCC at another address and of another type: a link, whatever the instruction's bytes and the link's type
 pub link-from : (bytes : ℕ) (pcc : Capability) (mstatus : ℕ) → From pcc (linkOf bytes pcc mstatus)

@@ -17,7 +17,7 @@ use Rattle.instructions.specs.Fields.{immediateI, immediateS}
 use Rattle.instructions.specs.Decode.{loadOf, storeOf, capabilityOf, decodeOf}
 use Rattle.state.specs.Registers.{capabilityAt, integerAt, setCapability, writeRegister}
 use Rattle.state.specs.Lent.{State}
-use Rattle.state.specs.Memory.{placeOf, capabilityIn, revokedAt, granuleBytes}
+use Rattle.state.specs.Memory.{placeOf, capabilityIn, revocationAt, granuleBytes}
 use Rattle.state.specs.Checks.{checked, accessCause}
 use Rattle.memory_instructions.specs.Access.{revokedValue, filtered, loadCapabilityAt, loadCapabilityEffect}
 use Rattle.memory_instructions.specs.Access.{storeCapabilityCheck, storeCapabilityAt, storeCapabilityEffect, memoryEffect}
@@ -25,7 +25,7 @@ use Rattle.capability_instructions.specs.Derivation.{equalExact, capabilityEffe
 use Rattle.commit.specs.Commit.{advanced, retagged, storedCapability, applyEffect, retires}
 use Rattle.fetch.specs.Fetch.{secondOf, standsOf, fetchedAt, fetchOf}
 use Rattle.execution.specs.Step.{effectOf, instructionIn, wordIn, lengthIn, trapOr, effectIn, stepOf}
-use Rattle.machine.specs.Refusals.{goodMemory, goodTags, goodZero, goodWords, goodBits, refusalOf}
+use Rattle.machine.specs.Refusals.{goodMemory, goodWindow, goodTags, goodZero, goodWords, goodBits, refusalOf}
 use Rattle.machine.specs.Run.{oneMore, iterate, runAfter}
 use Rattle.authority_laws.specs.Gain.{in-register, in-granule, Held, Start, Derived}
 use Rattle.authority_laws.specs.Worked.{board, revoked, kept, piece, worked}
@@ -39,7 +39,7 @@ unfolding ifTagged below worked setCapability setBytes leBytes bitAt capabilityA
 worked-starts = tested-start worked (tt, tt) tt tt tt
 
 pub worked-runs : refusalOf 3 board revoked worked ≡ 0
-unfolding worked setCapability setBytes refusalOf goodMemory goodTags goodZero goodWords goodBits
+unfolding worked setCapability setBytes refusalOf goodMemory goodTags goodZero goodWords goodWindow goodBits
 worked-runs = refl
 
 -- a tagged capability stands in its memory
@@ -63,12 +63,12 @@ record Computed : Type 0 where
   size-is : length (ended .mem) ≡ 64
 
 computed : Computed
-unfolding worked runAfter iterate oneMore refusalOf goodMemory goodTags goodZero goodWords goodBits stepOf effectIn trapOr lengthIn instructionIn
-    wordIn fetchOf fetchedAt standsOf secondOf effectOf applyEffect retires setCapability writeRegister advanced retagged storedCapability
-    revokedValue filtered loadCapabilityAt loadCapabilityEffect storeCapabilityCheck storeCapabilityAt storeCapabilityEffect memoryEffect
-    capabilityEffect checked accessCause placeOf capabilityIn revokedAt capabilityAt integerAt loadOf storeOf capabilityOf decodeOf immediateI
-    immediateS loseGlobal loseMutable loseTag loadedOf revocable low high rights sealed tagged covers sameBounds moveOf setBoundsOf floorAt ceilAt
-    fitsAt firstFit cutExponent scaleField cutBase cutTop withCut withBounds exponentOf lowOf highOf lowAt highAt rightsOf permissionsOf typeOf
+unfolding worked runAfter iterate oneMore refusalOf goodMemory goodTags goodZero goodWords goodWindow goodBits stepOf effectIn trapOr lengthIn
+    instructionIn wordIn fetchOf fetchedAt standsOf secondOf effectOf applyEffect retires setCapability writeRegister advanced retagged
+    storedCapability revokedValue filtered loadCapabilityAt loadCapabilityEffect storeCapabilityCheck storeCapabilityAt storeCapabilityEffect
+    memoryEffect capabilityEffect checked accessCause placeOf capabilityIn revocationAt capabilityAt integerAt loadOf storeOf capabilityOf decodeOf
+    immediateI immediateS loseGlobal loseMutable loseTag loadedOf revocable low high rights sealed tagged covers sameBounds moveOf setBoundsOf floorAt
+    ceilAt fitsAt firstFit cutExponent scaleField cutBase cutTop withCut withBounds exponentOf lowOf highOf lowAt highAt rightsOf permissionsOf typeOf
     scaleOf topOf baseOf signExtend leBytes setBytes bitAt withBit putBit
 computed = record { in-c3 = refl; in-memory = refl; size-is = refl }
 

@@ -13,7 +13,7 @@ use Rattle.state.specs.declared.Board.{Board}
 
 -- 64 bytes of memory from 0x20000000, nothing revoked
 abbrev pub board : Board
-board = record { start = 0x20000000 }
+board = record { start = 0x20000000; window = record { start = 0; size = 64 } }
 
 abbrev pub revoked : List ℕ
 revoked = 0 ∷ []

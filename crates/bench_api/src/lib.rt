@@ -7,6 +7,7 @@ ghost use Rattle.bench_api.specs.Packing.{packed, boardOf, StepPacked, R
 use machine::RunAnswer;
 use machine::StepAnswer;
 use state::Board;
+use state::Window;
 
 // The places of a number, 2^48, and of the trapped steps, 2^24, in an answer.
 pub const NUMBER_PLACE: u64 = 0x1_0000_0000_0000;
@@ -94,12 +95,20 @@ pub extern "C" fn oddersnow_step(
     start: u32,
     mem: &mut [u8],
     tags: &mut [u8],
+    window_start: u32,
+    window_size: u32,
     revoked: &[u8],
 ) -> u64
-    ensures { λ r. ⌜ StepPacked (boardOf start) (now (revoked .entry)) (state (now (regs .entry)) (now (mem .entry)) (now (tags .entry)))
+    ensures { λ r. ⌜ StepPacked (boardOf start «window_start» «window_size») (now (revoked .entry)) (state (now (regs .entry)) (now (mem .entry)) (now (tags .entry)))
         (state (now (regs .exit)) (now (mem .exit)) (now (tags .exit))) r ⌝ }
 {
-    let board = Board { start };
+    let board = Board {
+        start,
+        window: Window {
+            start: window_start,
+            size: window_size,
+        },
+    };
     let a = machine::step(regs, board, mem, tags, revoked);
     pack(step_number(a), step_trapped(a), step_retired(a))
 }
@@ -111,13 +120,21 @@ pub extern "C" fn oddersnow_run(
     start: u32,
     mem: &mut [u8],
     tags: &mut [u8],
+    window_start: u32,
+    window_size: u32,
     revoked: &[u8],
     steps: u32,
 ) -> u64
-    ensures { λ r. ⌜ RunPacked steps (boardOf start) (now (revoked .entry)) (state (now (regs .entry)) (now (mem .entry)) (now (tags .entry)))
+    ensures { λ r. ⌜ RunPacked steps (boardOf start «window_start» «window_size») (now (revoked .entry)) (state (now (regs .entry)) (now (mem .entry)) (now (tags .entry)))
         (state (now (regs .exit)) (now (mem .exit)) (now (tags .exit))) r ⌝ }
 {
-    let board = Board { start };
+    let board = Board {
+        start,
+        window: Window {
+            start: window_start,
+            size: window_size,
+        },
+    };
     let a = machine::run(regs, board, mem, tags, revoked, steps);
     pack(run_number(a), run_trapped(a), run_retired(a))
 }

@@ -13,7 +13,7 @@ use Rattle.state.specs.Checks.{failIf}
 use Rattle.state.specs.declared.Board.{Board}
 use Rattle.commit.specs.Commit.{retires}
 use Rattle.execution.specs.Step.{effectAt, stepOf}
-use Rattle.machine.specs.Refusals.{mostSteps, goodMemory, goodBits, goodTags, goodWords, refusalOf}
+use Rattle.machine.specs.Refusals.{mostSteps, goodMemory, goodWindow, goodBits, goodTags, goodWords, refusalOf}
 use Rattle.machine.specs.Run.{Ran, ran, oneMore, iterate, ranFrom, stepRefusal, stepAnswer, stepAfter, StepPromise, runAnswer, runAfter, RunPromise}
 use Rattle.machine.specs.Run.{stepNumber, stepRetired, stepTrapped, runNumber, runRetired, runTrapped, retiredBy, trappedBy}
 use Rattle.machine.specs.declared.StepAnswer.{StepAnswer}
@@ -71,11 +71,35 @@ module _ (board : Board) (revoked : List ℕ) (s : State) where
           tags-are = rw f (ap (λ x. x .tags) left);
         }
 
-    pub step-retired : b ≡ true → StepPromise board revoked s after StepAnswer.Retired
+    step-retired : b ≡ true → StepPromise board revoked s after StepAnswer.Retired
     step-retired t = step-done StepAnswer.Retired (rw t) refl (rw t) (rw t)
 
-    pub step-trapped : b ≡ false → StepPromise board revoked s after StepAnswer.Trapped
+    step-trapped : b ≡ false → StepPromise board revoked s after StepAnswer.Trapped
     step-trapped t = step-done StepAnswer.Trapped (rw t) refl (rw t) (rw t)
+
+  -- of one turn of a run: it retires where it counts one retired
+  module _ (after : State) (r t : ℕ) (good : 0 ≡ stepRefusal board revoked s) (turned : ran after r t ≡ iterate 1 board revoked (ran s 0 0)) where
+    one-left : after ≡ stepOf board revoked s
+    unfolding iterate oneMore
+    one-left = ap (λ x. x .at) turned
+
+    one-counted : r ≡ cond (retires (effectAt board revoked s)) 1 0
+    unfolding iterate oneMore
+    one-counted = omega (arith, ap (λ x. x .retired) turned)
+
+    pub one-retired : r ≡ 1 → StepPromise board revoked s after StepAnswer.Retired
+    one-retired h = go (retires (effectAt board revoked s)) refl
+      where
+        go : (b : Bool) → retires (effectAt board revoked s) ≡ b → StepPromise board revoked s after StepAnswer.Retired
+        go true q = step-retired after true good (sym q) one-left refl
+        go false q = absurd (omega (arith, h, one-counted ∙ ap (λ b. cond b 1 0) q))
+
+    pub one-trapped : (r ≡ 1 → ⊥) → StepPromise board revoked s after StepAnswer.Trapped
+    one-trapped h = go (retires (effectAt board revoked s)) refl
+      where
+        go : (b : Bool) → retires (effectAt board revoked s) ≡ b → StepPromise board revoked s after StepAnswer.Trapped
+        go true q = absurd (h (one-counted ∙ ap (λ b. cond b 1 0) q))
+        go false q = step-trapped after false good (sym q) one-left refl
 
 -- ---- the promise of a run, by how it ends
 
@@ -126,24 +150,26 @@ module _ (n : ℕ) (board : Board) (revoked : List ℕ) (s : State) where
   refusal-le =
       small (not (eqb (length (s .regs)) registerWords)) 1 _ (omega arith)
       (small (not (goodMemory board (length (s .mem)))) 2 _ (omega arith)
-      (small (not (goodBits revoked s)) 3 _ (omega arith)
+      (small (not (goodWindow board (length (s .mem)))) 2 _ (omega arith)
+      (small (not (goodBits board revoked s)) 3 _ (omega arith)
       (small (not (goodWords (s .regs))) 4 _ (omega arith)
-      (small (ltb mostSteps n) 5 0 (omega arith) (omega arith)))))
+      (small (ltb mostSteps n) 5 0 (omega arith) (omega arith))))))
 
   -- a run that is not refused asks no more than is allowed
   pub few-steps : refusalOf n board revoked s ≡ 0 → n ≤ mostSteps
   unfolding refusalOf
   few-steps h =
-      go (not (eqb (length (s .regs)) registerWords)) (not (goodMemory board (length (s .mem)))) (not (goodBits revoked s)) (not (goodWords (s .regs)))
-      (ltb mostSteps n) refl h
+      go (not (eqb (length (s .regs)) registerWords)) (not (goodMemory board (length (s .mem)))) (not (goodWindow board (length (s .mem))))
+      (not (goodBits board revoked s)) (not (goodWords (s .regs))) (ltb mostSteps n) refl h
     where
-      go : (a b c d e : Bool) → ltb mostSteps n ≡ e → failIf a 1 (failIf b 2 (failIf c 3 (failIf d 4 (failIf e 5 0)))) ≡ 0 → n ≤ mostSteps
-      go false false false false false q z = ltb-false mostSteps n q
-      go false false false false true q z = absurd (omega arith)
-      go false false false true e q z = absurd (omega arith)
-      go false false true d e q z = absurd (omega arith)
-      go false true c d e q z = absurd (omega arith)
-      go true b c d e q z = absurd (omega arith)
+      go : (a b w c d e : Bool) → ltb mostSteps n ≡ e → failIf a 1 (failIf b 2 (failIf w 2 (failIf c 3 (failIf d 4 (failIf e 5 0))))) ≡ 0 → n ≤ mostSteps
+      go false false false false false false q z = ltb-false mostSteps n q
+      go false false false false false true q z = absurd (omega arith)
+      go false false false false true e q z = absurd (omega arith)
+      go false false false true d e q z = absurd (omega arith)
+      go false false true c d e q z = absurd (omega arith)
+      go false true w c d e q z = absurd (omega arith)
+      go true b w c d e q z = absurd (omega arith)
 
 -- each step is counted once
 pub counts-le : (n : ℕ) (board : Board) (revoked : List ℕ) (r : Ran)

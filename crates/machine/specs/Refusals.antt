@@ -1,4 +1,5 @@
--- The refusals of a step and a run, in the order of their numbers: the lowest wins. Document 01, "What is lent" and "Answers". Assumes nothing.
+-- The refusals of a step and a run, in the order of their numbers: the lowest wins. Document 01, "What is lent" and "Answers"; document 02, 5.
+-- Assumes nothing.
 use mathlib.Core.Bool.{Bool, true, not, _&&_}
 use mathlib.Core.List.{List}
 use Prim.Native.Nat.{ℕ, zero, suc, _+_, _*_, _/_, _%_, _^_}
@@ -10,12 +11,12 @@ use Rattle.state.specs.Memory.{granuleBytes}
 use Rattle.state.specs.Checks.{failIf}
 use Rattle.state.specs.declared.Board.{Board}
 
--- the bytes of memory that one byte of tags is for: the least memory, and what its size is a multiple of
+-- the bytes of memory that one byte of tags or revocation bits is for: the least memory, and what its size and the window's ends are multiples of
 abbrev pub blockBytes : ℕ
 blockBytes = granuleBytes * 8
 
 abbrev pub mostMemory : ℕ
-mostMemory = 65536
+mostMemory = 1048576
 
 -- the most steps of a run
 abbrev pub mostSteps : ℕ
@@ -27,9 +28,15 @@ goodMemory board size =
     leb blockBytes size
     && (leb size mostMemory && (eqb (size % blockBytes) 0 && (eqb (board .start % granuleBytes) 0 && leb (board .start + size) (2 ^ 32))))
 
--- a bit of tags and a revocation bit for each granule
-unfoldable pub goodBits : (revoked : List ℕ) → State → Bool
-goodBits revoked s = eqb (length (s .tags)) (length (s .mem) / blockBytes) && eqb (length revoked) (length (s .mem) / blockBytes)
+-- the window's start, counted from memory's, and its size: both in whole blocks, inside memory; it may be empty, also at memory's end
+unfoldable pub goodWindow : Board → (size : ℕ) → Bool
+goodWindow board size =
+    eqb (board .window .start % blockBytes) 0
+    && (eqb (board .window .size % blockBytes) 0 && leb (board .window .start + board .window .size) size)
+
+-- a bit of tags for each granule of memory and a revocation bit for each of the window
+unfoldable pub goodBits : Board → (revoked : List ℕ) → State → Bool
+goodBits board revoked s = eqb (length (s .tags)) (length (s .mem) / blockBytes) && eqb (length revoked) (board .window .size / blockBytes)
 
 -- the tag words of n capabilities from capability i on are 0 or 1
 unfoldable pub goodTags : (n : ℕ) → (regs : List ℕ) → (i : ℕ) → Bool
@@ -48,7 +55,8 @@ unfoldable pub refusalOf : (n : ℕ) → Board → (revoked : List ℕ) → Stat
 refusalOf n board revoked s =
     failIf (not (eqb (length (s .regs)) registerWords)) 1
     (failIf (not (goodMemory board (length (s .mem)))) 2
-    (failIf (not (goodBits revoked s)) 3
+    (failIf (not (goodWindow board (length (s .mem)))) 2
+    (failIf (not (goodBits board revoked s)) 3
     (failIf (not (goodWords (s .regs))) 4
     (failIf (ltb mostSteps n) 5
-    0))))
+    0)))))

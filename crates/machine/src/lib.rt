@@ -11,7 +11,7 @@ ghost use lib.Dec.{eqb};
 ghost use Rattle.state.specs.Layout.{capabilityCount};
 ghost use Rattle.state.specs.Lent.{state};
 ghost use Rattle.state.specs.Checks.{failIf};
-ghost use Rattle.machine.specs.Refusals.{blockBytes, goodMemory, goodTags, goodZero, goodWords, refusalOf};
+ghost use Rattle.machine.specs.Refusals.{blockBytes, goodMemory, goodWindow, goodTags, goodZero, goodWords, refusalOf};
 ghost use Rattle.machine.specs.Run.{StepPromise, ran, iterate, RunPromise};
 
 // The answer to a step.
@@ -27,10 +27,10 @@ pub enum RunAnswer {
     Refused(u32),
 }
 
-// The bytes of memory that one byte of tags is for, the most memory, and the most steps of a run.
+// The bytes of memory that one byte of tags or revocation bits is for, the most memory, and the most steps of a run.
 pub const BLOCK_BYTES: usize = 64;
 
-pub const MOST_MEMORY: usize = 65536;
+pub const MOST_MEMORY: usize = 0x10_0000;
 
 pub const MOST_STEPS: u32 = 1000000;
 
@@ -59,14 +59,29 @@ fn good_memory(board: Board, size: usize) -> bool
     start as usize + size <= SPACE
 }
 
-// Whether the tag and revocation buffers are as long as memory asks.
-fn good_lengths(size: usize, tags: usize, revoked: usize) -> bool
-    ensures { λ r. ⌜ r ≡ (eqb tags (size / blockBytes) && eqb revoked (size / blockBytes)) ⌝ }
+// The limits of the window, which may be empty, also at memory's end.
+fn good_window(board: Board, size: usize) -> bool
+    ensures { λ r. ⌜ r ≡ goodWindow board size ⌝ }
+{
+    let from = board.window.start as usize;
+    let room = board.window.size as usize;
+    if from % BLOCK_BYTES != 0 {
+        return false;
+    }
+    if room % BLOCK_BYTES != 0 {
+        return false;
+    }
+    from + room <= size
+}
+
+// Whether the tag buffer is as long as memory asks, and the revocation buffer as the window does.
+fn good_lengths(size: usize, window: usize, tags: usize, revoked: usize) -> bool
+    ensures { λ r. ⌜ r ≡ (eqb tags (size / blockBytes) && eqb revoked (window / blockBytes)) ⌝ }
 {
     if tags != size / BLOCK_BYTES {
         return false;
     }
-    revoked == size / BLOCK_BYTES
+    revoked == window / BLOCK_BYTES
 }
 
 // Whether each tag word of the register file is 0 or 1.
@@ -108,13 +123,24 @@ fn good_words(regs: &[u32]) -> bool
 }
 
 // The number of the first test that fails, or 0.
-fn first_refusal(registers: bool, memory: bool, bits: bool, held: bool, many: bool) -> u32
-    ensures { λ r. ⌜ r ≡ failIf (not registers) 1 (failIf (not memory) 2 (failIf (not bits) 3 (failIf (not held) 4 (failIf many 5 0)))) ⌝ }
+fn first_refusal(
+    registers: bool,
+    memory: bool,
+    window: bool,
+    bits: bool,
+    held: bool,
+    many: bool,
+) -> u32
+    ensures { λ r. ⌜ r ≡ failIf (not registers) 1 (failIf (not memory) 2 (failIf (not window) 2 (failIf (not bits) 3 (failIf (not held) 4
+        (failIf many 5 0))))) ⌝ }
 {
     if !registers {
         return 1;
     }
     if !memory {
+        return 2;
+    }
+    if !window {
         return 2;
     }
     if !bits {
@@ -136,7 +162,13 @@ pub fn refusal(n: u32, regs: &[u32], board: Board, mem: &[u8], tags: &[u8], revo
     first_refusal(
         regs.len() == REGISTER_WORDS,
         good_memory(board, mem.len()),
-        good_lengths(mem.len(), tags.len(), revoked.len()),
+        good_window(board, mem.len()),
+        good_lengths(
+            mem.len(),
+            board.window.size as usize,
+            tags.len(),
+            revoked.len(),
+        ),
         good_words(regs),
         MOST_STEPS < n,
     )
@@ -159,7 +191,9 @@ pub fn step(
     if no != 0 {
         return StepAnswer::Refused(no);
     }
-    if execution::take_step(regs, board, mem, tags, revoked) {
+    // By the run's loop: with one caller a step is compiled into it.
+    let counts = take_steps(regs, board, mem, tags, revoked, 1);
+    if counts.retired == 1 {
         StepAnswer::Retired
     } else {
         StepAnswer::Trapped

@@ -13,7 +13,7 @@ use Rattle.capability_instructions.specs.Derivation as Derivations
 use Rattle.state.specs.Registers.{capabilityAt, integerAt, writeRegister}
 use Rattle.state.specs.Addresses.{legalized}
 use Rattle.state.specs.Status.{trapStatus}
-use Rattle.state.specs.Memory.{placeOf, capabilityIn, revokedAt}
+use Rattle.state.specs.Memory.{placeOf, capabilityIn, revocationAt}
 use Rattle.state.specs.Checks.{checked, accessCause}
 use Rattle.integer_instructions.specs.Integer as Integers
 use Rattle.memory_instructions.specs.Access.{loadAt, loadEffect, storeAt, storeEffect, revokedValue, filtered, loadCapabilityAt, loadCapabilityEffect}
@@ -26,7 +26,7 @@ use Rattle.short_forms.specs.Forms.{addi4spnOf, quadrant0, twoOf, arithmeticOf,
 use Rattle.short_forms.specs.Long.{wordR, wordI, wordJ, unlessHint, longOf, longForm}
 use Rattle.fetch.specs.Fetch.{shutOut, secondOf, standsOf, fetchedAt, fetchOf}
 use Rattle.execution.specs.Step.{effectOf, instructionIn, wordIn, lengthIn, trapOr, effectIn, stepOf}
-use Rattle.machine.specs.Refusals.{goodMemory, goodTags, goodZero, goodWords, goodBits, refusalOf}
+use Rattle.machine.specs.Refusals.{goodMemory, goodWindow, goodTags, goodZero, goodWords, goodBits, refusalOf}
 use Rattle.capability.specs.Capability.{low}
 use Rattle.state.specs.Registers.{setCapability}
 use Rattle.commit.specs.Commit.{retires}
@@ -35,13 +35,13 @@ use Rattle.machine_laws.specs.Cases.{all, holds, found, before, cases, t
 
 pub cases-hold : T (all cases)
 unfolding all holds found before cases top-of-memory untagged-load environment-call stepAnswer stepAfter refusalOf goodMemory goodTags goodZero
-    goodWords goodBits stepOf effectIn trapOr lengthIn instructionIn wordIn fetchOf fetchedAt standsOf secondOf shutOut shortOf quadrant0 quadrant1
-    quadrant2 twoOf arithmeticOf unlessHint immediateWide jalrCause jumpStatus jalrEffect jalrOf isSentry addi4spnOf movesOf registersOf immediateSix
-    offsetJump longForm longOf wordR wordI wordJ capabilityOf op32Of opByOf opOf Derivations.capabilityEffect effectOf applyEffect retires
-    setCapability writeRegister advanced trapped jumped stored retagged storedCapability systemEffect linkOf aligned targetCause jalEffect jumpEffect
-    loadAt loadEffect storeAt storeEffect revokedValue filtered loadCapabilityAt loadCapabilityEffect storeCapabilityCheck storeCapabilityAt
-    storeCapabilityEffect memoryEffect Integers.aluOf Integers.integerEffect checked accessCause placeOf capabilityIn revokedAt capabilityAt integerAt
-    trapStatus legalized loadOf storeOf aluOf opImmOf jalOf wholeOf systemOf decodeOf immediateI immediateS immediateJ loseGlobal loseMutable loseTag
-    loadedOf revocable withObjectType low high rights sealed tagged covers sameBounds moveOf exponentOf lowOf highOf lowAt highAt rightsOf
-    permissionsOf typeOf scaleOf topOf baseOf withType signExtend leBytes setBytes bitAt withBit putBit
+    goodWords goodWindow goodBits stepOf effectIn trapOr lengthIn instructionIn wordIn fetchOf fetchedAt standsOf secondOf shutOut shortOf quadrant0
+    quadrant1 quadrant2 twoOf arithmeticOf unlessHint immediateWide jalrCause jumpStatus jalrEffect jalrOf isSentry addi4spnOf movesOf registersOf
+    immediateSix offsetJump longForm longOf wordR wordI wordJ capabilityOf op32Of opByOf opOf Derivations.capabilityEffect effectOf applyEffect
+    retires setCapability writeRegister advanced trapped jumped stored retagged storedCapability systemEffect linkOf aligned targetCause jalEffect
+    jumpEffect loadAt loadEffect storeAt storeEffect revokedValue filtered loadCapabilityAt loadCapabilityEffect storeCapabilityCheck
+    storeCapabilityAt storeCapabilityEffect memoryEffect Integers.aluOf Integers.integerEffect checked accessCause placeOf capabilityIn revocationAt
+    capabilityAt integerAt trapStatus legalized loadOf storeOf aluOf opImmOf jalOf wholeOf systemOf decodeOf immediateI immediateS immediateJ
+    loseGlobal loseMutable loseTag loadedOf revocable withObjectType low high rights sealed tagged covers sameBounds moveOf exponentOf lowOf highOf
+    lowAt highAt rightsOf permissionsOf typeOf scaleOf topOf baseOf withType signExtend leBytes setBytes bitAt withBit putBit
 cases-hold = tt

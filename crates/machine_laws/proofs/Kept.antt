@@ -141,11 +141,8 @@ good-after board revoked s g =
     record {
       registers = l .same-registers ∙ g .registers;
       memory = rw (l .same-memory) (g .memory);
-      bits = record {
-        tag-bytes = rw (l .same-memory) (l .same-tags ∙ g .bits .tag-bytes);
-        revocation-bytes = rw (l .same-memory)
-            (g .bits .revocation-bytes);
-      };
+      window = rw (l .same-memory) (g .window);
+      bits = record { tag-bytes = rw (l .same-memory) (l .same-tags ∙ g .bits .tag-bytes); revocation-bytes = g .bits .revocation-bytes };
       words = record { tag-words = tags-stay board revoked s (g .words .tag-words); c0-words = c0-stays board revoked s (g .words .c0-words) };
     }
 

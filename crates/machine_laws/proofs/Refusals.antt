@@ -13,12 +13,12 @@ use Rattle.state.specs.Memory.{granuleBytes}
 use Rattle.state.specs.Checks.{failIf}
 use Rattle.state.specs.declared.Board.{Board}
 use Rattle.state.specs.Lent.{State}
-use Rattle.machine.specs.Refusals.{blockBytes, mostMemory, mostSteps, goodMemory, goodBits, goodTags, goodZero, goodWords, refusalOf}
+use Rattle.machine.specs.Refusals.{blockBytes, mostMemory, mostSteps, goodMemory, goodWindow, goodBits, goodTags, goodZero, goodWords, refusalOf}
 use Rattle.machine.specs.Run.{stepRefusal, stepAnswer, stepAfter, runAnswer, runAfter}
 use Rattle.machine.specs.declared.StepAnswer.the-variants.{Refused}
 use Rattle.machine.specs.declared.RunAnswer.the-variants as RunAnswer
-use Rattle.machine_laws.specs.Lent.{LentRegisters, LentMemory, LentBits, ZeroRegister, LentWords, GoodState, Refusal, none, bad-registers, bad-memory}
-use Rattle.machine_laws.specs.Lent.{bad-bits, bad-words, too-long}
+use Rattle.machine_laws.specs.Lent.{LentRegisters, LentMemory, LentWindow, LentBits, ZeroRegister, LentWords, GoodState, Refusal}
+use Rattle.machine_laws.specs.Lent.{none, bad-registers, bad-memory, bad-window, bad-bits, bad-words, too-long}
 
 -- ---- each test says what it means
 
@@ -39,7 +39,7 @@ failed true f n = absurd (n (f refl))
 failed false f n = refl
 
 module _ (board : Board) (size : ℕ) where
-  memory-is : goodMemory board size ≡ true → LentMemory board size
+  pub memory-is : goodMemory board size ≡ true → LentMemory board size
   unfolding goodMemory
   memory-is h =
       let a = both (leb blockBytes size) _ h in
@@ -60,14 +60,31 @@ module _ (board : Board) (size : ℕ) where
       made (le-leb blockBytes size (m .least)) (made (le-leb size mostMemory (m .most)) (made (eq-eqb (size % blockBytes) 0 (m .blocks))
       (made (eq-eqb (board .start % granuleBytes) 0 (m .start-aligned)) (le-leb (board .start + size) (2 ^ 32) (m .in-space)))))
 
-module _ (revoked : List ℕ) (s : State) where
-  bits-are : goodBits revoked s ≡ true → LentBits revoked s
+  window-is : goodWindow board size ≡ true → LentWindow board size
+  unfolding goodWindow
+  window-is h =
+      let a = both (eqb (board .window .start % blockBytes) 0) _ h in
+      let b = both (eqb (board .window .size % blockBytes) 0) _ (a .1) in
+      record {
+        start-blocks = eqb-true (board .window .start % blockBytes) 0 (a .0);
+        size-blocks = eqb-true (board .window .size % blockBytes) 0 (b .0);
+        in-memory = leb-true (board .window .start + board .window .size) size (b .1);
+      }
+
+  pub window-test : LentWindow board size → goodWindow board size ≡ true
+  unfolding goodWindow
+  window-test w =
+      made (eq-eqb (board .window .start % blockBytes) 0 (w .start-blocks)) (made (eq-eqb (board .window .size % blockBytes) 0 (w .size-blocks))
+      (le-leb (board .window .start + board .window .size) size (w .in-memory)))
+
+module _ (board : Board) (revoked : List ℕ) (s : State) where
+  bits-are : goodBits board revoked s ≡ true → LentBits board revoked s
   unfolding goodBits
   bits-are h =
       let a = both (eqb (length (s .tags)) (length (s .mem) / blockBytes)) _ h in
       record { tag-bytes = eqb-true _ _ (a .0); revocation-bytes = eqb-true _ _ (a .1) }
 
-  bits-test : LentBits revoked s → goodBits revoked s ≡ true
+  bits-test : LentBits board revoked s → goodBits board revoked s ≡ true
   unfolding goodBits
   bits-test b = made (eq-eqb _ _ (b .tag-bytes)) (eq-eqb _ _ (b .revocation-bytes))
 
@@ -130,25 +147,35 @@ module _ (board : Board) (revoked : List ℕ) (s : State) where
   pub refusal-is : (n : ℕ) → Refusal n board revoked s (refusalOf n board revoked s)
   unfolding refusalOf
   refusal-is n =
-      go (eqb (length (s .regs)) registerWords) refl (goodMemory board (length (s .mem))) refl (goodBits revoked s) refl (goodWords (s .regs)) refl
-      (ltb mostSteps n) refl
+      go (eqb (length (s .regs)) registerWords) refl (goodMemory board size) refl (goodWindow board size) refl (goodBits board revoked s) refl
+      (goodWords (s .regs)) refl (ltb mostSteps n) refl
     where
-      go : (a : Bool) → eqb (length (s .regs)) registerWords ≡ a → (b : Bool) → goodMemory board (length (s .mem)) ≡ b → (c : Bool) → goodBits revoked s ≡ c
-          → (d : Bool) → goodWords (s .regs) ≡ d → (e : Bool) → ltb mostSteps n ≡ e
-          → Refusal n board revoked s (failIf (not a) 1 (failIf (not b) 2 (failIf (not c) 3 (failIf (not d) 4 (failIf e 5 0)))))
-      go false p b q c r d t e u = bad-registers (fails _ registers-test p)
-      go true p false q c r d t e u = bad-memory (registers-are p) (fails _ (memory-test board (length (s .mem))) q)
-      go true p true q false r d t e u = bad-bits (registers-are p) (memory-is board (length (s .mem)) q) (fails _ (bits-test revoked s) r)
-      go true p true q true r false t e u =
-          bad-words (registers-are p) (memory-is board (length (s .mem)) q) (bits-are revoked s r) (fails _ (words-test (s .regs)) t)
-      go true p true q true r true t true u =
-          too-long
-          (record { registers = registers-are p; memory = memory-is board (length (s .mem)) q; bits = bits-are revoked s r; words = words-are (s .regs) t })
-          (ltb-true mostSteps n u)
-      go true p true q true r true t false u =
-          none
-          (record { registers = registers-are p; memory = memory-is board (length (s .mem)) q; bits = bits-are revoked s r; words = words-are (s .regs) t })
-          (ltb-false mostSteps n u)
+      size : ℕ
+      size = length (s .mem)
+
+      all-good : eqb (length (s .regs)) registerWords ≡ true → goodMemory board size ≡ true → goodWindow board size ≡ true
+          → goodBits board revoked s ≡ true → goodWords (s .regs) ≡ true → GoodState board revoked s
+      all-good p q w r t =
+          record {
+            registers = registers-are p;
+            memory = memory-is board size q;
+            window = window-is board size w;
+            bits = bits-are board revoked s r;
+            words = words-are (s .regs) t;
+          }
+
+      go : (a : Bool) → eqb (length (s .regs)) registerWords ≡ a → (b : Bool) → goodMemory board size ≡ b → (x : Bool) → goodWindow board size ≡ x
+          → (c : Bool) → goodBits board revoked s ≡ c → (d : Bool) → goodWords (s .regs) ≡ d → (e : Bool) → ltb mostSteps n ≡ e
+          → Refusal n board revoked s (failIf (not a) 1 (failIf (not b) 2 (failIf (not x) 2 (failIf (not c) 3 (failIf (not d) 4 (failIf e 5 0))))))
+      go false p b q x w c r d t e u = bad-registers (fails _ registers-test p)
+      go true p false q x w c r d t e u = bad-memory (registers-are p) (fails _ (memory-test board size) q)
+      go true p true q false w c r d t e u = bad-window (registers-are p) (memory-is board size q) (fails _ (window-test board size) w)
+      go true p true q true w false r d t e u =
+          bad-bits (registers-are p) (memory-is board size q) (window-is board size w) (fails _ (bits-test board revoked s) r)
+      go true p true q true w true r false t e u =
+          bad-words (registers-are p) (memory-is board size q) (window-is board size w) (bits-are board revoked s r) (fails _ (words-test (s .regs)) t)
+      go true p true q true w true r true t true u = too-long (all-good p q w r t) (ltb-true mostSteps n u)
+      go true p true q true w true r true t false u = none (all-good p q w r t) (ltb-false mostSteps n u)
 
   -- and no other: its case is the only one
   pub refusal-only : (n k : ℕ) → Refusal n board revoked s k → refusalOf n board revoked s ≡ k
@@ -157,20 +184,36 @@ module _ (board : Board) (revoked : List ℕ) (s : State) where
       rw (
         registers-test (g .registers),
         memory-test board (length (s .mem)) (g .memory),
-        bits-test revoked s (g .bits),
+        window-test board (length (s .mem)) (g .window),
+        bits-test board revoked s (g .bits),
         words-test (s .regs) (g .words),
         le-ltb mostSteps n few,
       )
   refusal-only n k (bad-registers h) = rw (failed _ registers-are h)
   refusal-only n k (bad-memory r h) = rw (registers-test r, failed _ (memory-is board (length (s .mem))) h)
-  refusal-only n k (bad-bits r m h) = rw (registers-test r, memory-test board (length (s .mem)) m, failed _ (bits-are revoked s) h)
-  refusal-only n k (bad-words r m b h) =
-      rw (registers-test r, memory-test board (length (s .mem)) m, bits-test revoked s b, failed _ (words-are (s .regs)) h)
+  refusal-only n k (bad-window r m h) =
+      rw (registers-test r, memory-test board (length (s .mem)) m, failed _ (window-is board (length (s .mem))) h)
+  refusal-only n k (bad-bits r m w h) =
+      rw (
+        registers-test r,
+        memory-test board (length (s .mem)) m,
+        window-test board (length (s .mem)) w,
+        failed _ (bits-are board revoked s) h,
+      )
+  refusal-only n k (bad-words r m w b h) =
+      rw (
+        registers-test r,
+        memory-test board (length (s .mem)) m,
+        window-test board (length (s .mem)) w,
+        bits-test board revoked s b,
+        failed _ (words-are (s .regs)) h,
+      )
   refusal-only n k (too-long g many) =
       rw (
         registers-test (g .registers),
         memory-test board (length (s .mem)) (g .memory),
-        bits-test revoked s (g .bits),
+        window-test board (length (s .mem)) (g .window),
+        bits-test board revoked s (g .bits),
         words-test (s .regs) (g .words),
         lt-ltb mostSteps n many,
       )
@@ -183,8 +226,9 @@ module _ (board : Board) (revoked : List ℕ) (s : State) where
       at k (none g few) e = g
       at k (bad-registers x) e = absurd (omega arith)
       at k (bad-memory r x) e = absurd (omega arith)
-      at k (bad-bits r m x) e = absurd (omega arith)
-      at k (bad-words r m b x) e = absurd (omega arith)
+      at k (bad-window r m x) e = absurd (omega arith)
+      at k (bad-bits r m w x) e = absurd (omega arith)
+      at k (bad-words r m w b x) e = absurd (omega arith)
       at k (too-long g many) e = g
 
   pub good-of : stepRefusal board revoked s ≡ 0 → GoodState board revoked s
@@ -212,8 +256,9 @@ module _ (board : Board) (revoked : List ℕ) (s : State) where
         alike k (none g few) h = absurd (h refl)
         alike k (bad-registers x) h = bad-registers x
         alike k (bad-memory r x) h = bad-memory r x
-        alike k (bad-bits r m x) h = bad-bits r m x
-        alike k (bad-words r m b x) h = bad-words r m b x
+        alike k (bad-window r m x) h = bad-window r m x
+        alike k (bad-bits r m w x) h = bad-bits r m w x
+        alike k (bad-words r m w b x) h = bad-words r m w b x
         alike k (too-long g many) h = absurd (omega arith)
 
   pub refused-run : (n : ℕ) → (refusalOf n board revoked s ≡ 0 → ⊥) → runAfter n board revoked s ≡ s

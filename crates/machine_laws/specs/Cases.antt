@@ -57,8 +57,9 @@ data-at a = capability a 0x7E3E0000 1
 abbrev pub handler : Capability
 handler = execute 0x20000020
 
+-- the window is all of memory
 abbrev pub boardIn : Case → Board
-boardIn c = record { start = c .start }
+boardIn c = record { start = c .start; window = record { start = 0; size = 64 } }
 
 unfoldable pub before : Case → State
 before c =

@@ -1,4 +1,4 @@
--- What a call asks of the lent buffers, said without tests. Document 01, "What is lent" and "Answers". Assumes nothing.
+-- What a call asks of the lent buffers, said without tests. Document 01, "What is lent" and "Answers"; document 02, 5. Assumes nothing.
 use mathlib.Core.List.{List}
 use mathlib.Core.Path.{_≡_}
 use Prim.Native.Nat.{ℕ, _+_, _/_, _%_, _^_, _≤_, _<_}
@@ -22,10 +22,16 @@ pub record LentMemory (board : Board) (size : ℕ) : Type 0 where
   pub start-aligned : board .start % granuleBytes ≡ 0
   pub in-space : board .start + size ≤ 2 ^ 32
 
--- one tag bit and one revocation bit for each granule
-pub record LentBits (revoked : List ℕ) (s : State) : Type 0 where
+-- the window lies in memory, in whole blocks, and may be empty
+pub record LentWindow (board : Board) (size : ℕ) : Type 0 where
+  pub start-blocks : board .window .start % blockBytes ≡ 0
+  pub size-blocks : board .window .size % blockBytes ≡ 0
+  pub in-memory : board .window .start + board .window .size ≤ size
+
+-- one tag bit for each granule of memory, one revocation bit for each of the window
+pub record LentBits (board : Board) (revoked : List ℕ) (s : State) : Type 0 where
   pub tag-bytes : length (s .tags) ≡ length (s .mem) / blockBytes
-  pub revocation-bytes : length revoked ≡ length (s .mem) / blockBytes
+  pub revocation-bytes : length revoked ≡ board .window .size / blockBytes
 
 -- each word of c0 is 0
 abbrev pub ZeroRegister : (regs : List ℕ) → Type 0
@@ -40,7 +46,8 @@ pub record LentWords (regs : List ℕ) : Type 0 where
 pub record GoodState (board : Board) (revoked : List ℕ) (s : State) : Type 0 where
   pub registers : LentRegisters s
   pub memory : LentMemory board (length (s .mem))
-  pub bits : LentBits revoked s
+  pub window : LentWindow board (length (s .mem))
+  pub bits : LentBits board revoked s
   pub words : LentWords (s .regs)
 
 -- the number of a refusal of n steps, by its cases: the lowest wins
@@ -48,6 +55,9 @@ pub data Refusal (n : ℕ) (board : Board) (revoked : List ℕ) (s : State) : �
   none : GoodState board revoked s → n ≤ mostSteps → Refusal n board revoked s 0
   bad-registers : (LentRegisters s → ⊥) → Refusal n board revoked s 1
   bad-memory : LentRegisters s → (LentMemory board (length (s .mem)) → ⊥) → Refusal n board revoked s 2
-  bad-bits : LentRegisters s → LentMemory board (length (s .mem)) → (LentBits revoked s → ⊥) → Refusal n board revoked s 3
-  bad-words : LentRegisters s → LentMemory board (length (s .mem)) → LentBits revoked s → (LentWords (s .regs) → ⊥) → Refusal n board revoked s 4
+  bad-window : LentRegisters s → LentMemory board (length (s .mem)) → (LentWindow board (length (s .mem)) → ⊥) → Refusal n board revoked s 2
+  bad-bits : LentRegisters s → LentMemory board (length (s .mem)) → LentWindow board (length (s .mem)) → (LentBits board revoked s → ⊥)
+      → Refusal n board revoked s 3
+  bad-words : LentRegisters s → LentMemory board (length (s .mem)) → LentWindow board (length (s .mem)) → LentBits board revoked s
+      → (LentWords (s .regs) → ⊥) → Refusal n board revoked s 4
   too-long : GoodState board revoked s → mostSteps < n → Refusal n board revoked s 5

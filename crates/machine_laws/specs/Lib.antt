@@ -1,4 +1,5 @@
 pub mod Lent
+pub mod Window
 pub mod Steps
 pub mod Memory
 pub mod Integers

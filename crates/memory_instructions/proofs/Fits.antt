@@ -40,7 +40,7 @@ loaded-word Lhu mem i b = omega (arith, leBytes-lt 2 mem i b)
 pub filtered-fits : (authority value : Capability) (m : Lent) → Good value → Good (filtered authority value m)
 unfolding filtered
 filtered-fits authority value m g =
-    keep-tag-good (not (revokedValue (m .board) (length (m .mem)) (m .revoked) (loadedOf authority value))) (loadedOf authority value)
+    keep-tag-good (not (revokedValue (m .board) (m .revoked) (loadedOf authority value))) (loadedOf authority value)
     (loaded-good authority value g)
 
 -- the address of an access is a word

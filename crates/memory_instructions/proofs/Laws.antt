@@ -79,8 +79,8 @@ pub filtered-tag : (authority value : Capability) (m : Lent) → GoodTag value �
 unfolding filtered
 filtered-tag authority value m h =
     let v = loadedOf authority value in
-    kept-good v (keepTagIf (not (revokedValue (m .board) (length (m .mem)) (m .revoked) v)) v)
-    (kept (not (revokedValue (m .board) (length (m .mem)) (m .revoked) v)) (v .tag)) (kept-good value v (loaded-kept authority value) h)
+    kept-good v (keepTagIf (not (revokedValue (m .board) (m .revoked) v)) v)
+    (kept (not (revokedValue (m .board) (m .revoked) v)) (v .tag)) (kept-good value v (loaded-kept authority value) h)
 
 load-capability-good : (p : Place) (rd address : ℕ) (authority : Capability) (m : Lent) → GoodEffect (loadCapabilityAt p rd address authority m)
 unfolding loadCapabilityAt

@@ -1,5 +1,5 @@
 -- Loads and stores. CHERIoT report, 7.6, 7.7, 7.8 and 9.4 (CLC, CSC); document 01, "Loading capabilities" and "Traps". Assumes nothing.
-use mathlib.Core.Bool.{Bool, not, _&&_}
+use mathlib.Core.Bool.{Bool, false, not, _&&_}
 use mathlib.Core.List.{List}
 use Prim.Native.Nat.{ℕ, _+_}
 use lib.ListN.{length}
@@ -15,13 +15,15 @@ use Rattle.instructions.specs.declared.MemoryInstruction.{MemoryInstruction}
 use Rattle.instructions.specs.declared.MemoryInstruction.the-variants as Instruction
 use Rattle.state.specs.Registers.{registerAt, integerAt}
 use Rattle.state.specs.Lent.{Lent}
-use Rattle.state.specs.Memory.{loadWidth, storeWidth, placeOf, capabilityIn, revokedAt, granuleBytes}
+use Rattle.state.specs.Memory.{loadWidth, storeWidth, placeOf, capabilityIn, revocationAt, granuleBytes}
 use Rattle.state.specs.Checks.{checked, failIf, accessCause, inBounds, noCause, tagCause, sealCause, boundsCause, loadCause, storeCause, storeCapabilityCause}
 use Rattle.state.specs.Checks.{storeLocalCause}
 use Rattle.state.specs.Checks.{loadMisaligned, loadFault, storeMisaligned, storeFault}
 use Rattle.state.specs.declared.Board.{Board}
 use Rattle.state.specs.declared.Place.{Place}
 use Rattle.state.specs.declared.Place.the-variants.{At, Misaligned, Outside}
+use Rattle.state.specs.declared.Revocation.{Revocation}
+use Rattle.state.specs.declared.Revocation.the-variants as Revocation
 use Rattle.state.specs.declared.Effect.{Effect}
 use Rattle.state.specs.declared.Effect.the-variants.{Write, Store, StoreCapability, Trap}
 
@@ -54,14 +56,20 @@ storeEffect kind rs1 address value authority start size =
     checked rs1 (accessCause authority SD storeCause address (storeWidth kind))
     (storeAt (placeOf start size address (storeWidth kind)) kind address value)
 
--- the revocation test: a value that may be revoked, by the granule that holds its low bound
-unfoldable pub revokedValue : Board → (size : ℕ) → (revoked : List ℕ) → Capability → Bool
-revokedValue board size revoked v = revocable v && revokedAt board size revoked (low v)
+-- the revocation test by what the bits say of a value's low bound: outside the window counts as clear (document 02, 5)
+abbrev pub revokedBy : Revocation → Capability → Bool
+revokedBy Revocation.Outside v = false
+revokedBy Revocation.Clear v = false
+revokedBy Revocation.Marked v = revocable v
+
+-- the revocation test
+unfoldable pub revokedValue : Board → (revoked : List ℕ) → Capability → Bool
+revokedValue board revoked v = revokedBy (revocationAt board revoked (low v)) v
 
 -- the load filter: the losses of the authority's missing rights, then revocation
 unfoldable pub filtered : (authority value : Capability) → Lent → Capability
 filtered authority value m =
-    keepTagIf (not (revokedValue (m .board) (length (m .mem)) (m .revoked) (loadedOf authority value))) (loadedOf authority value)
+    keepTagIf (not (revokedValue (m .board) (m .revoked) (loadedOf authority value))) (loadedOf authority value)
 
 -- CLC: the checks of a load, then the filter
 unfoldable pub loadCapabilityAt : Place → (rd address : ℕ) → (authority : Capability) → Lent → Effect

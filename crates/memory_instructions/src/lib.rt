@@ -25,6 +25,7 @@ use state::LOAD_FAULT;
 use state::LOAD_MISALIGNED;
 use state::NO_CAUSE;
 use state::Place;
+use state::Revocation;
 use state::SEAL_CAUSE;
 use state::STORE_CAPABILITY_CAUSE;
 use state::STORE_CAUSE;
@@ -125,15 +126,16 @@ fn store(
     state::checked_effect(rs1, cause, store_at(place, kind, address, value))
 }
 
-// Whether the revocation test takes a value's tag: its low bound lies in a revoked granule.
-pub fn is_revoked(board: Board, size: usize, revoked: &[u8], v: Capability) -> bool
-    ensures { λ r. ⌜ r ≡ revokedValue board size (now (revoked .entry)) v ⌝ }
+// Whether the revocation test takes a value's tag: its low bound lies in a marked granule. Outside the window counts as clear.
+pub fn is_revoked(board: Board, revoked: &[u8], v: Capability) -> bool
+    ensures { λ r. ⌜ r ≡ revokedValue board (now (revoked .entry)) v ⌝ }
 {
     let b = capability::bounds_of(v);
-    choices::both(
-        capability::is_revocable(v),
-        state::revoked_at(board, size, revoked, b.low),
-    )
+    match state::revocation_at(board, revoked, b.low) {
+        Revocation::Outside => false,
+        Revocation::Clear => false,
+        Revocation::Marked => capability::is_revocable(v),
+    }
 }
 
 // A value with its tag cleared where the test passes.
@@ -163,7 +165,7 @@ fn filter(
     ensures { λ r. ⌜ r ≡ filtered authority value (lent board (now (mem .entry)) (now (tags .entry)) (now (revoked .entry))) ⌝ }
 {
     let v = capability::loaded(authority, value);
-    clear_if(is_revoked(board, mem.len(), revoked, v), v)
+    clear_if(is_revoked(board, revoked, v), v)
 }
 
 fn load_capability_at(

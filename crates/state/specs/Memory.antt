@@ -1,5 +1,5 @@
 -- Places in the lent memory, capabilities in it, and revocation. Document 01, "What is lent", "Loading capabilities". Assumes nothing.
-use mathlib.Core.Bool.{Bool, false, cond, _&&_}
+use mathlib.Core.Bool.{Bool, cond, _&&_}
 use mathlib.Core.List.{List}
 use Prim.Native.Nat.{ℕ, _+_, _-_, _/_, _%_}
 use lib.Dec.{eqb, leb, ltb}
@@ -13,6 +13,8 @@ use Rattle.instructions.specs.declared.StoreKind.the-variants.{Sb, Sh, Sw}
 use Rattle.state.specs.declared.Board.{Board}
 use Rattle.state.specs.declared.Place.{Place}
 use Rattle.state.specs.declared.Place.the-variants.{At, Misaligned, Outside}
+use Rattle.state.specs.declared.Revocation.{Revocation}
+use Rattle.state.specs.declared.Revocation.the-variants as Revocation
 
 -- how many bytes a load or a store touches
 abbrev pub loadWidth : LoadKind → ℕ
@@ -42,7 +44,16 @@ placeOf start size address width =
 unfoldable pub capabilityIn : (mem tags : List ℕ) → (i : ℕ) → Capability
 capabilityIn mem tags i = capability (le32 mem i) (le32 mem (i + 4)) (bitAt tags (i / granuleBytes))
 
--- the revocation bit of the granule that holds an address is set; outside memory there is none, and nothing is revoked
-unfoldable pub revokedAt : Board → (size : ℕ) → (revoked : List ℕ) → (address : ℕ) → Bool
-revokedAt board size revoked address =
-    cond (leb (board .start) address && ltb address (board .start + size)) (eqb (bitAt revoked ((address - board .start) / granuleBytes)) 1) false
+-- the address of the window's first granule, which is granule 0 of the revocation bits (document 02, 5)
+abbrev pub windowAt : Board → ℕ
+windowAt board = board .start + board .window .start
+
+abbrev pub markOf : (bit : ℕ) → Revocation
+markOf bit = cond (eqb bit 1) Revocation.Marked Revocation.Clear
+
+-- what the revocation bits say of the granule that holds an address; outside the window there is no bit
+unfoldable pub revocationAt : Board → (revoked : List ℕ) → (address : ℕ) → Revocation
+revocationAt board revoked address =
+    cond (leb (windowAt board) address && ltb address (windowAt board + board .window .size))
+    (markOf (bitAt revoked ((address - windowAt board) / granuleBytes)))
+    Revocation.Outside

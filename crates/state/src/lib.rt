@@ -24,7 +24,7 @@ pub use layout::scr_number;
 pub use memory::capability_in;
 pub use memory::load_width;
 pub use memory::place_of;
-pub use memory::revoked_at;
+pub use memory::revocation_at;
 pub use memory::store_width;
 pub use registers::capability_at;
 pub use registers::csr_at;
@@ -123,9 +123,23 @@ pub const SYSTEM_CAUSE: u32 = 24;
 
 pub const PCC_REGISTER: u32 = 32;
 
-// What is lent as numbers: memory's start.
+// The part of memory that the revocation bits are for, its start counted from memory's.
+pub struct Window {
+    pub start: u32,
+    pub size: u32,
+}
+
+// What is lent as numbers: memory's start, and the window of the revocation bits.
 pub struct Board {
     pub start: u32,
+    pub window: Window,
+}
+
+// What the revocation bits say of an address: it lies outside their window, or its granule is clear or marked.
+pub enum Revocation {
+    Outside,
+    Clear,
+    Marked,
 }
 
 // Where an access of some bytes lies in memory.

@@ -2,6 +2,7 @@
 use crate::Board;
 use crate::GRANULE;
 use crate::Place;
+use crate::Revocation;
 use capability::Capability;
 use instructions::LoadKind;
 use instructions::StoreKind;
@@ -9,7 +10,7 @@ ghost use mathlib.Core.Path.{_≡_};
 ghost use mathlib.Core.Bool.{cond, _&&_};
 ghost use lib.Dec.{leb};
 ghost use Prim.Native.Nat.{_+_, _-_, _%_};
-ghost use Rattle.state.specs.Memory.{loadWidth, storeWidth, placeOf, capabilityIn, revokedAt};
+ghost use Rattle.state.specs.Memory.{loadWidth, storeWidth, placeOf, capabilityIn, markOf, revocationAt};
 
 pub fn load_width(kind: LoadKind) -> u32
     ensures { λ r. ⌜ r ≡ loadWidth kind ⌝ }
@@ -86,19 +87,28 @@ pub fn capability_in(mem: &[u8], tags: &[u8], at: u32) -> Capability
     }
 }
 
-// Whether the granule that holds an address is marked as revoked.
-pub fn revoked_at(board: Board, size: usize, revoked: &[u8], address: u32) -> bool
-    ensures { λ r. ⌜ r ≡ revokedAt board size (now (revoked .entry)) address ⌝ }
+// What a revocation bit says.
+fn mark_of(bit: u32) -> Revocation
+    ensures { λ r. ⌜ r ≡ markOf bit ⌝ }
 {
-    let start = board.start;
-    if start <= address {
-        let at = (address - start) as usize;
-        if at < size {
-            words::get_bit(revoked, at / GRANULE) == 1
-        } else {
-            false
-        }
+    if bit == 1 {
+        Revocation::Marked
     } else {
-        false
+        Revocation::Clear
     }
+}
+
+// What the revocation bits say of the granule that holds an address.
+pub fn revocation_at(board: Board, revoked: &[u8], address: u32) -> Revocation
+    ensures { λ r. ⌜ r ≡ revocationAt board (now (revoked .entry)) address ⌝ }
+{
+    let first = board.start as usize + board.window.start as usize;
+    if (address as usize) < first {
+        return Revocation::Outside;
+    }
+    let at = address as usize - first;
+    if board.window.size as usize <= at {
+        return Revocation::Outside;
+    }
+    mark_of(words::get_bit(revoked, at / GRANULE))
 }

@@ -41,6 +41,10 @@ pub struct Run {
     /// The bytes of memory [default: 65536, or the map's]
     #[arg(long, value_parser = size, conflicts_with = "state")]
     pub size: Option<u64>,
+    /// The part of memory that has revocation bits, its start counted from memory's [default: the
+    /// map's region heap, else all of memory]
+    #[arg(long, value_names = ["START", "SIZE"], num_args = 2, value_parser = word, conflicts_with = "state")]
+    pub window: Option<Vec<u32>>,
     /// The address of the first instruction, even [default: the image's, else memory's start]
     #[arg(long, value_parser = even, conflicts_with = "state")]
     pub entry: Option<u32>,

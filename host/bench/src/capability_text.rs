@@ -2,7 +2,7 @@
 
 use crate::probe;
 use crate::proved::Region;
-use lent::Capability;
+use lent::{Capability, Revocation};
 
 /// The rights from bit 0 (document 01, "Capability word").
 const RIGHTS: [&str; 12] = [
@@ -37,6 +37,24 @@ pub fn type_words(metadata: u32) -> String {
 pub fn is_sentry(metadata: u32) -> bool {
     let executable = probe::rights(metadata) & EX != 0;
     executable && (1..=3).contains(&probe::seal_type(metadata))
+}
+
+/// What the revocation bits say, in a word.
+pub fn revocation_word(said: Revocation) -> &'static str {
+    match said {
+        Revocation::Outside => "outside",
+        Revocation::Clear => "clear",
+        Revocation::Marked => "marked",
+    }
+}
+
+/// The same of a granule, in words.
+pub fn revocation_words(said: Revocation) -> &'static str {
+    match said {
+        Revocation::Outside => "outside the window",
+        Revocation::Clear => "clear",
+        Revocation::Marked => "marked",
+    }
 }
 
 /// Bounds as text.

@@ -1,6 +1,6 @@
 //! The same results as JSON. Numbers are numbers; bounds are low and high.
 
-use crate::capability_text::{rights, type_words};
+use crate::capability_text::{revocation_word, rights, type_words};
 use crate::drive::{End, Outcome};
 use crate::memory_rows::rows;
 use crate::names::Names;
@@ -71,6 +71,7 @@ fn state(state: &State) -> Value {
         "mtval": state.register(MTVAL),
         "start": state.start,
         "size": state.mem.len(),
+        "window": { "start": state.window.start, "size": state.window.size },
     })
 }
 
@@ -114,5 +115,6 @@ fn places(address: u32, names: &Names) -> Vec<Value> {
 fn authority(authority: &Authority) -> Value {
     let mut value = capability(authority.value);
     value["name"] = authority.name.clone().into();
+    value["revocation"] = authority.revocation.map(revocation_word).into();
     value
 }

@@ -1,5 +1,6 @@
 //! Questions that the proved machine answers by executing one instruction on a scratch state: the
-//! rights and the type of a capability, and the address that an access or a jump asks for.
+//! rights and the type of a capability, the address that an access or a jump asks for, and what the
+//! revocation bits say of a low bound.
 
 #[cfg(test)]
 mod tests;
@@ -7,7 +8,8 @@ mod tests;
 use crate::proved;
 use crate::request::Request;
 use lent::{
-    instruction_bytes, Capability, State, EXECUTABLE_ROOT, MCAUSE, MEMORY_ROOT, MTVAL, PCC,
+    instruction_bytes, Capability, Revocation, State, EXECUTABLE_ROOT, MCAUSE, MEMORY_ROOT, MTVAL,
+    PCC,
 };
 
 // The field of a long word that a probe puts in place.
@@ -18,6 +20,10 @@ const RS1_IS_C1: u32 = 1 << 15;
 const CGETPERM: u32 = 0xFE00_80DB;
 const CGETTYPE: u32 = 0xFE10_80DB;
 
+/// CLC c1, 8(c1).
+const CLC: u32 = 0x0080_B083;
+/// The metadata, but for B and T, of a capability of exponent 0 with every right to memory.
+const SMALL: u32 = 0x7E00_0000;
 /// The mcause of a capability check.
 pub const CAPABILITY_CHECK: u32 = 28;
 
@@ -78,6 +84,28 @@ pub fn access(word: u32, address: u32) -> Option<u32> {
     proved::run(&mut state, 1).ok()?;
     let offset = state.register(MTVAL).wrapping_sub(TRIED);
     matches!(state.register(MCAUSE), 4..=7).then(|| address.wrapping_add(offset))
+}
+
+/// What a state's revocation bits say of the granule that holds a low bound. An empty capability
+/// there is loaded in a memory as large, with the bits as they are and with all of them set.
+pub fn revocation(state: &State, low: u32) -> Revocation {
+    let base = low & 0x1FF;
+    let value = Capability::tagged(low, SMALL | base << 9 | base);
+    let kept = |revoked: Vec<u8>| {
+        let memory = vec![0; state.mem.len()];
+        let mut scratch = State::reset(state.start, memory, state.start);
+        scratch.window = state.window;
+        scratch.revoked = revoked;
+        scratch.write(state.start, &CLC.to_le_bytes());
+        scratch.write_capability(state.start.wrapping_add(8), value);
+        scratch.set(1, Capability::tagged(state.start, MEMORY_ROOT));
+        proved::run(&mut scratch, 1).is_ok() && scratch.capability(1).tag == 1
+    };
+    match kept(state.revoked.clone()) {
+        false => Revocation::Marked,
+        true if kept(vec![0xFF; state.revoked.len()]) => Revocation::Outside,
+        true => Revocation::Clear,
+    }
 }
 
 /// The target of a jump by a register whose authority is at `address`.

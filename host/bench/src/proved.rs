@@ -25,10 +25,13 @@ impl Refusal {
         match self.0 {
             1 => "the register file is not 66 words",
             2 => {
-                "the memory's start or size breaks the limits: the size is 64 to 65,536 bytes and \
-                 a multiple of 64, the start a multiple of 8, and the end at most 2^32"
+                "the memory's start or size breaks the limits: the size is 64 to 1,048,576 bytes \
+                 and a multiple of 64, the start a multiple of 8, and the end at most 2^32; or the \
+                 window does: its start and size are multiples of 64, and it lies in memory"
             }
-            3 => "the tags or the revocation bits are not memory size / 64 bytes",
+            3 => {
+                "the tags are not memory size / 64 bytes, or the revocation bits not window size / 64"
+            }
             4 => "a tag word is above 1, or c0 is not all zero",
             5 => "a run asks more than 1,000,000 steps",
             6 => "the request ends past 2^32",

@@ -1,6 +1,7 @@
 //! What a run or a saved state comes to, for a person: counts, the trap, the registers.
 
-use crate::capability_text::{count, grouped, is_integer, length, region, rights, type_words};
+use crate::capability_text::{count, grouped, is_integer, length, region};
+use crate::capability_text::{revocation_words, rights, type_words};
 use crate::drive::{End, Outcome};
 use crate::memory_rows::{rows, Row, ROW};
 use crate::names::Names;
@@ -75,6 +76,7 @@ fn authority_lines(authority: &Authority, asked: Option<Asked>) -> String {
         name,
         value,
         bounds,
+        revocation,
     } = authority;
     let (low_high, long) = (region(*bounds), length(*bounds));
     let mut text = asked.map_or(String::new(), |asked| {
@@ -94,6 +96,14 @@ fn authority_lines(authority: &Authority, asked: Option<Asked>) -> String {
         "  {name:<8} {:08x}, {tag}, {held}, {kind}",
         value.address
     );
+    if let Some(said) = revocation {
+        let words = revocation_words(*said);
+        let _ = writeln!(
+            text,
+            "  revoked  {:08x}, its low bound, is {words}",
+            bounds.low
+        );
+    }
     text
 }
 

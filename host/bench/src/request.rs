@@ -88,6 +88,15 @@ fn of_short(word: u32) -> Request {
     }
 }
 
+/// The register that a load writes.
+pub fn destination(word: u32) -> usize {
+    let register = match (instruction_bytes(word), word & 3) {
+        (2, 0) => 8 + (word >> 2 & 7),
+        _ => word >> 7 & 15,
+    };
+    register as usize
+}
+
 /// The digits of a word, four or eight by its length.
 pub fn digits(word: u32) -> String {
     match instruction_bytes(word) {

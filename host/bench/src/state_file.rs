@@ -1,16 +1,34 @@
-//! State files, version 1: text that holds all that a run is lent, with a check word at its end.
+//! State files, version 2: text that holds all that a run is lent, with a check word at its end.
 //! The format is docs/STATE.md's. A file is read only if writing what was read gives the same
-//! bytes.
+//! bytes; one of version 1 too, which has no window: the bits are of all of memory.
 
 #[cfg(test)]
 mod tests;
 
 use crate::digits::{pairs, word};
 use crate::file;
-use lent::{place_name, State, CAPABILITIES, CONTROL, MSTATUS, WORDS};
+use lent::{place_name, State, Window, CAPABILITIES, CONTROL, MSTATUS, WORDS};
 use std::fmt::Write;
 
-const HEADER: &str = "oddersnow state 1";
+/// The first line, before the version.
+const FORMAT: &str = "oddersnow state";
+
+/// The versions that are read.
+#[derive(Clone, Copy, PartialEq, Eq, Debug)]
+enum Version {
+    One,
+    Two,
+}
+
+impl Version {
+    fn header(self) -> String {
+        let number = match self {
+            Version::One => 1,
+            Version::Two => 2,
+        };
+        format!("{FORMAT} {number}")
+    }
+}
 /// Bytes on a line.
 const LINE: usize = 32;
 /// The most elements of a buffer that is read. It is far more than the machine takes, and still
@@ -19,7 +37,15 @@ const MOST: usize = 1 << 24;
 
 /// The text of a state.
 pub fn write(state: &State) -> String {
-    let mut text = format!("{HEADER}\nstart {:08x}\n", state.start);
+    write_as(Version::Two, state)
+}
+
+fn write_as(version: Version, state: &State) -> String {
+    let mut text = format!("{}\nstart {:08x}\n", version.header(), state.start);
+    if version == Version::Two {
+        let Window { start, size } = state.window;
+        let _ = writeln!(text, "window {start:08x} {size:08x}");
+    }
     let _ = writeln!(text, "registers {}", state.regs.len());
     let mut place = 0;
     while place < state.regs.len() {
@@ -80,16 +106,19 @@ fn checksum(bytes: &[u8]) -> u32 {
 /// The state of a file's bytes, or what is wrong with them.
 pub fn read(bytes: &[u8]) -> Result<State, String> {
     let text = file::text(bytes)?;
-    if text.lines().next() != Some(HEADER) {
-        return Err(format!("line 1 is not \"{HEADER}\""));
-    }
+    let mut versions = [Version::Two, Version::One].into_iter();
+    let version = versions.find(|version| text.lines().next() == Some(&version.header()));
+    let Some(version) = version else {
+        let (old, new) = (Version::One.header(), Version::Two.header());
+        return Err(format!("line 1 is neither \"{new}\" nor \"{old}\""));
+    };
     check(text)?;
     let mut lines = Lines { text, number: 0 };
-    let state = lines.state().map_err(|()| {
+    let state = lines.state(version).map_err(|()| {
         let number = lines.number;
         format!("line {number} is not the line of a state file that belongs there")
     })?;
-    let again = write(&state);
+    let again = write_as(version, &state);
     if again == text {
         return Ok(state);
     }
@@ -125,9 +154,13 @@ struct Lines<'a> {
 }
 
 impl<'a> Lines<'a> {
-    fn state(&mut self) -> Result<State, ()> {
+    fn state(&mut self, version: Version) -> Result<State, ()> {
         self.next()?;
         let start = word(self.after("start")?).ok_or(())?;
+        let window = match version {
+            Version::One => None,
+            Version::Two => Some(self.window()?),
+        };
         let regs = self.registers()?;
         let mem = self.bytes("memory")?;
         let tags = self.bytes("tags")?;
@@ -136,9 +169,18 @@ impl<'a> Lines<'a> {
         Ok(State {
             regs,
             start,
+            window: window.unwrap_or(Window::whole(mem.len())),
             mem,
             tags,
             revoked,
+        })
+    }
+
+    fn window(&mut self) -> Result<Window, ()> {
+        let (start, size) = self.after("window")?.split_once(' ').ok_or(())?;
+        Ok(Window {
+            start: word(start).ok_or(())?,
+            size: word(size).ok_or(())?,
         })
     }
 

@@ -1,8 +1,10 @@
-//! A step on one line: where, the word, and what it changed.
+//! A step on one line: where, the word, and what it changed; of a load of a tagged capability also
+//! what the revocation bits said of its low bound.
 
-use crate::capability_text::{is_integer, region};
+use crate::capability_text::{is_integer, region, revocation_words};
+use crate::probe;
 use crate::proved::{bounds, Counts};
-use crate::request::digits;
+use crate::request::{destination, digits, Request};
 use crate::trap::Trap;
 use lent::{instruction_bytes, place_name, Capability, State, CAPABILITIES, CONTROL, MSTATUS, PCC};
 
@@ -14,7 +16,9 @@ pub fn line(number: u64, before: &State, after: &State, made: Counts) -> String 
         (trap.word, vec![format!("trap: {}", trap.cause)])
     } else {
         let word = before.instruction(pcc.address);
-        (word, changes(before, after, word.unwrap_or(0)))
+        let mut changes = changes(before, after, word.unwrap_or(0));
+        changes.extend(word.and_then(|word| filtered(word, before, after)));
+        (word, changes)
     };
     let word = word.map_or("--------".into(), digits);
     let text = format!(
@@ -47,6 +51,23 @@ fn changes(before: &State, after: &State, word: u32) -> Vec<String> {
         changes.push(format!("PCC := {}", shown(new)));
     }
     changes
+}
+
+/// What the load filter asked, where the step loaded a tagged capability.
+fn filtered(word: u32, before: &State, after: &State) -> Option<String> {
+    let Request::Load { by, size: 8 } = Request::of(word) else {
+        return None;
+    };
+    let rd = destination(word);
+    if rd == 0 {
+        return None;
+    }
+    let address = probe::access(word, before.capability(by).address)?;
+    let low = bounds(after.capability(rd)).low;
+    let said = before
+        .tagged(address.into())
+        .then(|| probe::revocation(before, low))?;
+    Some(format!("low bound {}", revocation_words(said)))
 }
 
 fn shown(value: Capability) -> String {

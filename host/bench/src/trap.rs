@@ -1,14 +1,17 @@
 //! A trap in words, from what the machine left: mcause, mtval, PCC and the registers, which a trap
-//! does not change (document 01, "Traps"; the CHERIoT report, Table 7.3).
+//! does not change (document 01, "Traps"; the CHERIoT report, Table 7.3). Of a register without a tag
+//! it is told what the revocation bits say of its low bound, since a load may have taken the tag.
 
 #[cfg(test)]
 mod tests;
 
-use crate::capability_text::is_sentry;
+use crate::capability_text::{is_integer, is_sentry};
 use crate::probe::{self, CAPABILITY_CHECK};
 use crate::proved::{bounds, Region};
 use crate::request::Request;
-use lent::{instruction_bytes, place_name, Capability, State, MCAUSE, MEPCC, MTCC, MTVAL, PCC};
+use lent::{
+    instruction_bytes, place_name, Capability, Revocation, State, MCAUSE, MEPCC, MTCC, MTVAL, PCC,
+};
 
 /// The name of PCC in mtval; a special register n is named by this plus n (the CHERIoT report,
 /// 7.11).
@@ -66,6 +69,9 @@ pub struct Authority {
     pub name: String,
     pub value: Capability,
     pub bounds: Region,
+    /// What the revocation bits say of its low bound, if it is a general register with bounds and
+    /// without a tag.
+    pub revocation: Option<Revocation>,
 }
 
 #[derive(Clone, PartialEq, Eq, Debug)]
@@ -224,6 +230,7 @@ fn authority(
         name,
         value,
         bounds: bounds(value),
+        revocation: None,
     };
     let place = match (mcause, action) {
         (CAPABILITY_CHECK, _) if mtval / 32 < 16 => (mtval / 32) as usize,
@@ -231,7 +238,12 @@ fn authority(
         (0 | 1 | CAPABILITY_CHECK, _) => return Some(named("PCC".into(), pcc)),
         _ => return None,
     };
-    Some(named(place_name(place), after.capability(place)))
+    let value = after.capability(place);
+    let loaded = value.tag == 0 && !is_integer(value);
+    Some(Authority {
+        revocation: loaded.then(|| probe::revocation(after, bounds(value).low)),
+        ..named(place_name(place), value)
+    })
 }
 
 /// The cause in words.

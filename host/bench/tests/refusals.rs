@@ -18,6 +18,7 @@ fn states() -> Vec<(&'static str, State)> {
         ("2, start", changed(|state| state.start = 4)),
         ("2, size", changed(|state| state.mem.truncate(100))),
         ("2, end", changed(|state| state.start = 0xFFFF_FFF8)),
+        ("2, window", changed(|state| state.window.start = 32)),
         ("3, tags", changed(|state| state.tags.push(0))),
         ("3, revocation bits", changed(|state| state.revoked.clear())),
         ("4, tag word", changed(|state| state.regs[5] = 2)),
@@ -57,11 +58,18 @@ fn a_refused_memory_is_said_before_the_image_is_placed() {
     std::fs::write(directory.join("image"), [0x13, 0, 0, 0]).unwrap();
     for bad in [
         ["--size", "100"],
-        ["--size", "65600"],
+        ["--size", "1048640"],
         ["--size", "0x100000000"],
         ["--start", "4"],
+        ["--window", "32 64"],
+        ["--window", "0 100"],
+        ["--window", "65536 64"],
+        ["--window", "0 0xffffffff"],
+        ["--window", "0xffffffc0 64"],
     ] {
-        let answer = bench_in(&directory, &["run", "image", bad[0], bad[1]]);
+        let values = bad[1].split(' ');
+        let arguments: Vec<&str> = ["run", "image", bad[0]].into_iter().chain(values).collect();
+        let answer = bench_in(&directory, &arguments);
         assert_eq!(answer.status, 2, "{bad:?}");
         assert!(
             answer.err.starts_with("bench: refused, number 2: "),

@@ -115,7 +115,7 @@ fn damaged_states_are_refused() {
     for (name, damaged) in [
         ("a digit", text.replacen("5e3e0000", "5e3e0001", 1)),
         ("cut short", text[..200].into()),
-        ("another version", text.replacen("state 1", "state 2", 1)),
+        ("another version", text.replacen("state 2", "state 3", 1)),
         ("empty", String::new()),
     ] {
         std::fs::write(directory.join("start"), damaged).unwrap();

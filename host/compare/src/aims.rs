@@ -2,7 +2,8 @@
 //! of its checks passed, and each one failed by a little.
 
 use crate::capabilities::{
-    around, integer, register, rights, sealed, sealing, sentry, sound, tight, wide, Layout, Rights,
+    around, integer, region, register, rights, sealed, sealing, sentry, sound, tight, wide, Layout,
+    Rights,
 };
 use crate::cuts::request;
 use crate::operands::{any, encode, Operands};
@@ -175,11 +176,28 @@ impl Scene<'_> {
         }
     }
 
-    /// A capability in memory: mostly tagged, with bounds that start in memory.
+    /// A capability whose low bound lies in the window, at an end of it or near one.
+    fn at_the_window(&mut self, rights: Rights) -> Capability {
+        let window = self.state.window;
+        let first = self.state.start.wrapping_add(window.start);
+        let end = first.wrapping_add(window.size);
+        let inside = first.wrapping_add(self.random.below(window.size));
+        let edge = self.random.pick([first, end, inside, inside]);
+        let low = match self.random.below(4) {
+            0 => edge,
+            1 => edge.wrapping_sub(1),
+            _ => self.random.near(edge),
+        };
+        let length = self.random.pick([0, 1, 1, 2, 8, 16, 64, 300]);
+        region(self.random, rights, low, length)
+    }
+
+    /// A capability in memory: mostly tagged, with bounds that start in memory or at the window.
     fn stored(&mut self) -> Capability {
         let rights = rights(self.random);
         let mut value = match self.random.below(8) {
             0 | 1 => register(self.random, self.layout),
+            2 | 3 => self.at_the_window(rights),
             _ => sound(self.random, self.layout, rights),
         };
         if self.random.one_in(4) {

@@ -12,7 +12,7 @@ use crate::random::Random;
 use crate::refusals;
 use crate::rows::Table;
 use crate::state::{lend, Call, Case};
-use lent::{instruction_bytes, State, CAPABILITIES, WORDS};
+use lent::{instruction_bytes, State, Window, CAPABILITIES, MOST_MEMORY, WORDS};
 use lent::{MCAUSE, MEPCC, MSCRATCHC, MSTATUS, MTCC, MTDC, MTVAL, PCC};
 use second::capability::{move_address, narrow, SR};
 use second::Capability;
@@ -34,7 +34,11 @@ pub fn make(table: &Table, seed: u64, number: u64, case: &mut Case) {
 /// Memory of every size, mostly small, often at an end of the address space.
 pub fn layout(random: &mut Random) -> Layout {
     let size = match random.below(64) {
-        0 => 65_536,
+        0 => match random.below(4) {
+            0 => MOST_MEMORY as u32,
+            1 => 64 * (1 + random.below(MOST_MEMORY as u32 / 64)),
+            _ => 65_536,
+        },
         1 => 64 * (1 + random.below(1024)),
         2..=5 => 64 * (1 + random.below(64)),
         6..=31 => 64,
@@ -56,7 +60,27 @@ pub fn layout(random: &mut Random) -> Layout {
     }
 }
 
-/// Memory, tags and revocation bits of anything, or without a tag or a revocation.
+/// A window: all of memory, none of it, or a part of it, often from memory's start or to its end.
+fn window(random: &mut Random, size: u32) -> Window {
+    let blocks = size / 64;
+    let (one, other) = (random.below(blocks + 1), random.below(blocks + 1));
+    let (first, last) = match random.below(8) {
+        0..=2 => (0, blocks),
+        3 => {
+            let place = random.pick([0, blocks, one]);
+            (place, place)
+        }
+        4 => (0, one),
+        5 => (one, blocks),
+        _ => (one.min(other), one.max(other)),
+    };
+    Window {
+        start: 64 * first,
+        size: 64 * (last - first),
+    }
+}
+
+/// Memory, tags, a window and its revocation bits of anything, or without a tag or a revocation.
 pub fn fill(random: &mut Random, layout: Layout, state: &mut State) {
     state.start = layout.start;
     let size = layout.size as usize;
@@ -65,7 +89,8 @@ pub fn fill(random: &mut Random, layout: Layout, state: &mut State) {
         state.mem.extend_from_slice(&random.long().to_le_bytes());
     }
     fill_bits(random, size / 64, &mut state.tags);
-    fill_bits(random, size / 64, &mut state.revoked);
+    state.window = window(random, layout.size);
+    fill_bits(random, state.window.size as usize / 64, &mut state.revoked);
 }
 
 fn fill_bits(random: &mut Random, size: usize, bits: &mut Vec<u8>) {

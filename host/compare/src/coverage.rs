@@ -3,10 +3,10 @@
 //! each question of the load filter, each failed fetch of a first half and of a second, words of both lengths that are no
 //! instruction, each refusal alone and with each later one, and runs.
 
-use crate::filter::{self, QUESTIONS};
+use crate::filter::{self, PLACES, QUESTIONS};
 use crate::instructions::{BOUNDS, EXECUTE, FETCH_ACCESS, FETCH_MISALIGNED, ILLEGAL, SEAL, TAG};
 use crate::machines::second;
-use crate::refusals::reasons;
+use crate::refusals::{memory_allowed, reasons, window_faults, WINDOW_FAULTS};
 use crate::rows::{Aim, Outcome, Row, Table, COLUMNS, EXTREMES};
 use crate::state::{as_second, Call, Case};
 use lent::{instruction_bytes, Answer, State, MCAUSE, MTVAL, PCC};
@@ -26,6 +26,16 @@ const HALVES: [u32; 12] = [
 /// Pairs of extremes.
 const PAIRS: usize = EXTREMES.len() * EXTREMES.len();
 
+/// What a bad window comes with: nothing, another reason, or memory that is refused by the same number.
+const WITH: [&str; 6] = [
+    "alone",
+    "with reason 1",
+    "with memory's own limits",
+    "with reason 3",
+    "with reason 4",
+    "with reason 5",
+];
+
 /// Kinds of runs.
 const RUNS: [&str; 6] = [
     "runs of 0 steps",
@@ -41,8 +51,9 @@ pub struct Coverage {
     rows: Vec<[u64; COLUMNS]>,
     /// Of each row, the pairs of extremes that it retired with.
     pairs: Vec<[u64; PAIRS]>,
-    /// What the load filter was asked.
+    /// What the load filter was asked, and where the low bounds lay.
     filter: [u64; QUESTIONS],
+    places: [u64; PLACES],
     fetch: [u64; COLUMNS],
     /// Of a long word whose first half passed; apart from those whose second half would be at 2^32.
     second_half: [u64; COLUMNS],
@@ -51,6 +62,8 @@ pub struct Coverage {
     unknown_halves: [u64; HALVES.len()],
     refused: [u64; 6],
     refused_also: [[u64; 6]; 6],
+    /// Windows that break one limit, with nothing else or with each other reason.
+    windows: [[u64; WITH.len()]; WINDOW_FAULTS.len()],
     runs: [u64; RUNS.len()],
     retired: u64,
     trapped: u64,
@@ -126,6 +139,7 @@ impl Coverage {
             rows: vec![[0; COLUMNS]; table.rows.len()],
             pairs: vec![[0; PAIRS]; table.rows.len()],
             filter: [0; QUESTIONS],
+            places: [0; PLACES],
             fetch: [0; COLUMNS],
             second_half: [0; COLUMNS],
             second_half_at_top: [0; COLUMNS],
@@ -133,6 +147,7 @@ impl Coverage {
             unknown_halves: [0; HALVES.len()],
             refused: [0; 6],
             refused_also: [[0; 6]; 6],
+            windows: [[0; WITH.len()]; WINDOW_FAULTS.len()],
             runs: [0; RUNS.len()],
             retired: 0,
             trapped: 0,
@@ -148,6 +163,7 @@ impl Coverage {
         let lowest = reasons.iter().position(|&reason| reason).unwrap_or(0);
         self.misrefused += u64::from(answer.number != lowest as u64);
         if lowest != 0 {
+            self.count_window(case, reasons);
             return self.count_refusal(lowest, reasons);
         }
         let retired = answer.retired;
@@ -162,6 +178,21 @@ impl Coverage {
     fn count_refusal(&mut self, number: usize, reasons: [bool; 6]) {
         self.refused[number] += 1;
         for (count, also) in self.refused_also[number].iter_mut().zip(reasons) {
+            *count += u64::from(also);
+        }
+    }
+
+    /// Counts a window that breaks one of its limits.
+    fn count_window(&mut self, case: &Case, reasons: [bool; 6]) {
+        let faults = window_faults(&case.state);
+        let [fault] = faults[..] else {
+            return;
+        };
+        let [_, one, _, three, four, five] = reasons;
+        let others = [one, !memory_allowed(&case.state), three, four, five];
+        let counts = &mut self.windows[fault];
+        counts[0] += u64::from(others == [false; 5]);
+        for (count, also) in counts[1..].iter_mut().zip(others) {
             *count += u64::from(also);
         }
     }
@@ -216,6 +247,9 @@ impl Coverage {
         if table.rows[index].aim == Aim::Load(8) {
             if let Some(question) = filter::question(before, word) {
                 self.filter[question] += 1;
+            }
+            if let Some(place) = filter::place(before, word) {
+                self.places[place] += 1;
             }
         }
         if let Some(more) = retired_how(&table.rows[index], word, before, after) {
@@ -273,7 +307,10 @@ impl Coverage {
             }
         }
         for (question, &count) in self.filter.iter().enumerate() {
-            cells.push((filter::name(question), count));
+            cells.push((filter::question_name(question), count));
+        }
+        for (place, &count) in self.places.iter().enumerate() {
+            cells.push((filter::place_name(place), count));
         }
         for (what, outcomes, counts) in self.fetches() {
             for &outcome in outcomes {
@@ -291,6 +328,11 @@ impl Coverage {
             for also in number..=5 {
                 let cell = format!("refused {number} with reason {also}");
                 cells.push((cell, self.refused_also[number][also]));
+            }
+        }
+        for (fault, counts) in WINDOW_FAULTS.iter().zip(&self.windows) {
+            for (with, &count) in WITH.iter().zip(counts) {
+                cells.push((format!("a window whose {fault}, {with}"), count));
             }
         }
         for (kind, &count) in RUNS.iter().zip(&self.runs) {
@@ -334,7 +376,10 @@ impl Coverage {
             let _ = writeln!(text, "{:28}{}", row.name, line(&row.outcomes, counts));
         }
         for (question, count) in self.filter.iter().enumerate() {
-            let _ = writeln!(text, "{}   {count}", filter::name(question));
+            let _ = writeln!(text, "{}   {count}", filter::question_name(question));
+        }
+        for (place, count) in self.places.iter().enumerate() {
+            let _ = writeln!(text, "{}   {count}", filter::place_name(place));
         }
         for (what, outcomes, counts) in self.fetches() {
             let _ = writeln!(text, "{what:28}{}", line(outcomes, counts));
@@ -354,6 +399,17 @@ impl Coverage {
                 "refused {number}   {}{}",
                 self.refused[number],
                 also.concat()
+            );
+        }
+        for (fault, counts) in WINDOW_FAULTS.iter().zip(&self.windows) {
+            let counts: Vec<_> = WITH.iter().zip(counts).collect();
+            let shown = counts
+                .iter()
+                .map(|(with, count)| format!(" {with} {count}"));
+            let _ = writeln!(
+                text,
+                "a window whose {fault}  {}",
+                shown.collect::<String>()
             );
         }
         for (kind, count) in RUNS.iter().zip(&self.runs) {

@@ -1,8 +1,9 @@
-//! What the load filter was asked (document 01, "Loading capabilities"; document 02, 4): which of
-//! the rights that spare a value it has, and what the revocation bits say of its low bound.
+//! What the load filter was asked (document 01, "Loading capabilities"; document 02, 4 and 5): which
+//! of the rights that spare a value it has, what the revocation bits say of its low bound, and where
+//! that lies by the window's ends.
 
 use crate::state::as_second;
-use lent::{State, GRANULE};
+use lent::{Revocation, State, GRANULE};
 use second::capability::{bounds, has, rights, MC, SE, U0, US};
 
 /// The rights that spare a value, each alone and together.
@@ -23,9 +24,33 @@ const BITS: [&str; 3] = ["outside", "clear", "marked"];
 /// How many questions there are.
 pub const QUESTIONS: usize = SPARED.len() * BITS.len();
 
-/// The number of the question that a CLC asks, where the value that it reads is tagged and the
-/// authority leaves it its tag.
-pub fn question(before: &State, word: u32) -> Option<usize> {
+/// Where the low bound of a value that nothing spares can lie.
+const EDGES: [&str; 12] = [
+    "before the window",
+    "at the window's first byte, clear",
+    "at the window's first byte, marked",
+    "at the window's last byte, clear",
+    "at the window's last byte, marked",
+    "after the window, in memory",
+    "after the window and memory",
+    "below memory",
+    "at an empty window in memory",
+    "at an empty window at memory's end",
+    "over 64 KiB into the window, clear",
+    "over 64 KiB into the window, marked",
+];
+
+/// How many such places there are.
+pub const PLACES: usize = EDGES.len();
+
+/// A value that a CLC reads: which of the rights it has that spare it, and its low bound.
+struct Read {
+    spared: u32,
+    low: u32,
+}
+
+/// The value that a CLC reads, where it is tagged and the authority leaves it its tag.
+fn read(before: &State, word: u32) -> Option<Read> {
     let authority = before.capability((word >> 15 & 31) as usize);
     let address = authority.address.wrapping_add((word as i32 >> 20) as u32);
     if !has(authority.metadata, MC) || !before.tagged(address.into()) {
@@ -37,21 +62,56 @@ pub fn question(before: &State, word: u32) -> Option<usize> {
         tag: 1,
     };
     let value = as_second(value);
+    let (low, _) = bounds(value.address, value.metadata);
     // US is the lowest of the three.
     let spared = (rights(value.metadata) & (US | SE | U0)) / US;
-    let (low, _) = bounds(value.address, value.metadata);
+    Some(Read { spared, low })
+}
+
+/// The number of the question that a CLC asks.
+pub fn question(before: &State, word: u32) -> Option<usize> {
+    let Read { spared, low } = read(before, word)?;
     let bit = match before.revocation(low) {
-        None => 0,
-        Some(false) => 1,
-        Some(true) => 2,
+        Revocation::Outside => 0,
+        Revocation::Clear => 1,
+        Revocation::Marked => 2,
     };
     Some(spared as usize * BITS.len() + bit)
 }
 
 /// A question in words.
-pub fn name(question: usize) -> String {
+pub fn question_name(question: usize) -> String {
     let [spared, bit] = [question / BITS.len(), question % BITS.len()];
     format!("CLC of a value with {}, {}", SPARED[spared], BITS[bit])
+}
+
+/// The number of the place of a low bound, where the bits decide about the value.
+pub fn place(before: &State, word: u32) -> Option<usize> {
+    let Read { spared: 0, low } = read(before, word)? else {
+        return None;
+    };
+    let Some(offset) = low.checked_sub(before.start) else {
+        return Some(7);
+    };
+    let (offset, window) = (u64::from(offset), before.window);
+    let (first, end) = (u64::from(window.start), window.end());
+    let marked = usize::from(before.revocation(low) == Revocation::Marked);
+    let at_end = end == before.mem.len() as u64;
+    match window.size {
+        0 if offset == first => Some(8 + usize::from(at_end)),
+        0 => None,
+        _ if offset + 1 == first => Some(0),
+        _ if offset == first => Some(1 + marked),
+        _ if offset + 1 == end => Some(3 + marked),
+        _ if offset == end => Some(5 + usize::from(at_end)),
+        _ if offset >= first + (1 << 16) && offset < end => Some(10 + marked),
+        _ => None,
+    }
+}
+
+/// A place in words.
+pub fn place_name(place: usize) -> String {
+    format!("CLC by a low bound {}", EDGES[place])
 }
 
 #[cfg(test)]
@@ -59,6 +119,7 @@ mod tests {
     use super::*;
     use crate::capabilities::root;
     use crate::state::lend;
+    use lent::Window;
     use second::capability::set_bounds;
 
     const START: u32 = 0x2000_0000;
@@ -75,11 +136,44 @@ mod tests {
             for low in [START - 1, START + 63, START + 64] {
                 let token = set_bounds(root(0b100000 | code, low), 1);
                 state.write_capability(START + 8, lend(token));
-                asked.extend(question(&state, CLC).map(name));
+                asked.extend(question(&state, CLC).map(question_name));
             }
         }
-        assert_eq!(asked, (0..QUESTIONS).map(name).collect::<Vec<_>>());
+        assert_eq!(asked, (0..QUESTIONS).map(question_name).collect::<Vec<_>>());
         state.set_tag(START + 8, false);
         assert_eq!(question(&state, CLC), None);
+    }
+
+    #[test]
+    fn each_place_is_told_from_the_others() {
+        let told = |size: usize, start: u32, bytes: u32, marked: bool, low: u32| {
+            let window = Window { start, size: bytes };
+            let mut state = State::new(START, vec![0; size]).with_window(window);
+            state.revoked.fill(if marked { 0xFF } else { 0 });
+            state.set(1, lend(root(0b111111, START)));
+            let value = set_bounds(root(0b111111, START.wrapping_add(low)), 1);
+            state.write_capability(START + 8, lend(value));
+            place(&state, CLC)
+        };
+        let places = [
+            told(192, 64, 64, true, 63),
+            told(192, 64, 64, false, 64),
+            told(192, 64, 64, true, 64),
+            told(192, 64, 64, false, 127),
+            told(192, 64, 64, true, 127),
+            told(192, 64, 64, true, 128),
+            told(192, 64, 128, true, 192),
+            told(192, 0, 192, true, !0),
+            told(192, 64, 0, true, 64),
+            told(192, 192, 0, true, 192),
+            told(1 << 17, 64, 1 << 16, false, 1 << 16),
+            told(1 << 17, 0, 1 << 17, true, 1 << 16),
+        ];
+        let wanted: Vec<_> = (0..PLACES).map(Some).collect();
+        assert_eq!(places[..10], wanted[..10]);
+        assert_eq!(places[10], None);
+        assert_eq!(places[11], Some(11));
+        assert_eq!(told(1 << 17, 0, 1 << 17, false, 1 << 16), Some(10));
+        assert_eq!(told(192, 0, 192, true, 80), None);
     }
 }

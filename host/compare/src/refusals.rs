@@ -1,9 +1,9 @@
-//! Buffers that are refused (document 01, "Answers"): each reason in each of its ways, and
-//! several reasons at once.
+//! Buffers that are refused (document 01, "Answers"; document 02, 5): each reason in each of its
+//! ways, and several reasons at once.
 
 use crate::random::Random;
 use crate::state::{Call, Case};
-use lent::{State, CAPABILITIES, MOST_STEPS, WORDS};
+use lent::{State, Window, BLOCK, CAPABILITIES, MOST_MEMORY, MOST_STEPS, WORDS};
 
 /// Breaks a good case in one way, or in several at once.
 pub fn spoil(random: &mut Random, case: &mut Case) {
@@ -21,7 +21,14 @@ pub fn spoil(random: &mut Random, case: &mut Case) {
         case.state.regs.resize(length, 0);
     }
     if wanted(2) {
-        spoil_memory(random, &mut case.state);
+        let both = random.one_in(8);
+        let window = random.one_in(2);
+        if both || !window {
+            spoil_memory(random, &mut case.state);
+        }
+        if both || window {
+            spoil_window(random, &mut case.state);
+        }
     }
     if wanted(3) {
         spoil_bits(random, &mut case.state);
@@ -32,7 +39,7 @@ pub fn spoil(random: &mut Random, case: &mut Case) {
     }
 }
 
-/// A start or a size that breaks a limit; the bits keep to the size.
+/// A start or a size that breaks a limit; the window and the bits keep to the size.
 fn spoil_memory(random: &mut Random, state: &mut State) {
     let size = match random.below(10) {
         0 => 0,
@@ -41,7 +48,7 @@ fn spoil_memory(random: &mut Random, state: &mut State) {
         3 => state.mem.len() + 1,
         4 => state.mem.len() - 1,
         5 => state.mem.len() + 32,
-        6 => random.pick([65_537, 65_600, 131_072]),
+        6 if random.one_in(8) => random.pick([MOST_MEMORY + 1, MOST_MEMORY + 64, 2 * MOST_MEMORY]),
         _ => state.mem.len(),
     };
     if size == state.mem.len() {
@@ -51,9 +58,45 @@ fn spoil_memory(random: &mut Random, state: &mut State) {
             _ => 0xFFFF_FFF8,
         };
     }
+    if size == state.mem.len() {
+        return;
+    }
     state.mem.resize(size, 0x13);
-    state.tags.resize(size / 64, 0);
-    state.revoked.resize(size / 64, 0);
+    state.tags.resize(size / BLOCK, 0);
+    state.window = Window::whole(size / BLOCK * BLOCK);
+    state.revoked.resize(size / BLOCK, 0);
+}
+
+/// A window that breaks one of its limits, or any; the bits keep to its size unless that is huge.
+fn spoil_window(random: &mut Random, state: &mut State) {
+    let size = state.mem.len() as u32;
+    let odd = 1 + random.below(63);
+    let odd = random.pick([odd, 8, 32]);
+    let block = 64 * random.below(size / 64 + 1);
+    let top = 0u32.wrapping_sub(64);
+    let (start, bytes) = match random.below(6) {
+        0 => (block.saturating_sub(64) + odd, 0),
+        1 => (odd, block.saturating_sub(64)),
+        2 => (0, block.saturating_sub(64) + odd),
+        3 => random.pick([
+            (size, 64),
+            (size + 64, 0),
+            (64, size),
+            (0, size + 64),
+            (block, size - block + 64),
+        ]),
+        4 => random.pick([
+            (top, 64),
+            (top, 0),
+            (64, top),
+            (top, top),
+            (64, 0u32.wrapping_sub(128)),
+        ]),
+        _ => (random.number(), random.number()),
+    };
+    state.window = Window { start, size: bytes };
+    let least = (bytes as usize / BLOCK).min(4 * MOST_MEMORY / BLOCK);
+    state.revoked.resize(least, 0);
 }
 
 /// Tags or revocation bits that are too short or too long.
@@ -81,13 +124,36 @@ fn spoil_words(random: &mut Random, state: &mut State) {
     }
 }
 
+/// The limits of a window, as they are broken.
+pub const WINDOW_FAULTS: [&str; 3] = [
+    "start is no multiple of 64",
+    "size is no multiple of 64",
+    "end is past memory's",
+];
+
+/// The numbers of the limits that a window breaks.
+pub fn window_faults(state: &State) -> Vec<usize> {
+    let Window { start, size } = state.window;
+    let broken = [
+        !start.is_multiple_of(64),
+        !size.is_multiple_of(64),
+        state.window.end() > state.mem.len() as u64,
+    ];
+    (0..3).filter(|&fault| broken[fault]).collect()
+}
+
+/// Whether memory itself keeps its limits.
+pub fn memory_allowed(state: &State) -> bool {
+    let size = state.mem.len();
+    let fits = (64..=MOST_MEMORY).contains(&size) && state.end() <= 1 << 32;
+    fits && size.is_multiple_of(64) && state.start.is_multiple_of(8)
+}
+
 /// Which of the reasons 1 to 5 there are to refuse a case; number 0 is never used.
 pub fn reasons(case: &Case) -> [bool; 6] {
     let state = &case.state;
-    let size = state.mem.len();
-    let memory_fits = (64..=65_536).contains(&size) && state.end() <= 1 << 32;
-    let memory_aligned = size.is_multiple_of(64) && state.start.is_multiple_of(8);
-    let bits_fit = [state.tags.len(), state.revoked.len()] == [size / 64; 2];
+    let wanted = [state.mem.len(), state.window.size as usize].map(|size| size / BLOCK);
+    let bits_fit = [state.tags.len(), state.revoked.len()] == wanted;
     let tag_words = state.regs.chunks(3).take(CAPABILITIES);
     let tags_fit = tag_words
         .filter_map(|words| words.get(2))
@@ -96,7 +162,7 @@ pub fn reasons(case: &Case) -> [bool; 6] {
     [
         false,
         state.regs.len() != WORDS,
-        !(memory_fits && memory_aligned),
+        !memory_allowed(state) || !window_faults(state).is_empty(),
         !bits_fit,
         !(tags_fit && zero),
         matches!(case.call, Call::Run(steps) if steps > MOST_STEPS),

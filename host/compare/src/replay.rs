@@ -1,8 +1,8 @@
-//! A case as text that anyone can rerun: the call, the start, and the size of each buffer with
-//! its words or bytes that are not zero.
+//! A case as text that anyone can rerun: the call, the start, the window, and the size of each
+//! buffer with its words or bytes that are not zero.
 
 use crate::state::{Call, Case};
-use lent::{word_name, State};
+use lent::{word_name, State, Window};
 use std::fmt::Write;
 
 /// Bytes on a line.
@@ -17,6 +17,8 @@ pub fn write(case: &Case) -> String {
     };
     let state = &case.state;
     let _ = writeln!(text, "start {:08x}", state.start);
+    let Window { start, size } = state.window;
+    let _ = writeln!(text, "window {start:08x} {size:08x}");
     let _ = writeln!(text, "words {:x}", state.regs.len());
     for (index, word) in state.regs.iter().enumerate().filter(|(_, &word)| word != 0) {
         let _ = writeln!(text, "word {index:x} {word:08x} # {}", word_name(index));
@@ -57,6 +59,12 @@ fn read_line(case: &mut Case, filling: &mut usize, parts: &[&str]) -> Option<()>
         ["step"] => case.call = Call::Step,
         ["run", steps] => case.call = Call::Run(number(steps)?),
         ["start", start] => state.start = number(start)?,
+        ["window", start, size] => {
+            state.window = Window {
+                start: number(start)?,
+                size: number(size)?,
+            };
+        }
         ["words", count] => state.regs.resize(number(count)? as usize, 0),
         ["word", index, word] => *state.regs.get_mut(number(index)? as usize)? = number(word)?,
         ["bytes", at, digits] => read_bytes(buffer(state, *filling), number(at)? as usize, digits)?,

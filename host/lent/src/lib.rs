@@ -1,5 +1,5 @@
-//! What is lent to a machine (document 01, "What is lent"), good or bad, and the answer. It knows no
-//! machine: each is a function on slices.
+//! What is lent to a machine (document 01, "What is lent"; document 02, 5), good or bad, and the
+//! answer. It knows no machine: each is a function on slices.
 
 #![forbid(unsafe_code)]
 
@@ -12,10 +12,54 @@ pub use registers::*;
 /// The bytes of a granule, which has one tag and one revocation bit.
 pub const GRANULE: usize = 8;
 
-/// A machine's step: registers, start, memory, tags, revocation bits; its answer.
-pub type Step = fn(&mut [u32], u32, &mut [u8], &mut [u8], &[u8]) -> u64;
+/// The bytes that one byte of tags or of revocation bits is for.
+pub const BLOCK: usize = 8 * GRANULE;
+
+/// The most bytes of memory.
+pub const MOST_MEMORY: usize = 1 << 20;
+
+/// The part of memory that the revocation bits are for; its start is counted from memory's.
+#[derive(Clone, Copy, PartialEq, Eq, Debug, Default)]
+pub struct Window {
+    pub start: u32,
+    pub size: u32,
+}
+
+impl Window {
+    /// All of a memory of so many bytes.
+    pub fn whole(size: usize) -> Window {
+        Window {
+            start: 0,
+            size: size as u32,
+        }
+    }
+
+    /// The offset into memory after its last byte.
+    pub fn end(self) -> u64 {
+        u64::from(self.start) + u64::from(self.size)
+    }
+}
+
+/// What is lent as numbers: memory's start, and the window.
+#[derive(Clone, Copy, PartialEq, Eq, Debug, Default)]
+pub struct Board {
+    pub start: u32,
+    pub window: Window,
+}
+
+/// What the revocation bits say of an address.
+#[derive(Clone, Copy, PartialEq, Eq, Debug)]
+pub enum Revocation {
+    /// The window does not hold it.
+    Outside,
+    Clear,
+    Marked,
+}
+
+/// A machine's step: registers, the board's numbers, memory, tags, revocation bits; its answer.
+pub type Step = fn(&mut [u32], Board, &mut [u8], &mut [u8], &[u8]) -> u64;
 /// A machine's run, with its number of steps after the rest.
-pub type Run = fn(&mut [u32], u32, &mut [u8], &mut [u8], &[u8], u32) -> u64;
+pub type Run = fn(&mut [u32], Board, &mut [u8], &mut [u8], &[u8], u32) -> u64;
 
 /// Everything that is lent.
 #[derive(Clone, PartialEq, Eq, Debug, Default)]
@@ -24,11 +68,12 @@ pub struct State {
     pub start: u32,
     pub mem: Vec<u8>,
     pub tags: Vec<u8>,
+    pub window: Window,
     pub revoked: Vec<u8>,
 }
 
 /// The byte among the tags, and the bit in it, of the granule that holds an offset into memory; the
-/// revocation bits have the same order.
+/// revocation bits have the same order, from the window's start on.
 fn bit_of(offset: usize) -> (usize, u8) {
     let granule = offset / GRANULE;
     (granule / 8, 1 << (granule % 8))
@@ -44,15 +89,25 @@ pub fn instruction_bytes(instruction: u32) -> u32 {
 }
 
 impl State {
-    /// Memory with null registers, and without tags or revoked granules.
+    /// Memory with null registers, without tags or revoked granules; the window is all of it.
     pub fn new(start: u32, mem: Vec<u8>) -> State {
-        let bytes = mem.len() / (8 * GRANULE);
+        let bytes = mem.len() / BLOCK;
         State {
             regs: vec![0; WORDS],
             start,
+            window: Window::whole(mem.len()),
             mem,
             tags: vec![0; bytes],
             revoked: vec![0; bytes],
+        }
+    }
+
+    /// The same with another window, without revoked granules in it.
+    pub fn with_window(self, window: Window) -> State {
+        State {
+            window,
+            revoked: vec![0; window.size as usize / BLOCK],
+            ..self
         }
     }
 
@@ -70,14 +125,24 @@ impl State {
 
     /// Makes a machine's step.
     pub fn step(&mut self, step: Step) -> u64 {
+        let board = self.board();
         let (mem, tags) = (&mut self.mem, &mut self.tags);
-        step(&mut self.regs, self.start, mem, tags, &self.revoked)
+        step(&mut self.regs, board, mem, tags, &self.revoked)
     }
 
     /// Makes a machine's run.
     pub fn run(&mut self, run: Run, steps: u32) -> u64 {
+        let board = self.board();
         let (mem, tags) = (&mut self.mem, &mut self.tags);
-        run(&mut self.regs, self.start, mem, tags, &self.revoked, steps)
+        run(&mut self.regs, board, mem, tags, &self.revoked, steps)
+    }
+
+    /// What is lent as numbers.
+    pub fn board(&self) -> Board {
+        Board {
+            start: self.start,
+            window: self.window,
+        }
     }
 
     /// A word of the register file, 0 past its end.
@@ -175,16 +240,27 @@ impl State {
         }
     }
 
-    /// Whether the granule that holds an address is marked as revoked; outside memory there is no
-    /// bit.
-    pub fn revocation(&self, address: u32) -> Option<bool> {
-        let (byte, bit) = bit_of(self.offset(address, 1)?);
-        Some(self.revoked.get(byte)? & bit != 0)
+    /// What the revocation bits say of the granule that holds an address.
+    pub fn revocation(&self, address: u32) -> Revocation {
+        let bit = self.revocation_bit(address);
+        match bit.and_then(|(byte, bit)| Some(self.revoked.get(byte)? & bit != 0)) {
+            None => Revocation::Outside,
+            Some(false) => Revocation::Clear,
+            Some(true) => Revocation::Marked,
+        }
     }
 
-    /// Sets the revocation bit of a granule in memory.
+    /// The byte among the revocation bits, and the bit in it, of the granule that holds an address
+    /// in the window.
+    fn revocation_bit(&self, address: u32) -> Option<(usize, u8)> {
+        let offset = u64::from(address).checked_sub(self.start.into())?;
+        let place = offset.checked_sub(self.window.start.into())?;
+        (place < self.window.size.into()).then(|| bit_of(place as usize))
+    }
+
+    /// Sets the revocation bit of a granule in the window.
     pub fn revoke(&mut self, address: u32) {
-        if let Some((byte, bit)) = self.offset(address, GRANULE).map(bit_of) {
+        if let Some((byte, bit)) = self.revocation_bit(address) {
             if let Some(revoked) = self.revoked.get_mut(byte) {
                 *revoked |= bit;
             }
@@ -212,8 +288,32 @@ mod tests {
         state.revoke(START + 127);
         state.revoke(START + 120);
         assert_eq!(state.revoked, [0, 0x80]);
-        let revoked = [119, 120, 127, 128].map(|offset| state.revocation(START + offset));
-        assert_eq!(revoked, [Some(false), Some(true), Some(true), None]);
+    }
+
+    #[test]
+    fn revocation_bits_are_counted_from_the_windows_start() {
+        use Revocation::{Clear, Marked, Outside};
+        let window = Window {
+            start: 64,
+            size: 128,
+        };
+        let mut state = State::new(START, vec![0; 256]).with_window(window);
+        for offset in [63, 64, 191, 192] {
+            state.revoke(START + offset);
+        }
+        assert_eq!(state.revoked, [1, 0x80]);
+        let said = |offset: u32| state.revocation(START.wrapping_add(offset));
+        let offsets = [0u32.wrapping_sub(1), 0, 63, 64, 71, 72, 183, 184, 191, 192];
+        let all = [Outside, Outside, Outside, Marked, Marked, Clear, Clear];
+        assert_eq!(offsets.map(said)[..7], all);
+        assert_eq!(offsets.map(said)[7..], [Marked, Marked, Outside]);
+        let mut empty = state.with_window(Window {
+            start: 256,
+            size: 0,
+        });
+        empty.revoke(START + 256);
+        assert_eq!(empty.revocation(START + 256), Outside);
+        assert_eq!(empty.revoked, []);
     }
 
     #[test]

@@ -20,6 +20,8 @@ unsafe extern "C" {
     pub safe fn bounds_high(address: u32, metadata: u32) -> u64;
 }
 
+use lent::Board;
+
 /// A function of the machine. The step and the run take the same lent buffers, so their arguments stand
 /// here once; the run has its number of steps after them.
 macro_rules! machine_function {
@@ -34,6 +36,8 @@ macro_rules! machine_function {
                 mem_len: usize,
                 tags: *mut u8,
                 tags_len: usize,
+                window_start: u32,
+                window_size: u32,
                 revoked: *const u8,
                 revoked_len: usize,
                 $($steps: $number,)?
@@ -43,7 +47,7 @@ macro_rules! machine_function {
         $(#[$doc])*
         #[inline]
         pub fn $name(
-            regs: &mut [u32], start: u32, mem: &mut [u8], tags: &mut [u8], revoked: &[u8],
+            regs: &mut [u32], board: Board, mem: &mut [u8], tags: &mut [u8], revoked: &[u8],
             $($steps: $number,)?
         ) -> u64 {
             // SAFETY: each pointer is of a live slice with as many elements as the count after it
@@ -52,11 +56,13 @@ macro_rules! machine_function {
                 $declared(
                     regs.as_mut_ptr(),
                     regs.len(),
-                    start,
+                    board.start,
                     mem.as_mut_ptr(),
                     mem.len(),
                     tags.as_mut_ptr(),
                     tags.len(),
+                    board.window.start,
+                    board.window.size,
                     revoked.as_ptr(),
                     revoked.len(),
                     $($steps,)?

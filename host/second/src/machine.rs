@@ -1,5 +1,6 @@
 //! The machine: lent state and its refusals, fetch, every instruction, traps, a step and a
-//! run (document 01, "What is lent", "Answers" and "Traps"; the CHERIoT report, 7 and 9).
+//! run (document 01, "What is lent", "Answers" and "Traps"; document 02, 5; the CHERIoT report, 7 and
+//! 9).
 
 #[cfg(test)]
 mod tests;
@@ -13,6 +14,7 @@ use crate::decode::{
     LoadWidth, Operand, Pairing, Query, Register, Special, StoreWidth, CGP, LONG_BYTES,
     SHORT_BYTES,
 };
+use lent::Board;
 
 // Places in the register file, counted in capabilities, then in words.
 const PCC: usize = 16;
@@ -25,6 +27,9 @@ const MSTATUS: usize = 63;
 const MCAUSE: usize = 64;
 const MTVAL: usize = 65;
 const WORDS: usize = 66;
+
+/// The most bytes of memory (document 02, 5).
+const MOST_MEMORY: usize = 1 << 20;
 
 // The two bits of mstatus that mean anything here.
 const MIE: u32 = 1 << 3;
@@ -146,15 +151,32 @@ struct Machine<'a> {
     start: u32,
     memory: &'a mut [u8],
     tags: &'a mut [u8],
+    /// The first address that has a revocation bit, and the first after those that have one.
+    window: (u64, u64),
     revoked: &'a [u8],
+}
+
+/// What the revocation bits say of an address (document 02, 5).
+enum Revocation {
+    Outside,
+    Clear,
+    Marked,
 }
 
 /// Whether the memory's start and size keep the limits.
 fn memory_allowed(start: u32, size: usize) -> bool {
-    (64..=65_536).contains(&size)
+    (64..=MOST_MEMORY).contains(&size)
         && size.is_multiple_of(64)
         && start.is_multiple_of(8)
         && u64::from(start) + size as u64 <= capability::SPACE
+}
+
+/// Whether the window's start and size keep theirs: multiples of 64, inside a memory of this size.
+/// A window of no bytes is one too.
+fn window_allowed(start: u32, size: u32, memory: usize) -> bool {
+    start.is_multiple_of(64)
+        && size.is_multiple_of(64)
+        && u64::from(start) + u64::from(size) <= memory as u64
 }
 
 /// Whether every tag word is 0 or 1 and c0 is all zero.
@@ -167,27 +189,29 @@ impl<'a> Machine<'a> {
     /// Checks lent state: the machine, or the number of the refusal, the lowest first.
     fn lent(
         words: &'a mut [u32],
-        start: u32,
+        board: Board,
         memory: &'a mut [u8],
         tags: &'a mut [u8],
         revoked: &'a [u8],
     ) -> Result<Machine<'a>, u64> {
         let words: &mut [u32; WORDS] = words.try_into().map_err(|_| 1u64)?;
-        let size = memory.len();
-        if !memory_allowed(start, size) {
+        let (start, window, size) = (board.start, board.window, memory.len());
+        if !memory_allowed(start, size) || !window_allowed(window.start, window.size, size) {
             return Err(2);
         }
-        if tags.len() != size / 64 || revoked.len() != size / 64 {
+        if tags.len() != size / 64 || revoked.len() != window.size as usize / 64 {
             return Err(3);
         }
         if !words_allowed(words) {
             return Err(4);
         }
+        let first = u64::from(start) + u64::from(window.start);
         Ok(Machine {
             words,
             start,
             memory,
             tags,
+            window: (first, first + u64::from(window.size)),
             revoked,
         })
     }
@@ -248,14 +272,23 @@ impl<'a> Machine<'a> {
         Some(())
     }
 
-    /// The bit of the granule that holds an address, 0 outside memory; `bits` are the tags or
-    /// the revocation bits, both ordered alike.
-    fn granule_bit(&self, bits: &[u8], address: u32) -> u32 {
-        let Some(offset) = address.checked_sub(self.start) else {
-            return 0;
-        };
-        let byte = bits.get(offset as usize / 64).copied().unwrap_or(0);
-        u32::from(byte >> (offset / 8 % 8) & 1)
+    /// The tag of the granule that holds an address, 0 outside memory.
+    fn tag_at(&self, address: u32) -> u32 {
+        let offset = address.checked_sub(self.start);
+        offset.map_or(0, |offset| bit(self.tags, offset.into()))
+    }
+
+    /// What the revocation bits say of the granule that holds an address: their first is that of
+    /// the window's first granule.
+    fn revocation(&self, address: u32) -> Revocation {
+        let (address, (first, end)) = (u64::from(address), self.window);
+        if address < first || address >= end {
+            return Revocation::Outside;
+        }
+        match bit(self.revoked, address - first) {
+            0 => Revocation::Clear,
+            _ => Revocation::Marked,
+        }
     }
 
     /// One step: true if it retired, false if it trapped.
@@ -494,10 +527,14 @@ impl<'a> Machine<'a> {
         let value = Capability {
             address: both as u32,
             metadata: (both >> 32) as u32,
-            tag: self.granule_bit(self.tags, address),
+            tag: self.tag_at(address),
         };
         let authority_rights = rights(self.register(cs1).metadata);
-        let revoked = |low| self.granule_bit(self.revoked, low) == 1;
+        // Outside the window counts as clear.
+        let revoked = |low| match self.revocation(low) {
+            Revocation::Outside | Revocation::Clear => false,
+            Revocation::Marked => true,
+        };
         let loaded = capability::load_filter(value, authority_rights, revoked);
         self.set_register(cd, loaded);
         Ok(())
@@ -711,6 +748,12 @@ impl<'a> Machine<'a> {
     }
 }
 
+/// The bit for the granule at an offset: the lowest bit of a byte is the first granule's.
+fn bit(bits: &[u8], offset: u64) -> u32 {
+    let byte = bits.get(offset as usize / 64).copied().unwrap_or(0);
+    u32::from(byte >> (offset / 8 % 8) & 1)
+}
+
 /// A word read with its sign.
 fn signed(word: u32) -> i64 {
     i64::from(word as i32)
@@ -770,21 +813,27 @@ fn answer(number: u64, trapped: u32, retired: u32) -> u64 {
 }
 
 /// One step on lent state: a run of one.
-pub fn step(regs: &mut [u32], start: u32, mem: &mut [u8], tags: &mut [u8], revoked: &[u8]) -> u64 {
-    run(regs, start, mem, tags, revoked, 1)
+pub fn step(
+    regs: &mut [u32],
+    board: Board,
+    mem: &mut [u8],
+    tags: &mut [u8],
+    revoked: &[u8],
+) -> u64 {
+    run(regs, board, mem, tags, revoked, 1)
 }
 
 /// A run of steps on lent state: number * 2^48 + trapped * 2^24 + retired. A refused call
 /// changes nothing and counts nothing (document 01, "Answers").
 pub fn run(
     regs: &mut [u32],
-    start: u32,
+    board: Board,
     mem: &mut [u8],
     tags: &mut [u8],
     revoked: &[u8],
     steps: u32,
 ) -> u64 {
-    let mut machine = match Machine::lent(regs, start, mem, tags, revoked) {
+    let mut machine = match Machine::lent(regs, board, mem, tags, revoked) {
         Ok(machine) => machine,
         Err(number) => return answer(number, 0, 0),
     };

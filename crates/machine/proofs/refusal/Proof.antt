@@ -1,4 +1,4 @@
--- The five tests are those of the definition.
+-- The six tests are those of the definition.
 use Rattle.machine.specs.Refusals.{goodBits, refusalOf}
 use borrow.Author.Needs.{needs}
 use Rattle.machine.proofs.refusal.Statement.{statement}
@@ -8,12 +8,23 @@ returns : tie.Need-returns
 unfolding refusalOf goodBits
 returns c =
     let sizes = c .before .before in
+    let judged = sizes .before .before in
     simp (
       c .first-refusal .ensures,
       c .before .good-words .ensures,
       sizes .good-lengths .ensures,
-      sizes .before .good-memory .ensures,
+      judged .good-window .ensures,
+      judged .before .good-memory .ensures,
     )
 
 pub refusal-spec : {M : Type 1} → statement M
-refusal-spec = tie.close (tie.spec (λ c κs. search needs) (λ c κs. search needs) (λ c κs. search needs) (λ c κs. search needs) returns)
+refusal-spec =
+    tie.close
+    (tie.spec
+    (λ c κs. search needs)
+    (λ c κs. search needs)
+    (λ c. search needs)
+    (λ c κs. search needs)
+    (λ c κs. search needs)
+    (λ c κs. search needs)
+    returns)

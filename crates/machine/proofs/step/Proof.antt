@@ -1,4 +1,4 @@
--- Refused; or not refused, and the step retires or traps.
+-- Refused; or not refused, and the one turn of the loop retires or traps.
 use mathlib.Core.Path.{sym, _∙_}
 use Rattle.machine.proofs.Laws as laws
 use borrow.Author.Needs.{needs}
@@ -11,18 +11,18 @@ returns c = laws.step-refused _ _ _ _ (c .before .refusal .ensures) (c .if1 .tak
 -- retired
 returns-2 : tie.Need-returns-2
 returns-2 c =
-    let stepped = c .before .before .before .before .before .before .before in
+    let stepped = c .before .before .before .before .before .before .before .before in
     let judged = stepped .before .before .before .before in
     let good = sym (judged .if1 .left) ∙ judged .before .refusal .ensures in
-    laws.step-retired _ _ _ _ _ good (stepped .take-step .ensures .0) (stepped .take-step .ensures .1) (c .if2 .taken)
+    laws.one-retired _ _ _ _ _ _ good (stepped .take-steps .ensures) (c .if2 .taken)
 
 -- trapped
 returns-3 : tie.Need-returns-3
 returns-3 c =
-    let stepped = c .before .before .before .before .before .before .before in
+    let stepped = c .before .before .before .before .before .before .before .before in
     let judged = stepped .before .before .before .before in
     let good = sym (judged .if1 .left) ∙ judged .before .refusal .ensures in
-    laws.step-trapped _ _ _ _ _ good (stepped .take-step .ensures .0) (stepped .take-step .ensures .1) (c .if2 .left)
+    laws.one-trapped _ _ _ _ _ _ good (stepped .take-steps .ensures) (c .if2 .left)
 
 pub step-spec : {M : Type 1} → statement M
 step-spec =

@@ -10,14 +10,16 @@ use crate::save::Place;
 use crate::trap::Trap;
 use crate::{json, report, sheet, state_file, trace, Status};
 use indicatif::{ProgressBar, ProgressStyle};
-use lent::State;
+use lent::{State, Window};
 use std::io::Write;
 use std::path::Path;
 
 const DEFAULT_START: u32 = 0x2000_0000;
 const DEFAULT_SIZE: u64 = 65_536;
-/// The most memory that is made. The machine refuses any above 65,536 bytes with one number, so for
-/// a larger one no more than this is lent.
+/// The region of a map whose granules have revocation bits.
+const HEAP: &str = "heap";
+/// The most memory that is made. The machine refuses any above 1,048,576 bytes with one number, so
+/// for a larger one no more than this is lent, and for a larger window no more bits.
 const MOST_SIZE: u64 = 1 << 24;
 
 pub fn run(asked: Run) -> Result<Status, String> {
@@ -63,7 +65,36 @@ fn start(asked: &Run, names: &Names) -> Result<(State, Image), String> {
         return Err(format!("the image's start, {entry:08x}, is {odd}"));
     }
     let size = asked.size.unwrap_or(map_size).min(MOST_SIZE);
-    Ok((State::reset(start, vec![0; size as usize], entry), images))
+    let state = State::reset(start, vec![0; size as usize], entry);
+    Ok(match window(asked, names, start)? {
+        Some(window) => (windowed(state, window), images),
+        None => (state, images),
+    })
+}
+
+/// The window that is asked for, or the map's; none is all of memory.
+fn window(asked: &Run, names: &Names, start: u32) -> Result<Option<Window>, String> {
+    if let Some(&[start, size]) = asked.window.as_deref() {
+        return Ok(Some(Window { start, size }));
+    }
+    let Some(heap) = names.0.iter().find(|region| region.name == HEAP) else {
+        return Ok(None);
+    };
+    let offset = heap.start.checked_sub(start);
+    let size = u32::try_from(heap.length);
+    match (offset, size) {
+        (Some(start), Ok(size)) => Ok(Some(Window { start, size })),
+        _ => Err("the map's heap begins below memory's start; --window says which part".into()),
+    }
+}
+
+/// A state with a window. Where no memory could hold it, its bits are left as they are: the machine
+/// refuses it before it looks at them.
+fn windowed(state: State, window: Window) -> State {
+    if window.end() > MOST_SIZE {
+        return State { window, ..state };
+    }
+    state.with_window(window)
 }
 
 /// The place to save to. A state may be written over, to go on from it, but no image or sheet.

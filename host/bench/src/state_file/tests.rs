@@ -24,6 +24,7 @@ fn what_is_written_is_read_again() {
         start: 4,
         mem: vec![9; memory],
         tags: vec![1; tags],
+        window: Window { start: 7, size: !0 },
         revoked: Vec::new(),
     };
     let states = [
@@ -37,6 +38,21 @@ fn what_is_written_is_read_again() {
         let text = write(&state);
         assert_eq!(read(text.as_bytes()), Ok(state), "{text}");
     }
+}
+
+#[test]
+fn a_file_of_version_1_has_the_bits_of_all_of_memory() {
+    let state = sample();
+    assert_eq!(state.window, Window::whole(256));
+    let text = write_as(Version::One, &state);
+    assert!(text.starts_with("oddersnow state 1\nstart 20000000\nregisters 66\n"));
+    assert_eq!(read(text.as_bytes()), Ok(state));
+    let window = "window 00000000 00000100\n";
+    let body = &text[..text.rfind("check").unwrap()];
+    let both = body.replacen("registers", &format!("{window}registers"), 1);
+    assert!(read(&checked(&both)).is_err());
+    let mixed = both.replacen("state 1", "state 2", 1);
+    assert!(read(&checked(&mixed)).is_ok());
 }
 
 #[test]
@@ -63,8 +79,12 @@ fn a_right_check_word_does_not_make_another_form_good() {
     let body = &text[..text.rfind("check").unwrap()];
     assert!(read(&checked(body)).is_ok());
     for (old, new) in [
-        ("state 1", "state 2"),
+        ("state 2", "state 1"),
+        ("state 2", "state 3"),
         ("start 2", "start  2"),
+        ("window 00000000 00000100", "window 00000000"),
+        ("window 00000000 00000100", "window 0 100"),
+        ("window 00000000 00000100\n", ""),
         ("registers 66", "registers 066"),
         ("registers 66", "registers 65"),
         ("c1 ", "c2 "),
@@ -93,7 +113,7 @@ fn a_line_with_a_word_too_few_or_too_many_is_named() {
         let changed = body.replacen(line, &format!("{}{more}", &line[..kept]), 1);
         assert_ne!(changed, body);
         let reason = read(&checked(&changed)).unwrap_err();
-        assert!(reason.starts_with("line 11 "), "{reason}");
+        assert!(reason.starts_with("line 12 "), "{reason}");
     }
 }
 

@@ -1,6 +1,6 @@
 //! States for the tests, and the text of their files, written from docs/STATE.md.
 
-use lent::{Capability, State, EXECUTABLE_ROOT, PCC};
+use lent::{Capability, State, Window, EXECUTABLE_ROOT, PCC};
 use std::fmt::Write;
 
 pub const START: u32 = 0x2000_0000;
@@ -18,7 +18,20 @@ pub fn with_code(code: &[u32]) -> State {
 
 /// The text of a state's file.
 pub fn text(state: &State) -> String {
-    let mut text = format!("oddersnow state 1\nstart {:08x}\n", state.start);
+    let mut text = format!("oddersnow state 2\nstart {:08x}\n", state.start);
+    let Window { start, size } = state.window;
+    let _ = writeln!(text, "window {start:08x} {size:08x}");
+    body(text, state)
+}
+
+/// The text of a state's file of version 1, which has no window.
+pub fn old_text(state: &State) -> String {
+    let text = format!("oddersnow state 1\nstart {:08x}\n", state.start);
+    body(text, state)
+}
+
+/// The lines from the registers on.
+fn body(mut text: String, state: &State) -> String {
     let _ = writeln!(text, "registers {}", state.regs.len());
     for (place, words) in state.regs.chunks(3).enumerate().take(21) {
         let special = place

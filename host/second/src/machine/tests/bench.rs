@@ -2,6 +2,7 @@
 
 use crate::capability::{set_bounds, with_type, Capability};
 use crate::machine;
+use lent::{Board, Window};
 
 pub const START: u32 = 0x2000_0000;
 pub const HANDLER: u32 = START + 0xC0;
@@ -63,6 +64,7 @@ pub struct Bench {
     pub start: u32,
     pub mem: Vec<u8>,
     pub tags: Vec<u8>,
+    pub window: Window,
     pub revoked: Vec<u8>,
 }
 
@@ -74,6 +76,7 @@ impl Bench {
             start: START,
             mem: vec![0; 256],
             tags: vec![0; 4],
+            window: Window::whole(256),
             revoked: vec![0; 4],
         };
         bench.set(PCC, tagged(START, EXECUTABLE_ROOT));
@@ -124,10 +127,18 @@ impl Bench {
         self.tags[offset / 64] >> (offset / 8 % 8) & 1
     }
 
+    pub fn board(&self) -> Board {
+        Board {
+            start: self.start,
+            window: self.window,
+        }
+    }
+
     pub fn step(&mut self) -> u64 {
+        let board = self.board();
         machine::step(
             &mut self.regs,
-            self.start,
+            board,
             &mut self.mem,
             &mut self.tags,
             &self.revoked,
@@ -135,9 +146,10 @@ impl Bench {
     }
 
     pub fn run(&mut self, steps: u32) -> u64 {
+        let board = self.board();
         machine::run(
             &mut self.regs,
-            self.start,
+            board,
             &mut self.mem,
             &mut self.tags,
             &self.revoked,

@@ -3,6 +3,7 @@
 use super::bench::*;
 use crate::assemble as asm;
 use crate::capability::{narrow, Capability, GL, LD, LG, LM, MC, SD, SL};
+use lent::Window;
 
 const AT: usize = 0x40;
 
@@ -135,6 +136,49 @@ fn loaded_and_revoked() {
     assert_eq!(loaded(all, above), above);
     let sealing = tagged(START, SEALING_ROOT);
     assert_eq!(loaded(all, sealing), sealing);
+}
+
+// Document 02, 5: the bits are the window's, here of [START + 64, START + 192), its first and its
+// last granule marked; a low bound outside it is not revoked.
+#[test]
+fn loaded_by_the_window() {
+    let loaded = |low: u32| {
+        let mut bench = bench();
+        bench.window = Window {
+            start: 64,
+            size: 128,
+        };
+        bench.revoked = vec![0x01, 0x80];
+        let value = memory(low, 1);
+        bench.put(AT, value);
+        bench.retire(asm::load(3, 3, 1, 0));
+        let kept = bench.get(3);
+        assert_eq!(untagged(kept), untagged(value));
+        kept.tag
+    };
+    for revoked in [64, 71, 184, 191] {
+        assert_eq!(loaded(START + revoked), 0, "{revoked}");
+    }
+    for kept in [0, 63, 72, 183, 192, 255, 256] {
+        assert_eq!(loaded(START + kept), 1, "{kept}");
+    }
+    for kept in [0, START - 1, 64, 191] {
+        assert_eq!(loaded(kept), 1, "{kept:08x}");
+    }
+}
+
+// A window of no bytes has no bits, and nothing is revoked.
+#[test]
+fn loaded_without_bits() {
+    for start in [0, 64, 256] {
+        let mut bench = bench();
+        bench.window = Window { start, size: 0 };
+        bench.revoked.clear();
+        let value = memory(START + start, 1);
+        bench.put(AT, value);
+        bench.retire(asm::load(3, 3, 1, 0));
+        assert_eq!(bench.get(3), value);
+    }
 }
 
 // CLC with cd and cs1 the same register reads the authority first.

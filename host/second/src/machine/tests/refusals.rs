@@ -4,6 +4,7 @@ use super::bench::*;
 use crate::assemble as asm;
 use crate::machine;
 use crate::sample::Sample;
+use lent::{Board, Window};
 
 /// The answer must be a bare refusal and the state as before.
 fn refused(mut bench: Bench, steps: u32, number: u64) {
@@ -30,11 +31,11 @@ fn refusal_1() {
     }
 }
 
-// 2: memory outside its limits: 64 to 65,536 bytes in steps of 64, from a multiple of 8 on, ending
-// at 2^32 at the most.
+// 2: memory outside its limits: 64 to 1,048,576 bytes (document 02, 5) in steps of 64, from a
+// multiple of 8 on, ending at 2^32 at the most.
 #[test]
 fn refusal_2() {
-    for size in [0, 32, 63, 65, 96, 255, 65_600] {
+    for size in [0, 32, 63, 65, 96, 255, 1_048_640] {
         refused(with(|b| b.mem.resize(size, 0)), 1, 2);
     }
     for start in [1, 4, START + 4, 0xFFFF_FFF8, 0xFFFF_FF08] {
@@ -43,11 +44,82 @@ fn refusal_2() {
     let mut last = with(|b| b.start = 0xFFFF_FF00);
     assert_eq!(last.run(0), 0);
     let mut largest = with(|b| {
-        b.mem.resize(65_536, 0);
-        b.tags.resize(1_024, 0);
-        b.revoked.resize(1_024, 0);
+        b.mem.resize(1_048_576, 0);
+        b.tags.resize(16_384, 0);
     });
     assert_eq!(largest.run(0), 0);
+    largest.window = Window::whole(1_048_576);
+    largest.revoked.resize(16_384, 0);
+    assert_eq!(largest.run(0), 0);
+}
+
+/// Another window, with as many bytes of bits as it asks for.
+fn windowed(start: u32, size: u32) -> Bench {
+    with(|b| {
+        b.window = Window { start, size };
+        b.revoked.resize(size as usize / 64, 0);
+    })
+}
+
+// Document 02, 5: a window's start and size are multiples of 64, and it lies in memory, which has
+// 256 bytes here. None of it need be there, and its end does not wrap.
+#[test]
+fn refusal_2_for_a_window() {
+    for (start, size) in [
+        (0, 0),
+        (64, 0),
+        (256, 0),
+        (0, 64),
+        (64, 128),
+        (192, 64),
+        (0, 256),
+    ] {
+        let mut good = windowed(start, size);
+        assert_eq!(good.run(0), 0, "{start} {size}");
+    }
+    for (start, size) in [
+        (32, 64),
+        (8, 0),
+        (255, 0),
+        (0, 32),
+        (0, 65),
+        (64, 256),
+        (256, 64),
+        (320, 0),
+        (0, 320),
+        (0xFFFF_FFC0, 64),
+        (0xFFFF_FFC0, 0),
+        (64, 0xFFFF_FFC0),
+    ] {
+        // No bits: the number 2 comes before any length of them.
+        let mut bad = windowed(0, 0);
+        bad.window = Window { start, size };
+        refused(bad, 1, 2);
+    }
+}
+
+// Document 02, 5: the revocation bits are tested against the window, the tags against memory.
+#[test]
+fn refusal_3_for_a_window() {
+    for (start, size, bytes) in [
+        (64, 128, 4),
+        (64, 128, 1),
+        (0, 0, 1),
+        (256, 0, 4),
+        (0, 256, 0),
+    ] {
+        refused(
+            with(|b| {
+                b.window = Window { start, size };
+                b.revoked.resize(bytes, 0);
+            }),
+            1,
+            3,
+        );
+    }
+    let mut short = windowed(64, 128);
+    short.tags.resize(2, 0);
+    refused(short, 1, 3);
 }
 
 // 3: tags or revocation bits of another length.
@@ -183,8 +255,13 @@ fn any_slices() {
         let mut tags = vec![0u8; sample.word() as usize % 4];
         let revoked = vec![0u8; sample.word() as usize % 4];
         let start = sample.word() & if sample.word() & 1 == 0 { !0 } else { !7 };
+        let window = Window {
+            start: 32 * (sample.word() % 4),
+            size: 32 * (sample.word() % 8),
+        };
+        let board = Board { start, window };
         let steps = sample.word() % 3;
-        let answer = machine::run(&mut regs, start, &mut mem, &mut tags, &revoked, steps);
+        let answer = machine::run(&mut regs, board, &mut mem, &mut tags, &revoked, steps);
         assert!(answer >> 48 <= 4);
     }
 }
