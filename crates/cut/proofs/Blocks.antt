@@ -13,7 +13,8 @@ use lib.Signed.{ltZ}
 use lib.ListN.{length, take, drop, length-append}
 use lib.Seq.{take-add, take-all, take-append-seam}
 use Rattle.cut_lines.specs.Scanning.{startOf, scanned, lastText, Processed}
-use Rattle.cut_lines.specs.Writing.{longest, hasRoom, put, writtenEnd, Writes}
+use Rattle.text.specs.Writing.{put}
+use Rattle.cut_lines.specs.Writing.{longest, hasRoom, writtenEnd, Writes}
 use Rattle.cut_lines.specs.declared.Scan.{Scan}
 use Rattle.cut_lines.specs.declared.Progress.{Progress}
 use Rattle.cut_lines.specs.declared.Written.{Written}

@@ -11,10 +11,11 @@ use lib.Dec.{ltb}
 use lib.ListN.{length, take, drop, getD, drop-of-length-le, take-append-drop}
 use lib.Seq.{take-suc, drop-cons}
 use Rattle.cut_lines.specs.Scanning.{stepped, stepText, scanned, scanText, taken, Processed}
-use Rattle.cut_lines.specs.Writing.{longest, Puts}
+use Rattle.text.specs.Writing.{Puts, Placed}
+use Rattle.text.proofs.Putting.{placed, placed-none, placed-then, placed-length}
+use Rattle.cut_lines.specs.Writing.{longest}
 use Rattle.cut_lines.specs.declared.Scan.{Scan}
 use Rattle.cut_lines.specs.declared.Progress.{Progress}
-use Rattle.cut_lines.proofs.Putting.{puts-none, puts-then, puts-length}
 use Rattle.cut_lines.proofs.Texts.{scanned-append, text-append}
 
 taken-le : (s : Scan) (l : List ℕ) (room : ℕ) → taken s l room ≤ length l
@@ -38,7 +39,8 @@ scanned-more : (s : Scan) (l : List ℕ) (i : ℕ) → i < length l → scanned 
 unfolding scanned
 scanned-more s l i h = rw (add-one i, take-suc l i 0 h) (scanned-append s (take i l) (getD l i 0 ∷ []))
 
-text-more : (s : Scan) (l : List ℕ) (i : ℕ) → i < length l → scanText s (take (i + 1) l) ≡ scanText s (take i l) ++ stepText (scanned s (take i l)) (getD l i 0)
+text-more : (s : Scan) (l : List ℕ) (i : ℕ) → i < length l
+    → scanText s (take (i + 1) l) ≡ scanText s (take i l) ++ stepText (scanned s (take i l)) (getD l i 0)
 unfolding scanText
 text-more s l i h =
     rw (add-one i, take-suc l i 0 h)
@@ -62,25 +64,27 @@ taken-end s l i room h = rw (drop-of-length-le l h)
 pub record Going (s₀ : Scan) (input output₀ output : List ℕ) (s : Scan) (i at : ℕ) : Type 0 where
   pub within : i ≤ length input
   pub scan-is : s ≡ scanned s₀ (take i input)
-  pub text-is : Puts output₀ 0 (scanText s₀ (take i input)) output at
+  pub text-is : Placed output₀ 0 (scanText s₀ (take i input)) output at
   pub still : i + taken s (drop i input) (length output₀ - at) ≡ taken s₀ input (length output₀)
 
 pub going-start : (s : Scan) (input output : List ℕ) → Going s input output output s 0 0
 unfolding scanned scanText
 going-start s input output =
     let e : length output - 0 ≡ length output = omega arith in
-    record { within = omega arith; scan-is = refl; text-is = puts-none output 0 (omega arith); still = rw e (omega arith) }
+    record { within = omega arith; scan-is = refl; text-is = placed-none output 0 (omega arith); still = rw e (omega arith) }
 
 pub going-turn : {s₀ s s′ : Scan} {input output₀ output output′ : List ℕ} {i at at′ : ℕ} → Going s₀ input output₀ output s i at → i < length input
-    → at + longest ≤ length output → Puts output at (stepText s (getD input i 0)) output′ at′ → s′ ≡ stepped s (getD input i 0)
+    → at + longest ≤ length output → length (stepText s (getD input i 0)) ≤ longest
+    → Puts output at (stepText s (getD input i 0)) output′ at′ → s′ ≡ stepped s (getD input i 0)
     → Going s₀ input output₀ output′ s′ (i + 1) at′
-going-turn {s₀} {s} {s′} {input} {output₀} {output} {output′} {i} {at} {at′} g h k p e =
-    let n = puts-length (g .text-is) in
+going-turn {s₀} {s} {s′} {input} {output₀} {output} {output′} {i} {at} {at′} g h k w q e =
+    let p = placed (omega arith) q in
+    let n = placed-length (g .text-is) in
     let left : length output₀ - at - length (stepText s (getD input i 0)) ≡ length output₀ - at′ = omega (arith, p .ends) in
     record {
       within = omega arith;
       scan-is = rw scanned-more (e ∙ ap (λ (x : Scan). stepped x (getD input i 0)) (g .scan-is));
-      text-is = rw (text-more s₀ input i h, ← (g .scan-is)) (puts-then (g .text-is) p);
+      text-is = rw (text-more s₀ input i h, ← (g .scan-is)) (placed-then (g .text-is) p);
       still = rw e (omega (arith, g .still, rw left at (taken-turn s input i (length output₀ - at) h (omega arith))));
     }
 
@@ -96,7 +100,7 @@ going-end {s₀} {s} {input} {output₀} {output} {i} {at} g h = done g (taken-e
 pub going-full : {s₀ s : Scan} {input output₀ output : List ℕ} {i at : ℕ} → Going s₀ input output₀ output s i at → length output < at + longest
     → Processed s₀ input output₀ output (record { scan = s; read = i; written = at })
 going-full {s₀} {s} {input} {output₀} {output} {i} {at} g h =
-    let n = puts-length (g .text-is) in
+    let n = placed-length (g .text-is) in
     done g (taken-full s (drop i input) (length output₀ - at) (omega (arith, g .text-is .fits, g .text-is .ends)))
 
 -- what a caller of `process` may count on: how much was taken and written, and that the rest of the block, from there, leads where the whole does
@@ -108,10 +112,10 @@ module _ {s : Scan} {input before after : List ℕ} {p : Progress} (q : Processe
   read-some h k = rw (q .read-is) (taken-some s input (length before) h k)
 
   pub written-le : p .written ≤ length after
-  written-le = omega (arith, puts-length (q .text-is), q .text-is .fits, q .text-is .ends)
+  written-le = omega (arith, placed-length (q .text-is), q .text-is .fits, q .text-is .ends)
 
   pub same-buffer : length after ≡ length before
-  same-buffer = puts-length (q .text-is)
+  same-buffer = placed-length (q .text-is)
 
   pub rest-leads : scanned (p .scan) (drop (p .read) input) ≡ scanned s input
   rest-leads = rw (q .scan-is, ← (scanned-append s (take (p .read) input) (drop (p .read) input)), take-append-drop)

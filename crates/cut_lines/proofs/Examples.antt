@@ -1,21 +1,15 @@
--- Document 01's example and the inputs at the edge, computed from the definitions; no line is longer than the room that is asked.
+-- Document 01's example and the inputs at the edge, computed from the definitions.
 -- Assumes nothing.
-use mathlib.Core.Bool.{Bool, true, false, cond}
 use mathlib.Core.Path.{_≡_, refl}
 use mathlib.Core.List.{List, [], _∷_, _++_}
-use Prim.Native.Nat.{ℕ, _+_, _-_, _^_, _≤_, _<_}
-use native.Mathlib.Omega.{arith}
-use lib.ListN.{length, length-append}
+use Prim.Native.Nat.{ℕ}
 use Rattle.metadata.specs.Word.{scaleOf, topOf, baseOf, withBounds}
 use Rattle.bounds.specs.Bounds.{exponentOf, lowOf, highOf, lowAt, highAt}
 use Rattle.bounds.specs.Cutting.{floorAt, ceilAt, fitsAt, firstFit, cutExponent, scaleField, cutBase, cutTop, withCut, cutLow, cutHigh, cutExact, cutOf}
-use Rattle.bounds.specs.declared.CutAnswer.{CutAnswer}
-use Rattle.bounds.specs.declared.CutAnswer.the-variants.{Cut, PastEnd}
-use Rattle.cut_lines.specs.Digits.{digitOf, allDigits, numberFrom, glyph, digits, placesWithin, placesOf, decimal}
-use Rattle.cut_lines.specs.Lines.{tab, newline, headerText, badText, yesText, noText}
+use Rattle.text.specs.Digits.{digitOf, allDigits, numberFrom, glyph, digits, placesWithin, placesOf, decimal}
+use Rattle.text.specs.Writing.{tab, newline}
+use Rattle.cut_lines.specs.Lines.{headerText, badText}
 use Rattle.cut_lines.specs.Lines.{wellFormed, requested, cutText, lineText, startLine, linesOf, linesText, textOf}
-use Rattle.cut_lines.specs.Writing.{longest}
-use Rattle.cut_lines.proofs.Numbers.{length-digits, decimal-le}
 
 -- `20000001<TAB>00000200` and `ffffffff<TAB>00000002`
 abbrev pub request1 : List ℕ
@@ -48,21 +42,3 @@ empty-input = refl
 pub newline-alone : textOf (10 ∷ []) ≡ headerText ++ (49 ∷ tab ∷ badText)
 unfolding textOf linesOf linesText lineText wellFormed glyph digits placesWithin placesOf decimal
 newline-alone = refl
-
-cut-le : (a : CutAnswer) → length (cutText a) ≤ 23
-unfolding cutText
-cut-le (Cut r exact) = go exact
-  where
-    go : (t : Bool) → length (digits 16 8 (r .low) ++ (tab ∷ digits 16 9 (r .high)) ++ (tab ∷ cond t yesText noText)) ≤ 23
-    go true = simp (length-append, length-digits) (omega arith)
-    go false = simp (length-append, length-digits) (omega arith)
-cut-le PastEnd = omega arith
-
--- no line is longer
-pub line-le : (n : ℕ) (line : List ℕ) → n < 2 ^ 64 → length (lineText n line) ≤ longest
-unfolding lineText
-line-le n line h = go (wellFormed line)
-  where
-    go : (t : Bool) → length (decimal n ++ (tab ∷ cond t (cutText (requested line)) badText)) ≤ longest
-    go true = simp length-append (omega (arith, decimal-le n h, cut-le (requested line)))
-    go false = simp length-append (omega (arith, decimal-le n h))

@@ -1,6 +1,5 @@
-pub mod Tests
 pub mod Putting
-pub mod Numbers
+pub mod Lengths
 pub mod Reading
 pub mod Texts
 pub mod Blocks

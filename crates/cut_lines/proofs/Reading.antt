@@ -11,11 +11,12 @@ use borrow.Author.Tests.{ltb-true, ltb-false, lt-ltb, le-ltb, ne-eqb, eq-eqb, eq
 use lib.Dec.{ltb, eqb}
 use lib.ListN.{length, getD, take, drop, length-drop, drop-of-length-le}
 use lib.Seq.{length-take-le, drop-cons}
-use Rattle.cut_lines.specs.Digits.{digitOf, isDigit, allDigits, numberFrom, numberOf}
-use Rattle.cut_lines.specs.Lines.{tab, wellFormed, requested, lineText}
+use Rattle.text.specs.Digits.{digitOf, isDigit, allDigits, numberFrom, numberOf}
+use Rattle.text.specs.Writing.{tab}
+use Rattle.cut_lines.specs.Lines.{wellFormed, requested, lineText}
 use Rattle.cut_lines.specs.Scanning.{startOf, expected, valueWith, accepted, spoiled, advanced, readLine, outcome, answered}
 use Rattle.cut_lines.specs.declared.Scan.{Scan}
-use Rattle.cut_lines.proofs.Numbers.{number-word, number-after, digit-lt}
+use Rattle.text.proofs.Numbers.{number-word, number-after, digit-lt}
 
 swap : (a b c : Bool) → (a && (b && c)) ≡ (b && (a && c))
 swap true b c = refl

@@ -8,10 +8,11 @@ use native.Mathlib.Omega.{arith}
 use borrow.Author.Tests.{ne-eqb}
 use lib.Dec.{eqb}
 use lib.ListN.{length, take}
-use Rattle.cut_lines.specs.Lines.{newline, headerText, lineText, startLine, linesOf, linesText, textOf}
+use Rattle.text.specs.Writing.{newline}
+use Rattle.cut_lines.specs.Lines.{headerText, lineText, startLine, linesOf, linesText, textOf}
 use Rattle.cut_lines.specs.Scanning.{startOf, advanced, answered, stepped, stepText, readLine, scanned, scanText, lastText, Session, ended, block}
 use Rattle.cut_lines.specs.declared.Scan.{Scan}
-use Rattle.cut_lines.proofs.Putting.{puts-take}
+use Rattle.text.proofs.Putting.{placed-take}
 use Rattle.cut_lines.proofs.Reading.{number-read, begun-read, answered-line}
 
 -- ---- blocks
@@ -33,8 +34,9 @@ unfolding scanText scanned
 session-whole ended = refl
 session-whole (block {s} {bytes} {before} {after} {rest} {text} {p} q r) =
     let a = take (p .read) bytes in
-    rw (puts-take (q .text-is), text-append s a rest, scanned-append s a rest, ← (q .scan-is))
-    (ap (λ (t : List ℕ). scanText s a ++ t) (session-whole r) ∙ sym (append-assoc (scanText s a) (scanText (p .scan) rest) (lastText (scanned (p .scan) rest))))
+    rw (placed-take (q .text-is), text-append s a rest, scanned-append s a rest, ← (q .scan-is))
+    (ap (λ (t : List ℕ). scanText s a ++ t) (session-whole r) ∙ sym
+    (append-assoc (scanText s a) (scanText (p .scan) rest) (lastText (scanned (p .scan) rest))))
 
 -- ---- lines
 

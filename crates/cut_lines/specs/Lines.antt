@@ -9,13 +9,8 @@ use Rattle.bounds.specs.Cutting.{cutOf}
 use Rattle.bounds.specs.declared.Region.{Region}
 use Rattle.bounds.specs.declared.CutAnswer.{CutAnswer}
 use Rattle.bounds.specs.declared.CutAnswer.the-variants.{Cut, PastEnd}
-use Rattle.cut_lines.specs.Digits.{allDigits, numberOf, digits, decimal}
-
-abbrev pub tab : ℕ
-tab = 9
-
-abbrev pub newline : ℕ
-newline = 10
+use Rattle.text.specs.Digits.{allDigits, numberOf, digits, decimal}
+use Rattle.text.specs.Writing.{tab, newline}
 
 -- `cut<TAB>low<TAB>high<TAB>exact` and a newline
 abbrev pub headerText : List ℕ

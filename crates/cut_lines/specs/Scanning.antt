@@ -7,9 +7,10 @@ use Prim.Native.Nat.{ℕ, zero, suc, _+_, _-_, _*_, _/_, _%_, _^_}
 use lib.Dec.{ltb, leb, eqb}
 use lib.ListN.{length, take}
 use Rattle.bounds.specs.Cutting.{cutOf}
-use Rattle.cut_lines.specs.Digits.{digitOf, isDigit, decimal}
-use Rattle.cut_lines.specs.Lines.{tab, newline, cutText, badText}
-use Rattle.cut_lines.specs.Writing.{Puts, longest}
+use Rattle.text.specs.Digits.{digitOf, isDigit, decimal}
+use Rattle.text.specs.Writing.{tab, newline, Placed}
+use Rattle.cut_lines.specs.Lines.{cutText, badText}
+use Rattle.cut_lines.specs.Writing.{longest}
 use Rattle.cut_lines.specs.declared.Scan.{Scan}
 use Rattle.cut_lines.specs.declared.Progress.{Progress}
 
@@ -76,7 +77,7 @@ taken s (b ∷ l) room = let r = taken (stepped s b) l (room - length (stepText 
 pub record Processed (s : Scan) (input before after : List ℕ) (p : Progress) : Type 0 where
   pub read-is : p .read ≡ taken s input (length before)
   pub scan-is : p .scan ≡ scanned s (take (p .read) input)
-  pub text-is : Puts before 0 (scanText s (take (p .read) input)) after (p .written)
+  pub text-is : Placed before 0 (scanText s (take (p .read) input)) after (p .written)
 
 -- A run over an input: each call of `process` gets a block that goes on where the one before stopped, and what it says it wrote is kept; at the
 -- end comes the last line. The index has what was read in all, and what was written in all.

@@ -1,27 +1,18 @@
--- Text written into a lent buffer, and the rule on room: 44 bytes, the longest line that is ever written.
+-- The rule on room: 44 bytes, the longest line that is ever written.
 -- Assumes nothing.
 use mathlib.Core.Bool.{Bool, true, false, cond}
-use mathlib.Core.List.{List, [], _∷_, _++_}
+use mathlib.Core.List.{List}
 use mathlib.Core.Path.{_≡_}
-use Prim.Native.Nat.{ℕ, _+_, _≤_}
+use Prim.Native.Nat.{ℕ, _+_}
 use lib.Dec.{leb}
-use lib.ListN.{length, take, drop}
+use lib.ListN.{length}
+use Rattle.text.specs.Writing.{put}
 use Rattle.cut_lines.specs.declared.Written.{Written}
 use Rattle.cut_lines.specs.declared.Written.the-variants.{End, NoRoom}
 
 -- 20 digits, a tab, 8 digits, a tab, 9 digits, a tab, `yes`, a newline
 abbrev pub longest : ℕ
 longest = 44
-
--- the buffer with the text from index `at` on, and every other byte as it was
-unfoldable pub put : (buffer : List ℕ) (at : ℕ) (text : List ℕ) → List ℕ
-put buffer at text = take at buffer ++ text ++ drop (at + length text) buffer
-
--- a text that fits was written, and nothing else: what the buffer is afterwards, and the index after the text
-pub record Puts (before : List ℕ) (at : ℕ) (text after : List ℕ) (end : ℕ) : Type 0 where
-  pub fits : at + length text ≤ length before
-  pub ends : end ≡ at + length text
-  pub bytes : after ≡ put before at text
 
 -- room for the longest line from index `at` on
 abbrev pub hasRoom : (buffer : List ℕ) (at : ℕ) → Bool

@@ -2,16 +2,15 @@
 //
 // An input comes in blocks of any sizes. `process` takes a block, and the state says where in a line
 // it ended; what is written in the end does not depend on where the blocks were cut.
-mod digits;
 mod lines;
 mod scanning;
 
 use lines::has_room;
-use lines::put_bytes;
 use lines::put_line;
 use lines::put_step;
 use scanning::read_line;
 use scanning::step;
+use text::put_bytes;
 ghost use mathlib.Core.Path.{_≡_};
 ghost use Rattle.cut_lines.specs.Lines.{headerText, lineText};
 ghost use Rattle.cut_lines.specs.Scanning.{startOf, lastText, Processed};

@@ -13,12 +13,6 @@ use Rattle.cut_lines.proofs.Reading.{answered-line}
 use Rattle.cut_lines.proofs.answer.Statement.{statement}
 use Rattle.cut_lines.proofs.answer.Tie as tie
 
-put-line-requires : tie.Need-put-line-requires
-put-line-requires c κs =
-    let at-if = c .before .before .before in
-    let a = at-if .before .before .before .before .before .args in
-    omega (arith, leb-true (a .at + longest) (length (now (a .output))) (sym (at-if .before .has-room .ensures) ∙ at-if .if1 .taken))
-
 returns : tie.Need-returns
 returns c =
     let at-line = c .before .before in
@@ -27,7 +21,8 @@ returns c =
     let a = at-if .before .before .before .before .before .args in
     let text = answered-line (a .number) (now (a .line)) in
     wrote (sym (at-if .before .has-room .ensures) ∙ at-if .if1 .taken)
-    (rw (at-read .read-line .ensures, at-read .before .start .ensures, text) at (at-line .put-line .ensures))
+    (rw (at-read .read-line .ensures, at-read .before .start .ensures, text) at (at-line .put-line .ensures .0))
+    (rw (at-read .read-line .ensures, at-read .before .start .ensures, text) at (at-line .put-line .ensures .1))
 
 returns-2 : tie.Need-returns-2
 returns-2 c =
@@ -37,4 +32,5 @@ returns-2 c =
 pub answer-spec : {M : Type 1} → statement M
 answer-spec =
     tie.close
-    (tie.spec (λ c κs. search needs) (λ c κs. search needs) (λ c κs. search needs) put-line-requires (λ c. search needs) returns (λ c. search needs) returns-2)
+    (tie.spec (λ c κs. search needs) (λ c κs. search needs) (λ c κs. search needs) (λ c κs. search needs) (λ c. search needs) returns (λ c. search needs)
+    returns-2)

@@ -12,16 +12,10 @@ use Rattle.cut_lines.proofs.Putting.{wrote, refused}
 use Rattle.cut_lines.proofs.finish.Statement.{statement}
 use Rattle.cut_lines.proofs.finish.Tie as tie
 
-put-last-requires : tie.Need-put-last-requires
-put-last-requires c κs =
-    let at-if = c .before in
-    let a = at-if .before .before .before .before .args in
-    omega (arith, leb-true (a .at + longest) (length (now (a .output))) (sym (at-if .before .has-room .ensures) ∙ at-if .if1 .taken))
-
 returns : tie.Need-returns
 returns c =
     let at-if = c .before .before .before .before in
-    wrote (sym (at-if .before .has-room .ensures) ∙ at-if .if1 .taken) (c .before .before .put-last .ensures)
+    wrote (sym (at-if .before .has-room .ensures) ∙ at-if .if1 .taken) (c .before .before .put-last .ensures .0) (c .before .before .put-last .ensures .1)
 
 returns-2 : tie.Need-returns-2
 returns-2 c =
@@ -29,4 +23,4 @@ returns-2 c =
     refused (now (a .output)) (a .at) (lastText (a .scan)) (sym (c .before .has-room .ensures) ∙ c .if1 .left)
 
 pub finish-spec : {M : Type 1} → statement M
-finish-spec = tie.close (tie.spec (λ c κs. search needs) put-last-requires (λ c. search needs) returns (λ c. search needs) returns-2)
+finish-spec = tie.close (tie.spec (λ c κs. search needs) (λ c κs. search needs) (λ c. search needs) returns (λ c. search needs) returns-2)

@@ -12,16 +12,10 @@ use Rattle.cut_lines.proofs.Putting.{wrote, refused}
 use Rattle.cut_lines.proofs.header.Statement.{statement}
 use Rattle.cut_lines.proofs.header.Tie as tie
 
-put-bytes-requires : tie.Need-put-bytes-requires
-put-bytes-requires c κs =
-    let at-if = c .before .before in
-    let a = at-if .before .before .before .before .args in
-    omega (arith, leb-true (a .at + longest) (length (now (a .output))) (sym (at-if .before .has-room .ensures) ∙ at-if .if1 .taken))
-
 returns : tie.Need-returns
 returns c =
     let at-if = c .before .before .before .before .before in
-    wrote (sym (at-if .before .has-room .ensures) ∙ at-if .if1 .taken) (c .before .before .put-bytes .ensures)
+    wrote (sym (at-if .before .has-room .ensures) ∙ at-if .if1 .taken) (omega arith) (c .before .before .put-bytes .ensures)
 
 returns-2 : tie.Need-returns-2
 returns-2 c =
@@ -29,4 +23,4 @@ returns-2 c =
     refused (now (a .output)) (a .at) (headerText) (sym (c .before .has-room .ensures) ∙ c .if1 .left)
 
 pub header-spec : {M : Type 1} → statement M
-header-spec = tie.close (tie.spec (λ c κs. search needs) (λ c. search needs) put-bytes-requires (λ c. search needs) returns (λ c. search needs) returns-2)
+header-spec = tie.close (tie.spec (λ c κs. search needs) (λ c. search needs) (λ c κs. search needs) (λ c. search needs) returns (λ c. search needs) returns-2)

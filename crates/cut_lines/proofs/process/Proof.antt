@@ -8,7 +8,7 @@ use lib.ListN.{length}
 use denote.Ref.{now}
 use Rattle.cut_lines.specs.Writing.{longest}
 use Rattle.cut_lines.proofs.Blocks.{Going, going-start, going-turn, going-end, going-full}
-use Rattle.cut_lines.proofs.Putting.{puts-length}
+use Rattle.text.proofs.Putting.{puts-length}
 use Rattle.cut_lines.proofs.process.Statement.{statement}
 use Rattle.cut_lines.proofs.process.Tie as tie
 
@@ -36,7 +36,7 @@ roomy c =
     leb-true (l .at + longest) (length (l .output)) (sym (c .before .has-room .ensures) ∙ not-false (c .before .has-room .result) (c .if1 .left))
 
 put-step-requires : tie.Need-put-step-requires Inv-loop μ-loop
-put-step-requires c κs = roomy (c .before .before)
+put-step-requires c κs = search needs
 
 step-requires : tie.Need-step-requires Inv-loop μ-loop
 step-requires c κs = search needs
@@ -54,7 +54,7 @@ loop-again c =
     let at-test = at-room .before .before .before in
     let g = at-test .before .loop .inv in
     let put = at-put .put-step .ensures in
-    (puts-length put ∙ g .0, going-turn (g .1) (at-test .loop-test .taken) (roomy at-room) put (c .step .ensures))
+    (puts-length (put .1) ∙ g .0, going-turn (g .1) (at-test .loop-test .taken) (roomy at-room) (put .0) (put .1) (c .step .ensures))
 
 same-length : tie.Need-same-length Inv-loop μ-loop
 same-length c = c .before .loop .inv .0

@@ -4,7 +4,7 @@ use borrow.Author.Needs.{needs}
 use borrow.Author.Tests.{eq-eqb, ne-eqb}
 use denote.Ref.{now}
 use Rattle.cut_lines.specs.Scanning.{lastText}
-use Rattle.cut_lines.proofs.Putting.{puts-none}
+use Rattle.text.proofs.Putting.{puts-none}
 use Rattle.cut_lines.proofs.lines.put_last.Statement.{statement}
 use Rattle.cut_lines.proofs.lines.put_last.Tie as tie
 
@@ -12,7 +12,7 @@ returns : tie.Need-returns
 unfolding lastText
 returns c =
     let a = c .before .before .before .args in
-    rw (eq-eqb (a .s .place) 0 (c .if1 .taken)) (puts-none (now (a .out)) (a .at) (omega arith))
+    rw (eq-eqb (a .s .place) 0 (c .if1 .taken)) (omega arith, puts-none (now (a .out)) (a .at))
 
 returns-2 : tie.Need-returns-2
 unfolding lastText

@@ -1,6 +1,6 @@
 -- `put_region`: two bounds and a word, with a tab between each two, one after the other. Assumes nothing.
 use borrow.Author.Needs.{needs}
-use Rattle.cut_lines.proofs.Putting.{puts-between}
+use Rattle.text.proofs.Putting.{puts-between}
 use Rattle.cut_lines.proofs.lines.put_region.Statement.{statement}
 use Rattle.cut_lines.proofs.lines.put_region.Tie as tie
 
@@ -11,7 +11,7 @@ returns c =
     let at-high = at-tab2 .before .before .before .before in
     let at-tab = at-high .before .before .before .before in
     let at-low = at-tab .before .before .before .before in
-    puts-between (puts-between (at-low .put-digits .ensures .1) (at-tab .put-byte .ensures) (at-high .put-digits2 .ensures .1)) (at-tab2 .put-byte2 .ensures)
+    puts-between (puts-between (at-low .put-hex .ensures) (at-tab .put-byte .ensures) (at-high .put-hex2 .ensures)) (at-tab2 .put-byte2 .ensures)
     (at-exact .put-exact .ensures)
 
 pub put-region-spec : {M : Type 1} → statement M

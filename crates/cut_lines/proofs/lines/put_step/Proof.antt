@@ -4,7 +4,7 @@ use borrow.Author.Needs.{needs}
 use borrow.Author.Tests.{eq-eqb, ne-eqb}
 use denote.Ref.{now}
 use Rattle.cut_lines.specs.Scanning.{stepText}
-use Rattle.cut_lines.proofs.Putting.{puts-none}
+use Rattle.text.proofs.Putting.{puts-none}
 use Rattle.cut_lines.proofs.lines.put_step.Statement.{statement}
 use Rattle.cut_lines.proofs.lines.put_step.Tie as tie
 
@@ -18,7 +18,7 @@ returns-2 : tie.Need-returns-2
 unfolding stepText
 returns-2 c =
     let a = c .before .before .args in
-    rw (ne-eqb (a .b) 10 (c .if1 .left)) (puts-none (now (a .out)) (a .at) (omega arith))
+    rw (ne-eqb (a .b) 10 (c .if1 .left)) (omega arith, puts-none (now (a .out)) (a .at))
 
 pub put-step-spec : {M : Type 1} → statement M
 put-step-spec = tie.close (tie.spec (λ c κs. search needs) (λ c. search needs) returns returns-2)

@@ -2,7 +2,7 @@
 use borrow.Author.Needs.{needs}
 use borrow.Author.Tests.{ne-eqb, lt-ltb, le-ltb}
 use Rattle.cut_lines.specs.Scanning.{expected}
-use Rattle.cut_lines.proofs.Tests.{tests}
+use Rattle.text.proofs.Tests.{tests}
 use Rattle.cut_lines.proofs.scanning.expected.Statement.{statement}
 use Rattle.cut_lines.proofs.scanning.expected.Tie as tie
 

@@ -4,7 +4,7 @@ use borrow.Author.Tests.{ne-eqb}
 use native.Mathlib.Omega.{arith}
 use Rattle.cut_lines.specs.Scanning.{valueWith}
 use Rattle.cut_lines.proofs.Reading.{expected-digit}
-use Rattle.cut_lines.proofs.Tests.{tests}
+use Rattle.text.proofs.Tests.{tests}
 use Rattle.cut_lines.proofs.scanning.value_with.Statement.{statement}
 use Rattle.cut_lines.proofs.scanning.value_with.Tie as tie
 

@@ -1,0 +1,4 @@
+pub mod Numbers
+pub mod Trips
+pub mod Bytes
+pub mod Cases

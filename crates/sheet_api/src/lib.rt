@@ -1,0 +1,81 @@
+// Map sheets for C: numbers and slices only.
+use sheet_compare::CompareAnswer;
+use sheet_reader::ReadAnswer;
+use sheet_writer::WriteAnswer;
+ghost use mathlib.Core.Path.{_≡_};
+ghost use Prim.Native.Nat.{_<_};
+ghost use Rattle.sheet_api.specs.Numbers.{CompareNumbered, ReadNumbered, WriteNumbered, compareNumber, readNumber, writeNumber};
+ghost use Rattle.sheet_api.specs.Numbers.{numbered as Numbers·numbered};
+
+// The place of a number in an answer, 2^48.
+pub const NUMBER_PLACE: u64 = 0x1_0000_0000_0000;
+
+// Too little room; a bad line, and one of the second sheet.
+const NO_ROOM: u64 = 10;
+
+const BAD_LINE: u64 = 13;
+
+const BAD_SECOND: u64 = 14;
+
+// number * 2^48 + rest.
+fn numbered(number: u64, rest: usize) -> u64
+    requires { ⌜ number < 65536 ⌝ }
+    ensures { λ r. ⌜ r ≡ Numbers·numbered number rest ⌝ }
+{
+    number * NUMBER_PLACE + rest as u64 % NUMBER_PLACE
+}
+
+fn read_number(a: ReadAnswer) -> u64
+    ensures { λ r. ⌜ r ≡ readNumber a ⌝ }
+{
+    match a {
+        ReadAnswer::Records(n) => numbered(0, n),
+        ReadAnswer::Bad(n) => numbered(BAD_LINE, n),
+        ReadAnswer::NoRoom => numbered(NO_ROOM, 0),
+    }
+}
+
+fn write_number(a: WriteAnswer) -> u64
+    ensures { λ r. ⌜ r ≡ writeNumber a ⌝ }
+{
+    match a {
+        WriteAnswer::Written(n) => numbered(0, n),
+        WriteAnswer::Bad(n) => numbered(BAD_LINE, n),
+        WriteAnswer::NoRoom => numbered(NO_ROOM, 0),
+    }
+}
+
+fn compare_number(a: CompareAnswer) -> u64
+    ensures { λ r. ⌜ r ≡ compareNumber a ⌝ }
+{
+    match a {
+        CompareAnswer::Listed(n) => numbered(0, n),
+        CompareAnswer::BadFirst(n) => numbered(BAD_LINE, n),
+        CompareAnswer::BadSecond(n) => numbered(BAD_SECOND, n),
+        CompareAnswer::NoRoom => numbered(NO_ROOM, 0),
+    }
+}
+
+// Reads a sheet into records of seven words.
+#[no_mangle]
+pub extern "C" fn oddersnow_sheet_read(sheet: &[u8], records: &mut [u32]) -> u64
+    ensures { λ r. ⌜ ReadNumbered (now (sheet .entry)) (now (records .entry)) (now (records .exit)) r ⌝ }
+{
+    read_number(sheet_reader::read_into(sheet, records))
+}
+
+// Writes the sheet of records.
+#[no_mangle]
+pub extern "C" fn oddersnow_sheet_write(records: &[u32], out: &mut [u8]) -> u64
+    ensures { λ r. ⌜ WriteNumbered (now (records .entry)) (now (out .entry)) (now (out .exit)) r ⌝ }
+{
+    write_number(sheet_writer::write(records, out))
+}
+
+// Lists the names in which two sheets differ.
+#[no_mangle]
+pub extern "C" fn oddersnow_sheet_compare(first: &[u8], second: &[u8], out: &mut [u8]) -> u64
+    ensures { λ r. ⌜ CompareNumbered (now (first .entry)) (now (second .entry)) (now (out .entry)) (now (out .exit)) r ⌝ }
+{
+    compare_number(sheet_compare::compare(first, second, out))
+}

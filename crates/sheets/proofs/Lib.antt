@@ -1,0 +1,12 @@
+pub mod Padding
+pub mod Digits
+pub mod Lists
+pub mod Lines
+pub mod Walk
+pub mod Answers
+pub mod Trips
+pub mod Words
+pub mod Records
+pub mod Lengths
+pub mod Readings
+pub mod Bounds

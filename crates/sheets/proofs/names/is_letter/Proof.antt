@@ -1,0 +1,16 @@
+-- `is_letter`: two tests. Assumes nothing.
+use Rattle.text.proofs.Tests.{tests}
+use Rattle.sheets.specs.Sheet.{isLetter}
+use Rattle.sheets.proofs.names.is_letter.Statement.{statement}
+use Rattle.sheets.proofs.names.is_letter.Tie as tie
+
+returns : tie.Need-returns
+unfolding isLetter
+returns c = search tests
+
+returns-2 : tie.Need-returns-2
+unfolding isLetter
+returns-2 c = search tests
+
+pub is-letter-spec : {M : Type 1} → statement M
+is-letter-spec = tie.close (tie.spec returns returns-2)

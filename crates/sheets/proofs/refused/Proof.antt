@@ -1,0 +1,11 @@
+-- `refused`: an array that holds no region. Assumes nothing.
+use mathlib.Core.Path.{_≡_}
+use borrow.Author.Needs.{needs}
+use Rattle.sheets.proofs.refused.Statement.{statement}
+use Rattle.sheets.proofs.refused.Tie as tie
+
+returns : tie.Need-returns
+returns c = rw (c .nothing .ensures)
+
+pub refused-spec : {M : Type 1} → statement M
+refused-spec = tie.close (tie.spec (λ c κs. search needs) returns)
