@@ -24,6 +24,7 @@ pub mod random;
 pub mod refusals;
 pub mod replay;
 pub mod rows;
+pub mod sheets;
 pub mod shrink;
 pub mod starts;
 pub mod state;

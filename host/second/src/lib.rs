@@ -1,5 +1,6 @@
-//! The second bench machine: plain Rust, written from document 01 (the scope) and the CHERIoT
-//! report alone, so that comparing it in bulk with the proved program means something.
+//! The second bench machine and map sheets: plain Rust, written from document 01 (the scope),
+//! document 02 (the requests) and the CHERIoT report alone, so that comparing it in bulk with the
+//! proved program means something.
 //!
 //! Every public function is total: slices of any length, any words, no panic.
 
@@ -9,6 +10,7 @@ pub mod calls;
 pub mod capability;
 pub mod decode;
 pub mod machine;
+pub mod sheet;
 pub mod text;
 
 pub use calls::calls;
