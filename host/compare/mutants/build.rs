@@ -7,7 +7,7 @@ use std::fmt::Write;
 use std::path::{Path, PathBuf};
 use std::{env, fs};
 
-const SOURCES: [&str; 4] = ["calls", "capability", "decode", "machine"];
+const SOURCES: [&str; 6] = ["calls", "capability", "decode", "machine", "sheet", "text"];
 
 /// One paragraph of mutants.txt.
 #[derive(Default)]

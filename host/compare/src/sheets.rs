@@ -279,7 +279,7 @@ fn too_long(random: &mut Random, regions: &mut Vec<Region>) {
 /// A sheet of any kind: good, with a bad line, too long, damaged, or noise.
 pub fn any_sheet(random: &mut Random) -> Vec<u8> {
     let mut regions = good(random);
-    match random.below(8) {
+    match random.below(9) {
         0 | 1 => {}
         2 | 3 => blemish(random, &mut regions),
         4 => too_long(random, &mut regions),
@@ -287,7 +287,8 @@ pub fn any_sheet(random: &mut Random) -> Vec<u8> {
             let text = text(&regions);
             return Damage::any(random, &text).of(&text);
         }
-        6 => return damage::spoiled(random, &text(&regions)),
+        6 => return damage::misformed(random, &text(&regions)),
+        7 => return damage::spoiled(random, &text(&regions)),
         _ => return damage::noise(random),
     }
     text(&regions)

@@ -42,9 +42,13 @@ impl Damage {
         damaged
     }
 
-    /// Any damage of a text that is not empty.
+    /// Any damage of a text that is not empty, as often at the ends of its fields as anywhere.
     pub fn any(random: &mut Random, text: &[u8]) -> Damage {
-        let place = random.below(text.len() as u32) as usize;
+        let last = text.len() - 1;
+        let anywhere = random.below(text.len() as u32) as usize;
+        let mut ends = (anywhere..=last).filter(|&place| matches!(text[place], b'\t' | b'\n'));
+        let end = ends.next().unwrap_or(last);
+        let place = random.pick([anywhere, anywhere, end, (end + 1).min(last)]);
         let byte = match random.below(4) {
             0 => random.word() as u8,
             _ => random.pick(TELLING),
@@ -52,7 +56,7 @@ impl Damage {
         match random.below(3) {
             0 => Damage::Changed(place, byte),
             1 => Damage::Removed(place),
-            _ => Damage::Inserted(random.below(text.len() as u32 + 1) as usize, byte),
+            _ => Damage::Inserted(place + usize::from(place == last && random.one_in(2)), byte),
         }
     }
 
@@ -76,6 +80,30 @@ impl Damage {
         let removed = (0..length).map(Damage::Removed);
         changed.chain(removed).chain(inserted)
     }
+}
+
+/// What people write in the place of a sheet's parts.
+const MISFORMED: [(&str, &str); 10] = [
+    ("\n", "\r\n"),
+    ("\n", " \n"),
+    ("\n", "\t\n"),
+    ("\n", "\n\n"),
+    ("\n", ""),
+    ("\t", "\t\t"),
+    ("\t", " "),
+    ("\t", "\t0x"),
+    ("region", "Region"),
+    ("region", "regions"),
+];
+
+/// A text with one of its parts in another form.
+pub fn misformed(random: &mut Random, text: &[u8]) -> Vec<u8> {
+    let (part, other) = random.pick(MISFORMED);
+    let starts = |place: &usize| text[*place..].starts_with(part.as_bytes());
+    let places: Vec<usize> = (0..text.len()).filter(starts).collect();
+    let place = places[random.below(places.len() as u32) as usize];
+    let rest = &text[place + part.len()..];
+    [&text[..place], other.as_bytes(), rest].concat()
 }
 
 /// Damage of more than a byte: two bytes swapped, the end cut off, a part said twice, several bytes.

@@ -8,7 +8,7 @@ use compare::sheets::{self, Sheets, Totals};
 use compare::{conclude, totals};
 use std::process::ExitCode;
 
-const CASES: u64 = 100_000;
+const CASES: u64 = 50_000;
 const CASES_A_DAMAGED: u64 = 1000;
 
 const PROVED: Sheets = Sheets {
