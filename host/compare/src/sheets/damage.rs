@@ -83,7 +83,7 @@ impl Damage {
 }
 
 /// What people write in the place of a sheet's parts.
-const MISFORMED: [(&str, &str); 10] = [
+const MISFORMED: [(&str, &str); 13] = [
     ("\n", "\r\n"),
     ("\n", " \n"),
     ("\n", "\t\n"),
@@ -94,6 +94,9 @@ const MISFORMED: [(&str, &str); 10] = [
     ("\t", "\t0x"),
     ("region", "Region"),
     ("region", "regions"),
+    ("\tr", "\trr"),
+    ("\tw", "\twr"),
+    ("\tx", "\txw"),
 ];
 
 /// A text with one of its parts in another form.
@@ -101,7 +104,9 @@ pub fn misformed(random: &mut Random, text: &[u8]) -> Vec<u8> {
     let (part, other) = random.pick(MISFORMED);
     let starts = |place: &usize| text[*place..].starts_with(part.as_bytes());
     let places: Vec<usize> = (0..text.len()).filter(starts).collect();
-    let place = places[random.below(places.len() as u32) as usize];
+    let Some(&place) = places.get(random.below(places.len() as u32) as usize) else {
+        return text.to_vec();
+    };
     let rest = &text[place + part.len()..];
     [&text[..place], other.as_bytes(), rest].concat()
 }
