@@ -16,6 +16,7 @@ pub fn letters(rights: u32) -> &'static str {
 }
 
 /// A good sheet.
+#[derive(Debug)]
 pub struct Sheet {
     pub regions: Vec<Record>,
 }
@@ -76,7 +77,7 @@ mod tests {
     #[test]
     fn a_good_sheet_and_its_span() {
         let text = "region\tcode\t20000000\t00000400\trx\nregion\tdata\t20000400\t00000c00\trw\n";
-        let sheet = of(text.as_bytes()).ok().unwrap();
+        let sheet = of(text.as_bytes()).unwrap();
         assert_eq!(sheet.regions.len(), 2);
         assert_eq!(sheet.span(), Some((0x2000_0000, 0x1000)));
         assert_eq!(sheet.names()[1], Name::new(b"data", 0x2000_0400, 0xC00));

@@ -7,6 +7,7 @@ pub mod regions;
 use crate::random::Random;
 use crate::Mismatch;
 use damage::Damage;
+use lent::number_and_rest as parts;
 use regions::{blemish, edited, good, new_name, rights, text, MOST_REGIONS};
 use second::sheet::{self, Region, BAD, SECOND_BAD};
 use std::fmt::Debug;
@@ -87,11 +88,6 @@ impl Totals {
         self.bad_at_64 += bad(64);
         self.bad_at_65 += bad(65);
     }
-}
-
-/// The number of an answer, and its rest.
-pub fn parts(answer: u64) -> (u64, u64) {
-    (answer >> 48, answer & ((1 << 48) - 1))
 }
 
 /// Both programs, and what they have answered.

@@ -2,6 +2,7 @@
 //! and which line is its first bad one, is said here and nowhere else in the command.
 
 use ::proved::{sheet_compare, sheet_read};
+use lent::number_and_rest as parts;
 
 /// The most regions of a sheet, and the words that the library has for each (include/oddersnow.h).
 pub const MOST_REGIONS: usize = 64;
@@ -47,11 +48,6 @@ impl Record {
 /// The first bad line of a sheet.
 #[derive(Clone, Copy, PartialEq, Eq, Debug)]
 pub struct BadLine(pub u64);
-
-/// The number of an answer and its rest.
-fn parts(answer: u64) -> (u64, u64) {
-    (answer >> 48, answer & ((1 << 48) - 1))
-}
 
 /// The regions of a sheet.
 pub fn read(sheet: &[u8]) -> Result<Vec<Record>, BadLine> {

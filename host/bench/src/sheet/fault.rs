@@ -1,11 +1,11 @@
 //! What is wrong with the line of a sheet that the proved reader calls bad, in words. Nothing is judged
 //! here: the reader says which line it is, and reads the lines before it.
 
+use super::RIGHTS;
 use crate::digits::word;
 use crate::proved::sheets::{self, Record, MOST_REGIONS};
 
 const MOST_LETTERS: usize = 16;
-const RIGHTS: [&str; 7] = ["r", "w", "x", "rw", "rx", "wx", "rwx"];
 
 /// The reason for a bad line.
 pub fn reason(sheet: &[u8], line: u64) -> String {
@@ -41,7 +41,7 @@ fn region(line: &[u8]) -> Result<Record, &'static str> {
     if !letters || !(1..=MOST_LETTERS).contains(&name.len()) {
         return Err("the name is not 1 to 16 lower-case letters");
     }
-    if !RIGHTS.contains(&rights) {
+    if rights.is_empty() || !RIGHTS.contains(&rights) {
         return Err("the rights are none of r, w, x, rw, rx, wx and rwx");
     }
     Ok(Record {
@@ -77,7 +77,7 @@ mod tests {
 
     /// The line and the reason of a bad sheet.
     fn said(text: &[u8]) -> (u64, String) {
-        let bad = sheet::of(text).err().expect("a bad sheet");
+        let bad = sheet::of(text).expect_err("a bad sheet");
         (bad.line, bad.reason)
     }
 
@@ -118,7 +118,7 @@ mod tests {
             format!("region\t{name}\t{:08x}\t00000040\trw\n", 64 * index)
         };
         let sheet = |count| (0..count).map(line).collect::<String>();
-        let good = sheet::of(sheet(64).as_bytes()).ok().expect("64 regions");
+        let good = sheet::of(sheet(64).as_bytes()).expect("64 regions");
         assert_eq!(good.regions.len(), 64);
         let more = (65, "there are more than 64 regions".into());
         assert_eq!(said(sheet(65).as_bytes()), more);

@@ -214,7 +214,7 @@ fn records_that_no_line_stands_for_are_refused_by_their_number() {
     };
     assert_eq!(written(|_| {}), said(0, 66));
     assert_eq!(written(Vec::clear), said(13, 1));
-    assert_eq!(written(|records| drop(records.pop())), said(13, 2));
+    assert_eq!(written(|records| records.truncate(13)), said(13, 2));
     assert_eq!(written(|records| records.push(1)), said(13, 3));
     assert_eq!(written(|records| records.truncate(8)), said(13, 2));
     assert_eq!(written(|records| records.truncate(6)), said(13, 1));
