@@ -244,6 +244,24 @@ impl Both {
         }
         Ok(34 * records.len() as u64)
     }
+
+    /// Reads a sheet, writes its records and compares it with another, with every room from none to one
+    /// more than the answer takes.
+    pub fn every_room(&mut self, sheet: &[u8], other: &[u8]) -> Result<u64, String> {
+        let (_, records) = self.read(sheet, RECORDS_ROOM)?;
+        let (number, length) = self.compare(sheet, other, NAMES_ROOM)?;
+        let taken = if number == 0 { length as usize } else { 0 };
+        for room in 0..=records.len() + 1 {
+            self.read(sheet, room)?;
+        }
+        for room in 0..=sheet.len() + 1 {
+            self.write(&records, room)?;
+        }
+        for room in 0..=taken + 1 {
+            self.compare(sheet, other, room)?;
+        }
+        Ok((records.len() + sheet.len() + taken + 6) as u64)
+    }
 }
 
 /// Rooms for an answer of some length: every one up to it and one more where it is short, else those at
@@ -326,15 +344,21 @@ pub fn compare(ours: Sheets, seed: u64, cases: u64) -> Result<Totals, Mismatch> 
     Ok(both.totals)
 }
 
-/// Compares two programs on some good sheets, each with every damage of one byte, and their records.
+/// A good sheet with every damage of one byte, its records with theirs, and every room for its answers.
+fn all_of_one(both: &mut Both, random: &mut Random) -> Result<u64, String> {
+    let regions = good(random);
+    let sheet = text(&regions);
+    let other = text(&edited(random, &regions));
+    let damaged = both.damaged(&sheet)? + both.damaged_records(&sheet)?;
+    Ok(damaged + both.every_room(&sheet, &other)?)
+}
+
+/// Compares two programs in every such way on some good sheets.
 pub fn compare_damaged(ours: Sheets, seed: u64, sheets: u64) -> Result<u64, Mismatch> {
     let mut both = Both::new(ours);
     let mut count = 0;
     for case in 1..=sheets {
-        let mut random = Random::new(seed, case);
-        let sheet = text(&good(&mut random));
-        let texts = both.damaged(&sheet);
-        let made = texts.and_then(|texts| Ok(texts + both.damaged_records(&sheet)?));
+        let made = all_of_one(&mut both, &mut Random::new(seed, case));
         count += made.map_err(|text| Mismatch { case, text })?;
     }
     Ok(count)

@@ -1,5 +1,5 @@
 //! Compares the proved reader, writer and comparison of map sheets (`rt staticlib sheet_api`) with the
-//! second program: sheets of every kind, then good ones with every damage of one byte.
+//! second program: sheets of every kind, then good ones with every damage of one byte and every room.
 //!
 //! `sheets [--cases N] [--seed S]`; a damaged sheet for every thousand cases
 
@@ -23,7 +23,9 @@ fn run(options: &Options) -> Result<String, String> {
     let damaged = (options.cases / CASES_A_DAMAGED).max(1);
     let count = sheets::compare_damaged(PROVED, options.seed, damaged)
         .map_err(|found| format!("damaged sheet {}: {}", found.case, found.text))?;
-    Ok(format!("{text}; {damaged} sheets damaged in {count} ways"))
+    Ok(format!(
+        "{text}; {damaged} sheets in {count} damages and rooms"
+    ))
 }
 
 fn main() -> ExitCode {
