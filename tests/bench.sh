@@ -77,9 +77,9 @@ nothing_added() {
 # A repository of three crates with an rt and a build of our own, which take seconds instead of minutes.
 small_repository() { # FOLDER
   mkdir -p "$1/host/bench/src" "$1/kit" && cp bench "$1" &&
-    printf 'low:\nother:  # nobody leans on it\nlabel: low\nbench_api: low label\n' >"$1/crates.txt"
+    printf 'low:\nother:  # nobody leans on it\nlabel: low\nbench_api: low label\nsheet_api: low\n' >"$1/crates.txt"
   local crate
-  for crate in low label bench_api; do mkdir -p "$1/crates/$crate/src"; done
+  for crate in low label bench_api sheet_api; do mkdir -p "$1/crates/$crate/src"; done
   cat >"$1/kit/rt" <<'RT'
 #!/usr/bin/env bash
 mkdir -p target/log target/staticlib
@@ -116,16 +116,16 @@ says() { # FILE TEXT..: each text stands in the file, one after the other
 progress_shown() {
   small_repository "$work/small" || return 1
   in_small ./bench --missing >"$work/missing"
-  printf 'library label\nlibrary bench_api\ncommand\n' | cmp - "$work/missing" || return 1
+  printf 'library label\nlibrary bench_api\nlibrary sheet_api\ncommand\n' | cmp - "$work/missing" || return 1
   in_small ./bench cut 1 2 >"$work/out" 2>"$work/err" || return 1
   echo "the command cut 1 2" | cmp - "$work/out" &&
-    says "$work/err" "the proofs of 1 crates, libraries label bench_api, the command" "proved 0 of 1 crates; 0:0" "proved 0 of 1 crates, now low; 0:0" built &&
+    says "$work/err" "the proofs of 1 crates, libraries label bench_api sheet_api, the command" "proved 0 of 1 crates; 0:0" "proved 0 of 1 crates, now low; 0:0" built &&
     in_small ./bench cut 1 2 >"$work/out" 2>&1 && echo "the command cut 1 2" | cmp - "$work/out"
 }
 older_than_sources() { # after progress_shown
   sleep 0.1
   touch "$work/small/crates/low/src/new.rt"
-  [ "$(in_small ./bench --missing | tr '\n' ' ')" = "library label library bench_api command " ]
+  [ "$(in_small ./bench --missing | tr '\n' ' ')" = "library label library bench_api library sheet_api command " ]
 }
 failure_named() { # after older_than_sources
   VERDICT="NOT PROVED" in_small ./bench cut 1 2 >"$work/out" 2>"$work/err"

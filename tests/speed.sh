@@ -2,15 +2,16 @@
 # The speed programs: every step retires on both machines, and the proved machine needs no more of the
 # host's instructions for a step than the second program, and for one of the integer program by short words
 # at most a quarter more than by long ones. The bounds lookup: the proved routine needs no
-# more than the second program's and than the tuned one. Callgrind counts them, so that what else the
-# computer does changes nothing. The proved libraries are built by rt, or lie in the directory that
-# ODDERSNOW_STATICLIB names.
+# more than the second program's and than the tuned one. Map sheets: the proved reader and writer need no more
+# for a byte than the second program's. Callgrind counts them, so that what else the computer does changes
+# nothing. By time, sheets are read and written at 50 MB a second or more. The proved libraries are built by rt,
+# or lie in the directory that ODDERSNOW_STATICLIB names.
 set -u
 source "$(dirname "$0")/lib/check.sh"
 each=1000000
 
 build() { (cd host && cargo build --offline --release -p speed); }
-count() { # WORDS..: writes the host's instructions for each step or lookup; the program itself asserts that every step retires
+count() { # WORDS..: writes the host's instructions for each step, lookup or byte; the program itself asserts that every step retires
   local file
   file=$(printf '.%s' "$@")
   valgrind --tool=callgrind --callgrind-out-file=/dev/null host/target/release/speed "$@" 1 >"$work/out" 2>&1 || return 1
@@ -22,7 +23,12 @@ no_more() { # COUNT COUNT
   left=$(cat "$work/count$1") && right=$(cat "$work/count$2") && [ "$left" -le "$right" ]
 }
 
-check "the proved libraries" library bench_api label
+at_least() { # MB: every rate of the proved library in the table of sheets, of which there are six
+  host/target/release/speed sheets | tee "$work/rates"
+  awk -v least="$1" 'NR > 1 && $3 >= least { good++ } END { exit !(NR == 7 && good == 6) }' "$work/rates"
+}
+
+check "the proved libraries" library bench_api label sheet_api
 check "the speed program builds" build
 check "valgrind is here" need valgrind valgrind
 for program in integer short memory capability bounded multiply; do
@@ -46,4 +52,13 @@ for kind in random whole exponent4 small; do
     check "the proved lookup takes no more instructions for $kind words ($routine)" no_more ".lookup.proved.$kind" ".lookup.$routine.$kind"
   done
 done
+for way in read write; do
+  for routine in proved second plain; do
+    check "sheets of 64 regions ($way, $routine)" count sheets "$routine" "$way" 64
+    echo "$routine, $way: $(cat "$work/count.sheets.$routine.$way.64") instructions a byte"
+  done
+  check "the proved library takes no more instructions to $way sheets" no_more ".sheets.proved.$way.64" ".sheets.second.$way.64"
+done
+log=$work/table check "sheets are read and written at 50 MB a second" at_least 50
+cat "$work/table"
 exit $bad

@@ -7,7 +7,8 @@ use std::path::PathBuf;
 /// The bench: runs an image on the proved CHERIoT machine and shows what happened.
 ///
 /// Numbers are decimal, or hexadecimal after 0x. The exit status is 0 if a run had no trap, 1 if it
-/// trapped, 2 if the machine or the cutter refused, and 3 for bad usage or a bad file.
+/// trapped or if two map sheets differ, 2 if the machine or the cutter refused or a sheet that was to
+/// be checked or compared is bad, and 3 for bad usage or a bad file.
 #[derive(Parser)]
 #[command(name = "bench", version, disable_help_subcommand = true)]
 pub struct Arguments {
@@ -25,6 +26,9 @@ pub enum Command {
     Cut(Cut),
     /// Shows the capability with an address and a metadata word
     Cap(Cap),
+    /// Checks and compares board map sheets
+    #[command(subcommand)]
+    Sheet(SheetCommand),
 }
 
 #[derive(Args)]
@@ -103,6 +107,35 @@ pub struct Cap {
     pub address: u32,
     #[arg(value_parser = word)]
     pub metadata: u32,
+    /// Write the result as JSON
+    #[arg(long)]
+    pub json: bool,
+}
+
+#[derive(Subcommand)]
+#[command(disable_help_subcommand = true)]
+pub enum SheetCommand {
+    /// Says whether a sheet is good and shows its regions, or says what is wrong with its first bad line
+    Check(SheetCheck),
+    /// Shows the regions in which two sheets differ
+    Compare(SheetCompare),
+}
+
+#[derive(Args)]
+pub struct SheetCheck {
+    /// The map sheet
+    pub sheet: PathBuf,
+    /// Write the result as JSON
+    #[arg(long)]
+    pub json: bool,
+}
+
+#[derive(Args)]
+pub struct SheetCompare {
+    /// The first map sheet
+    pub first: PathBuf,
+    /// The second map sheet
+    pub second: PathBuf,
     /// Write the result as JSON
     #[arg(long)]
     pub json: bool,

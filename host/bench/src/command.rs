@@ -1,13 +1,16 @@
 //! What each subcommand does.
 
 mod run;
+pub mod sheet;
 
 use crate::arguments::{Cap, Command, Cut, Explain};
 use crate::capability_text::{length, region, rights, type_words};
 use crate::names::Names;
+use crate::proved::sheets::Which;
 use crate::proved::{self, Refusal};
+use crate::sheet::Bad;
 use crate::trap::Trap;
-use crate::{complain, file, json, report, sheet, state_file, Status};
+use crate::{complain, file, json, report, state_file, Status};
 use lent::{Capability, State};
 use serde_json::Value;
 use std::io::{ErrorKind, Write};
@@ -20,6 +23,7 @@ pub fn obey(command: Command) -> Result<Status, String> {
         Command::Explain(explain) => explained(&explain),
         Command::Cut(cut) => cut_shown(&cut),
         Command::Cap(cap) => capability_shown(&cap),
+        Command::Sheet(asked) => sheet::obey(&asked),
     }
 }
 
@@ -51,17 +55,23 @@ fn refused(refusal: Refusal, as_json: bool) -> Result<Status, String> {
     Ok(Status::Refused)
 }
 
+/// Says that a sheet is bad, the first or the second of those asked about.
+fn refused_sheet(which: Which, path: &Path, bad: &Bad, as_json: bool) -> Result<Status, String> {
+    if as_json {
+        say_json(&json::refused_sheet(which, path, bad))?;
+    }
+    complain(&bad.shown(path));
+    Ok(Status::Refused)
+}
+
 fn read_state(path: &Path) -> Result<State, String> {
     let named = |reason: String| format!("{}: {reason}", path.display());
     state_file::read(&file::read(path)?).map_err(named)
 }
 
-fn read_names(path: Option<&Path>) -> Result<Names, String> {
-    path.map_or(Ok(Names::default()), |path| sheet::read(path).map(Names))
-}
-
 fn explained(asked: &Explain) -> Result<Status, String> {
-    let names = read_names(asked.map.as_deref())?;
+    let map = asked.map.as_deref().map(crate::sheet::read).transpose()?;
+    let names = map.map_or(Names::default(), |map| Names(map.names()));
     let mut state = read_state(&asked.state)?;
     if let Err(refusal) = proved::run(&mut state, 0) {
         return refused(refusal, asked.json);

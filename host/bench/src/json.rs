@@ -1,15 +1,19 @@
 //! The same results as JSON. Numbers are numbers; bounds are low and high.
 
 use crate::capability_text::{revocation_word, rights, type_words};
+use crate::command::sheet::Pair;
 use crate::drive::{End, Outcome};
 use crate::memory_rows::rows;
 use crate::names::Names;
+use crate::proved::sheets::{Record, Which};
 use crate::proved::{bounds, Refusal, Region};
+use crate::sheet::{letters, Bad};
 use crate::trap::{Action, Asked, Authority, Trap};
 use lent::{
     instruction_bytes, place_name, Capability, State, CAPABILITIES, MCAUSE, MSTATUS, MTVAL,
 };
 use serde_json::{json, Value};
+use std::path::Path;
 
 /// A run that was made.
 pub fn run(state: &State, outcome: &Outcome, trap: Option<&Trap>, names: &Names) -> Value {
@@ -37,6 +41,39 @@ pub fn explained(state: &State, trap: Option<&Trap>, names: &Names) -> Value {
 
 pub fn refused(refusal: Refusal) -> Value {
     json!({ "refused": { "number": refusal.0, "reason": refusal.reason() } })
+}
+
+/// A bad sheet, the first or the second of those asked about.
+pub fn refused_sheet(which: Which, path: &Path, bad: &Bad) -> Value {
+    let number = match which {
+        Which::First => 13,
+        Which::Second => 14,
+    };
+    let (file, line, reason) = (path.display().to_string(), bad.line, &bad.reason);
+    json!({ "refused": { "number": number, "file": file, "line": line, "reason": reason } })
+}
+
+/// A good sheet.
+pub fn sheet(regions: &[Record]) -> Value {
+    json!({ "regions": regions.iter().map(record).collect::<Vec<Value>>() })
+}
+
+/// The names in which two sheets differ.
+pub fn differing(pairs: &[Pair]) -> Value {
+    let pair = |(name, first, second): &Pair| {
+        let [first, second] = [first, second].map(|region| region.map(record));
+        json!({ "name": name, "first": first, "second": second })
+    };
+    json!({ "differ": pairs.iter().map(pair).collect::<Vec<Value>>() })
+}
+
+fn record(region: &Record) -> Value {
+    json!({
+        "name": region.name,
+        "start": region.start,
+        "length": region.length,
+        "rights": letters(region.rights),
+    })
 }
 
 pub fn cut(region: Region, exact: bool) -> Value {

@@ -27,13 +27,27 @@ use clap::Parser;
 use std::io::Write;
 use std::process::ExitCode;
 
-/// The exit status.
+/// How a command ended.
 #[derive(Clone, Copy, PartialEq, Eq, Debug)]
 pub enum Status {
-    Ran = 0,
-    Trapped = 1,
-    Refused = 2,
-    Bad = 3,
+    Ran,
+    Trapped,
+    /// Two sheets that were compared differ.
+    Differ,
+    Refused,
+    Bad,
+}
+
+impl Status {
+    /// The exit status.
+    fn code(self) -> u8 {
+        match self {
+            Status::Ran => 0,
+            Status::Trapped | Status::Differ => 1,
+            Status::Refused => 2,
+            Status::Bad => 3,
+        }
+    }
 }
 
 /// A message on standard error; where that can not be written, the exit status says it alone.
@@ -56,5 +70,5 @@ fn main() -> ExitCode {
             }
         }
     };
-    ExitCode::from(status as u8)
+    ExitCode::from(status.code())
 }

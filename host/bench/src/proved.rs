@@ -1,6 +1,8 @@
 //! The proved libraries: the machine's run (libbench_api.a), the cut and the bounds lookup
-//! (liblabel.a). Everything that the command says about the machine or about bounds comes through
-//! here.
+//! (liblabel.a), map sheets (libsheet_api.a). Everything that the command says about the machine,
+//! about bounds or about whether a sheet is good comes through here.
+
+pub mod sheets;
 
 use ::proved::{bounds_high, bounds_low, cut_exact, cut_high, cut_low, cut_number};
 use lent::{Answer, Capability, State};

@@ -26,6 +26,7 @@ pub mod random;
 pub mod refusals;
 pub mod replay;
 pub mod rows;
+pub mod sheets;
 pub mod short;
 pub mod shrink;
 pub mod starts;

@@ -6,7 +6,7 @@
 mod answer;
 mod registers;
 
-pub use answer::{Answer, MOST_STEPS};
+pub use answer::{number_and_rest, Answer, MOST_STEPS};
 pub use registers::*;
 
 /// The bytes of a granule, which has one tag and one revocation bit.

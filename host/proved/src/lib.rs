@@ -118,3 +118,63 @@ pub fn calls(start: [u32; 3], kinds: &[u32], values: &[u32], out: &mut [u32]) ->
         )
     }
 }
+
+// SAFETY: declared as in include/oddersnow.h.
+unsafe extern "C" {
+    fn oddersnow_sheet_read(
+        sheet: *const u8,
+        sheet_len: usize,
+        records: *mut u32,
+        records_len: usize,
+    ) -> u64;
+    fn oddersnow_sheet_write(
+        records: *const u32,
+        records_len: usize,
+        out: *mut u8,
+        out_len: usize,
+    ) -> u64;
+    fn oddersnow_sheet_compare(
+        first: *const u8,
+        first_len: usize,
+        second: *const u8,
+        second_len: usize,
+        out: *mut u8,
+        out_len: usize,
+    ) -> u64;
+}
+
+/// Reads a map sheet into records of seven words: four with the name's letters, low bytes first and
+/// zeros after them, then start, length and rights (r 1, w 2, x 4). The answer is how many there are,
+/// or with nothing changed number * 2^48 + rest: 13 and the first bad line, or 10 for too few words.
+#[inline]
+pub fn sheet_read(sheet: &[u8], records: &mut [u32]) -> u64 {
+    let (to, room) = (records.as_mut_ptr(), records.len());
+    // SAFETY: as for the machine; a lent sheet is read and not written.
+    unsafe { oddersnow_sheet_read(sheet.as_ptr(), sheet.len(), to, room) }
+}
+
+/// Writes the sheet of such records. The answer is how many bytes it has, or with nothing changed 13
+/// and the first bad line, or 10 for too few bytes.
+#[inline]
+pub fn sheet_write(records: &[u32], out: &mut [u8]) -> u64 {
+    let (to, room) = (out.as_mut_ptr(), out.len());
+    // SAFETY: as above.
+    unsafe { oddersnow_sheet_write(records.as_ptr(), records.len(), to, room) }
+}
+
+/// Writes the names in which two sheets differ, a line each. The answer is how many bytes that is, or
+/// with nothing changed 13 or 14 and the first bad line of the first or the second sheet, or 10.
+#[inline]
+pub fn sheet_compare(first: &[u8], second: &[u8], out: &mut [u8]) -> u64 {
+    // SAFETY: as above; the two sheets may be one, since neither is written.
+    unsafe {
+        oddersnow_sheet_compare(
+            first.as_ptr(),
+            first.len(),
+            second.as_ptr(),
+            second.len(),
+            out.as_mut_ptr(),
+            out.len(),
+        )
+    }
+}

@@ -1,6 +1,6 @@
-//! The second bench machine: plain Rust, written from documents 01 and 02, the CHERIoT report and
-//! the RISC-V standard alone, so that comparing it in bulk with the proved program means something.
-//! Of the other packages it takes only the names of what is lent as numbers.
+//! The second bench machine and map sheets: plain Rust, written from documents 01 and 02, the CHERIoT
+//! report and the RISC-V standard alone, so that comparing it in bulk with the proved program means
+//! something. Of the other packages it takes only the names of what is lent as numbers.
 //!
 //! Every public function is total: slices of any length, any words, no panic.
 
@@ -11,6 +11,7 @@ pub mod capability;
 pub mod compressed;
 pub mod decode;
 pub mod machine;
+pub mod sheet;
 pub mod text;
 
 pub use calls::calls;

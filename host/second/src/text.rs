@@ -44,7 +44,7 @@ fn request(line: &[u8]) -> Option<(u32, u32)> {
 }
 
 /// The value of hex digits, all of them lower case.
-fn hex_word(digits: &[u8]) -> Option<u32> {
+pub(crate) fn hex_word(digits: &[u8]) -> Option<u32> {
     digits.iter().try_fold(0u32, |value, &digit| {
         let nibble = match digit {
             b'0'..=b'9' => digit - b'0',

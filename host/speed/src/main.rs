@@ -1,5 +1,5 @@
-//! Steps a second of the proved machine and of the second program on long programs, in one process, and
-//! lookups of bounds by the proved routine and by plain ones.
+//! Steps a second of the proved machine and of the second program on long programs, in one process,
+//! lookups of bounds by the proved routine and by plain ones, and map sheets read and written by both.
 //!
 //!   speed                      all programs on both, with their ratio
 //!   speed ENGINE PROGRAM STEPS one run and no times, for an instruction count by callgrind;
@@ -8,9 +8,14 @@
 //!   speed lookup ROUTINE KIND LOOKUPS
 //!                              lookups by one routine and no times; ROUTINE is proved, second or tuned,
 //!                              KIND random, whole, exponent4 or small, LOOKUPS a number of millions
+//!   speed sheets               sheets of each size read and written by every routine
+//!   speed sheets ROUTINE WAY REGIONS BYTES
+//!                              one routine and no times; ROUTINE is proved, second or plain, WAY read or
+//!                              write, BYTES a number of millions
 
 mod lookup;
 mod programs;
+mod sheets;
 
 use lent::{Run, MOST_STEPS};
 use programs::{ready, NAMES};
@@ -73,6 +78,12 @@ fn asked(arguments: &[&str]) -> Option<()> {
             let sum = lookup::run(lookup::routine(name)?, kind, millions.parse().ok()?)?;
             println!("{sum:016x}");
         }
+        ["sheets"] => sheets::compare_all(),
+        ["sheets", name, way, regions, millions] => {
+            let bytes: usize = millions.parse().ok()?;
+            let (routine, way) = (sheets::routine(name)?, sheets::way(way)?);
+            sheets::run(routine, way, regions.parse().ok()?, 1_000_000 * bytes);
+        }
         [name, program, millions] => run(engine(name)?, program, millions.parse().ok()?),
         _ => return None,
     }
@@ -82,5 +93,7 @@ fn asked(arguments: &[&str]) -> Option<()> {
 fn main() {
     let arguments: Vec<String> = std::env::args().skip(1).collect();
     let arguments: Vec<&str> = arguments.iter().map(String::as_str).collect();
-    asked(&arguments).expect("speed [[lookup ROUTINE KIND | ENGINE PROGRAM] MILLIONS]");
+    asked(&arguments).expect(
+        "speed [[lookup ROUTINE KIND | sheets ROUTINE WAY REGIONS | ENGINE PROGRAM] MILLIONS]",
+    );
 }

@@ -1,14 +1,15 @@
 //! `bench run`: the start state, the run, what is said and saved at the end.
 
-use super::{read_names, read_state, refused, say, say_json};
+use super::{read_state, refused, say, say_json};
 use crate::arguments::Run;
 use crate::drive::{self, End, Outcome, Plan};
 use crate::image::{self, Image};
 use crate::names::Names;
 use crate::proved::{self, Counts, Refusal, MOST_STEPS};
 use crate::save::Place;
+use crate::sheet::{self, Sheet};
 use crate::trap::Trap;
-use crate::{json, report, sheet, state_file, trace, Status};
+use crate::{json, report, state_file, trace, Status};
 use indicatif::{ProgressBar, ProgressStyle};
 use lent::{State, Window};
 use std::io::Write;
@@ -23,13 +24,15 @@ const HEAP: &str = "heap";
 const MOST_SIZE: u64 = 1 << 24;
 
 pub fn run(asked: Run) -> Result<Status, String> {
-    let mut names = read_names(asked.map.as_deref())?;
-    let (mut state, images) = start(&asked, &names)?;
+    let map = asked.map.as_deref().map(sheet::read).transpose()?;
+    let (mut state, images) = start(&asked, map.as_ref())?;
     if let Err(refusal) = proved::run(&mut state, 0) {
         return refused(refusal, asked.json);
     }
     image::load(&mut state, &images.segments)?;
-    names.0.extend(images.names);
+    let mut names = map.as_ref().map_or(Vec::new(), Sheet::names);
+    names.extend(images.names);
+    let names = Names(names);
     let place = asked.save.as_deref().map(|path| place(path, &asked));
     let place = place.transpose()?;
     match drive(&asked, &mut state) {
@@ -44,9 +47,10 @@ pub fn run(asked: Run) -> Result<Status, String> {
 }
 
 /// The state to start from, a saved one or reset, and the images that go into its memory.
-fn start(asked: &Run, names: &Names) -> Result<(State, Image), String> {
+fn start(asked: &Run, map: Option<&Sheet>) -> Result<(State, Image), String> {
     let saved = asked.state.as_deref().map(read_state).transpose()?;
-    let (map_start, map_size) = sheet::span(&names.0).unwrap_or((DEFAULT_START, DEFAULT_SIZE));
+    let span = map.and_then(Sheet::span);
+    let (map_start, map_size) = span.unwrap_or((DEFAULT_START, DEFAULT_SIZE));
     let start = asked.start.unwrap_or(map_start);
     let start = saved.as_ref().map_or(start, |state| state.start);
     let mut images = Image::default();
@@ -66,25 +70,27 @@ fn start(asked: &Run, names: &Names) -> Result<(State, Image), String> {
     }
     let size = asked.size.unwrap_or(map_size).min(MOST_SIZE);
     let state = State::reset(start, vec![0; size as usize], entry);
-    Ok(match window(asked, names, start)? {
+    Ok(match window(asked, map, start)? {
         Some(window) => (windowed(state, window), images),
         None => (state, images),
     })
 }
 
 /// The window that is asked for, or the map's; none is all of memory.
-fn window(asked: &Run, names: &Names, start: u32) -> Result<Option<Window>, String> {
+fn window(asked: &Run, map: Option<&Sheet>, start: u32) -> Result<Option<Window>, String> {
     if let Some(&[start, size]) = asked.window.as_deref() {
         return Ok(Some(Window { start, size }));
     }
-    let Some(heap) = names.0.iter().find(|region| region.name == HEAP) else {
+    let heap = map.and_then(|map| map.regions.iter().find(|region| region.name == HEAP));
+    let Some(heap) = heap else {
         return Ok(None);
     };
-    let offset = heap.start.checked_sub(start);
-    let size = u32::try_from(heap.length);
-    match (offset, size) {
-        (Some(start), Ok(size)) => Ok(Some(Window { start, size })),
-        _ => Err("the map's heap begins below memory's start; --window says which part".into()),
+    match heap.start.checked_sub(start) {
+        Some(start) => Ok(Some(Window {
+            start,
+            size: heap.length,
+        })),
+        None => Err("the map's heap begins below memory's start; --window says which part".into()),
     }
 }
 

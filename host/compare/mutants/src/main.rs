@@ -12,10 +12,11 @@ use compare::lists::{self, List};
 use compare::machines;
 use compare::options::Options;
 use compare::rows::Table;
+use compare::sheets::{self, Sheets};
 use compare::state::Call;
 use lent::State;
 use mutants::capability::Cut;
-use mutants::{select, MUTANTS};
+use mutants::{select, sheet, MUTANTS};
 use std::process::ExitCode;
 
 /// The most cases for one wrong machine.
@@ -27,6 +28,9 @@ const RIGHT_CASES: u64 = 100_000;
 const STARTS: u64 = 100_000;
 const IDLE_STARTS: u64 = 1000;
 const RIGHT_STARTS: u64 = 10_000;
+/// The same for sheets, of which a case has many.
+const SHEETS_CASES: u64 = 20_000;
+const RIGHT_SHEETS: u64 = 2_000;
 
 fn cut(base: u32, length: u32) -> CutAnswer {
     let (number, low, high, exact) = match mutants::capability::cut(base, length) {
@@ -44,6 +48,12 @@ fn cut(base: u32, length: u32) -> CutAnswer {
 const LABEL: Label = Label {
     cut,
     bounds: mutants::capability::bounds,
+};
+
+const SHEETS: Sheets = Sheets {
+    read: sheet::read,
+    write: sheet::write,
+    compare: sheet::compare,
 };
 
 fn calls(list: &mut List) -> u32 {
@@ -80,6 +90,9 @@ fn told_apart(comparison: &str, table: &Table, seed: u64, cases: u64) -> Option<
         "halves" => halves::compare(machine, seed, halves::CASES, None)
             .err()
             .map(|found| found.number),
+        "sheets" => sheets::compare(SHEETS, seed, cases.min(SHEETS_CASES))
+            .err()
+            .map(|found| found.case),
         "authority" => authority::search(machine, table, seed, cases.min(STARTS), None)
             .err()
             .map(|gain| gain.number),
@@ -94,7 +107,8 @@ fn run(options: &Options) -> Result<String, String> {
     let table = table();
     let mut faults = Vec::new();
     let right = ["cuts", "lists", "machine", "halves"].map(|comparison| (comparison, RIGHT_CASES));
-    for (comparison, cases) in right.into_iter().chain([("authority", RIGHT_STARTS)]) {
+    let fewer = [("authority", RIGHT_STARTS), ("sheets", RIGHT_SHEETS)];
+    for (comparison, cases) in right.into_iter().chain(fewer) {
         if let Some(case) = told_apart(comparison, &table, options.seed, cases) {
             faults.push(format!("no mutant: {comparison} differs at case {case}"));
         }
