@@ -99,8 +99,8 @@ pub extern "C" fn oddersnow_step(
     window_size: u32,
     revoked: &[u8],
 ) -> u64
-    ensures { λ r. ⌜ StepPacked (boardOf start «window_start» «window_size») (now (revoked .entry)) (state (now (regs .entry)) (now (mem .entry)) (now (tags .entry)))
-        (state (now (regs .exit)) (now (mem .exit)) (now (tags .exit))) r ⌝ }
+    ensures { λ r. ⌜ StepPacked (boardOf start «window_start» «window_size») (now (revoked .entry))
+        (state (now (regs .entry)) (now (mem .entry)) (now (tags .entry))) (state (now (regs .exit)) (now (mem .exit)) (now (tags .exit))) r ⌝ }
 {
     let board = Board {
         start,
@@ -125,8 +125,8 @@ pub extern "C" fn oddersnow_run(
     revoked: &[u8],
     steps: u32,
 ) -> u64
-    ensures { λ r. ⌜ RunPacked steps (boardOf start «window_start» «window_size») (now (revoked .entry)) (state (now (regs .entry)) (now (mem .entry)) (now (tags .entry)))
-        (state (now (regs .exit)) (now (mem .exit)) (now (tags .exit))) r ⌝ }
+    ensures { λ r. ⌜ RunPacked steps (boardOf start «window_start» «window_size») (now (revoked .entry))
+        (state (now (regs .entry)) (now (mem .entry)) (now (tags .entry))) (state (now (regs .exit)) (now (mem .exit)) (now (tags .exit))) r ⌝ }
 {
     let board = Board {
         start,

@@ -1,5 +1,5 @@
--- Which lent buffers are refused: Refusals. The window of the revocation bits: Windows. What a step keeps, and that a run is its single steps: Kept, Runs, Bytes, Fits. What a trap changes: Traps.
--- What a step changes in memory, and where a tag comes from: Stores. Integer results: Integers. Which wrong programs
+-- Which lent buffers are refused: Refusals. The window of the revocation bits: Windows. What a step keeps, and that a run is its single steps: Kept, Runs,
+-- Bytes, Fits. What a trap changes: Traps. What a step changes in memory, and where a tag comes from: Stores. Integer results: Integers. Which wrong programs
 -- the promises of a step and a run shut out: ShutOut. The others serve them; the worked cases of specs/Cases hold: Cases.
 pub mod Fetch
 pub mod Refusals

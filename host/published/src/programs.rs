@@ -7,7 +7,7 @@ use crate::script::{lines, Line, Place};
 use crate::tools::{self, Symbols};
 use compare::machines::{second, shown, Machine};
 use compare::state::Call;
-use lent::{Answer, Capability, State};
+use lent::{Answer, Capability, State, Window};
 use std::fs;
 use std::path::{Path, PathBuf};
 
@@ -49,6 +49,13 @@ impl Running {
             Line::Lend(place, values) => {
                 lend(&mut self.ours, place, values)?;
                 lend(&mut self.theirs, place, values)?;
+            }
+            Line::Window(first, end) => {
+                let start = first.wrapping_sub(self.ours.start);
+                let size = end.wrapping_sub(*first);
+                for state in [&mut self.ours, &mut self.theirs] {
+                    *state = std::mem::take(state).with_window(Window { start, size });
+                }
             }
             Line::Revoke(first, end) => {
                 for granule in (*first..*end).step_by(8) {

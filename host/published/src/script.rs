@@ -4,6 +4,7 @@
 //! ```text
 //! // memory: START SIZE          the memory; the program is linked at its start
 //! // lend: PLACE = VALUE         what a register or a control word holds
+//! // window: FIRST END           the bytes that have revocation bits, all of them clear; else memory's
 //! // revoke: FIRST END           the revocation bits of those bytes
 //! // run: STEPS
 //! // expect: PLACE = VALUE
@@ -38,6 +39,7 @@ pub enum Place {
 pub enum Line {
     Memory(u32, u32),
     Lend(Place, Vec<u32>),
+    Window(u32, u32),
     Revoke(u32, u32),
     Run(u32),
     Expect(Place, Vec<u32>),
@@ -65,6 +67,7 @@ fn line(kind: &str, rest: &str, symbols: &Symbols) -> Result<Option<Line>, Strin
     };
     Ok(Some(match kind {
         "memory" => two(rest).map(|(start, size)| Line::Memory(start, size))?,
+        "window" => two(rest).map(|(first, end)| Line::Window(first, end))?,
         "revoke" => two(rest).map(|(first, end)| Line::Revoke(first, end))?,
         "run" => Line::Run(value(rest, symbols)?),
         "lend" => assigned(rest, symbols).map(|(place, values)| Line::Lend(place, values))?,
