@@ -1,4 +1,4 @@
-/* Oddersnow: the CHERIoT bench machine, its cutter and lists of its calls, for C.
+/* Oddersnow: the CHERIoT bench machine, its cutter and lists of its calls, and map sheets, for C.
  *
  * Numbers and slices only. A slice is a pointer and a count of elements. Every function takes any
  * numbers and any slices, answers by a number, and keeps nothing between calls; a slice may be empty, and
@@ -7,7 +7,8 @@
  *
  *   libraries: `rt staticlib label` has the first six functions (target/staticlib/liblabel.a),
  *   `rt staticlib call_lists` oddersnow_calls (target/staticlib/libcall_lists.a), `rt staticlib bench_api`
- *   the last two (target/staticlib/libbench_api.a). A program may link all three.
+ *   oddersnow_step and oddersnow_run (target/staticlib/libbench_api.a), `rt staticlib sheet_api` the
+ *   functions about sheets (target/staticlib/libsheet_api.a). A program may link all of them.
  */
 #ifndef ODDERSNOW_H
 #define ODDERSNOW_H
@@ -84,9 +85,38 @@ uint64_t oddersnow_run(uint32_t *regs, size_t regs_len, uint32_t start,
                        uint32_t window_start, uint32_t window_size, const uint8_t *revoked, size_t revoked_len,
                        uint32_t steps);
 
+/* Map sheets. A sheet is text, a line a region:
+ *
+ *   region<TAB>name<TAB>start<TAB>length<TAB>rights
+ *
+ * with 1 to 16 lower-case letters, twice eight lower-case hexadecimal digits, and one or more of r, w, x in that
+ * order; 1 to 64 lines, each ended by a newline. A line is bad if it is of another form, if its region has length
+ * 0 or an end past 2^32, if it has the name of an earlier one or a byte in common with it, or if it is the 65th; an
+ * empty sheet is bad at line 1.
+ *
+ * For C a region is a record of seven words: the name's 16 bytes in four words, the lowest byte first, bytes after
+ * the name 0; start; length; rights (r 1, w 2, x 4).
+ *
+ * Each answer is number * 2^48 + rest; oddersnow_number and oddersnow_rest take it apart. Where the number is not
+ * 0, nothing is written; where it is, what lies past the answer stays. Too little room, number 10, is tested last.
+ *
+ * oddersnow_sheet_read reads a sheet into records: 0 and how many, or 13 and the first bad line, or 10.
+ * oddersnow_sheet_write writes the sheet of records: 0 and how many bytes, or 13 and the first bad line (record n is
+ * line n; words that make no whole record are a bad one; no words at all are bad at line 1), or 10. What was read
+ * is written as the same bytes, and what was written is read as the same words.
+ * oddersnow_sheet_compare lists the names that one sheet has and the other has not, or has with another start, length
+ * or rights, sorted, each once and with a newline: 0 and how many bytes (0 where both have the same regions), or 13 and the first bad line
+ * of the first sheet, or 14 and that of the second, or 10.
+ */
+uint64_t oddersnow_sheet_read(const uint8_t *sheet, size_t sheet_len, uint32_t *records, size_t records_len);
+uint64_t oddersnow_sheet_write(const uint32_t *records, size_t records_len, uint8_t *out, size_t out_len);
+uint64_t oddersnow_sheet_compare(const uint8_t *first, size_t first_len, const uint8_t *second, size_t second_len,
+                                 uint8_t *out, size_t out_len);
+
 static inline uint32_t oddersnow_number(uint64_t answer) { return (uint32_t)(answer >> 48); }
 static inline uint32_t oddersnow_trapped(uint64_t answer) { return (uint32_t)(answer >> 24) & 0xffffff; }
 static inline uint32_t oddersnow_retired(uint64_t answer) { return (uint32_t)answer & 0xffffff; }
+static inline uint64_t oddersnow_rest(uint64_t answer) { return answer & 0xffffffffffff; }
 
 #ifdef __cplusplus
 }

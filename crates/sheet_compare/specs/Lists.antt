@@ -17,7 +17,7 @@ pub data In {A : Type 0} : A → List A → Type 0 where
 pub data Odd (rs other : List Region) : List ℕ → Type 0 where
   odd : (r : Region) → In r rs → (In r other → ⊥) → Odd rs other (r .name)
 
--- the names whose start, length or rights differ, or that only one sheet has
+-- a name that one sheet has and the other has not, or has with another start, length or rights
 abbrev pub Differs : (a b : List Region) (name : List ℕ) → Type 0
 Differs a b n = Odd a b n ⊎ Odd b a n
 

@@ -11,7 +11,7 @@ use borrow.Author.Tests.{leb-true, leb-false, le-leb}
 use lib.Dec.{leb}
 use lib.ListN.{length, take, drop, set, getD, length-append, length-take, length-drop, take-append-drop}
 use lib.Seq.{take-at, take-nil, take-all, take-append-le, take-append-add, drop-append-add, drop-drop, set-split, take-suc, append-snoc, take-append-seam}
-use Rattle.text.specs.Writing.{put, fitting, delivered, Puts, Placed, Delivers}
+use Rattle.text.specs.Writing.{put, fitting, fitsIn, delivered, Puts, Placed, Delivers}
 
 -- how much fits
 pub fitting-whole : (o : List ℕ) (at : ℕ) (t : List ℕ) → at + length t ≤ length o → fitting o at t ≡ t
@@ -182,4 +182,6 @@ delivers-made {made = made} {t} {n = n} p d =
 -- a text that fits is delivered, and is read again there
 pub delivered-take : (t o : List ℕ) → length t ≤ length o → take (length t) (delivered t o) ≡ t
 unfolding delivered put
-delivered-take t o h = rw (le-leb (length t) (length o) h, zero-add) (take-append-seam t (drop (length t) o))
+delivered-take t o h =
+    let f : fitsIn t o ≡ true = le-leb (length t) (length o) h in
+    rw (f, zero-add) (take-append-seam t (drop (length t) o))
