@@ -1,4 +1,4 @@
-/* Oddersnow: the CHERIoT bench machine, its cutter and lists of its calls, and map sheets, for C.
+/* Oddersnow: the CHERIoT bench machine, its cutter and lists of its calls, map sheets and images, for C.
  *
  * Numbers and slices only. A slice is a pointer and a count of elements. Every function takes any
  * numbers and any slices, answers by a number, and keeps nothing between calls; a slice may be empty, and
@@ -112,6 +112,17 @@ uint64_t oddersnow_sheet_read(const uint8_t *sheet, size_t sheet_len, uint32_t *
 uint64_t oddersnow_sheet_write(const uint32_t *records, size_t records_len, uint8_t *out, size_t out_len);
 uint64_t oddersnow_sheet_compare(const uint8_t *first, size_t first_len, const uint8_t *second, size_t second_len,
                                  uint8_t *out, size_t out_len);
+
+/* Two images and one board. An image is a map sheet, then an empty line, then a payload, which may be empty; where the
+ * empty line is missing, the sheet is bad at the line after its last. An image fits the board if for each of its regions
+ * the board has one that contains it and has all its rights. The answer is
+ *
+ *   0: image * 2^40 + place   the image, 1 or 2, that fits (the first, if both do); its payload runs from place to its end
+ *   16 * 2^48                 neither fits
+ *   17 * 2^48 + line          the board's sheet is bad; 18: the first image's; 19: the second image's; judged in that order
+ */
+uint64_t oddersnow_fit(const uint8_t *board, size_t board_len, const uint8_t *first, size_t first_len,
+                       const uint8_t *second, size_t second_len);
 
 static inline uint32_t oddersnow_number(uint64_t answer) { return (uint32_t)(answer >> 48); }
 static inline uint32_t oddersnow_trapped(uint64_t answer) { return (uint32_t)(answer >> 24) & 0xffffff; }

@@ -1,16 +1,18 @@
--- Worked examples of sheets and comparisons, for the sentences of document 02, 7: one table, one statement, of the definitions.
+-- Worked examples of sheets, comparisons and images, for each sentence of document 02, 7 and 12: one table, one statement, of the definitions.
 -- Assumes nothing.
 use mathlib.Core.Bool.{Bool, true, false, _&&_}
 use mathlib.Core.List.{List, [], _∷_, _++_}
-use Prim.Native.Nat.{ℕ}
+use Prim.Native.Nat.{ℕ, _+_, _*_, _^_}
 use Prim.Native.String.{String}
 use lib.Dec.{eqb}
 use lib.ListN.{length}
+use Rattle.fit.specs.Fit.{choiceOf, outcome}
 use Rattle.sheets.specs.Records.{sheetWords, judged}
 use Rattle.sheets.specs.Scanning.{readOf}
 use Rattle.sheets.specs.Sheet.{same, sheetText, Answer, sheet, bad}
 use Rattle.sheet_compare.specs.Compare.{listText}
 use Rattle.sheet_api.specs.Bytes.{bytes}
+use Rattle.sheet_api.specs.Numbers.{fitNumber}
 
 pub data Case : Type 0 where
   -- the text is a sheet of so many regions; it is written as itself, and its words are judged to be it
@@ -19,6 +21,8 @@ pub data Case : Type 0 where
   wrong : (text : String) (line : ℕ) → Case
   -- what a comparison of two sheets lists
   differ : (first second list : String) → Case
+  -- the answer for a board and two images, as C has it
+  fit : (board first second : String) (number : ℕ) → Case
 
 unfoldable pub judgedGood : Answer → (count : ℕ) → Bool
 judgedGood (sheet rs rest) n = eqb (length rs) n
@@ -41,6 +45,7 @@ unfoldable pub holds : Case → Bool
 holds (good text n) = readGood (readOf false (bytes text)) (bytes text) n
 holds (wrong text n) = readBad (readOf false (bytes text)) n
 holds (differ a b list) = lists (readOf false (bytes a)) (readOf false (bytes b)) (bytes list)
+holds (fit b f s n) = eqb (fitNumber (choiceOf (bytes f) (bytes s) (outcome (bytes b) (bytes f) (bytes s)))) n
 
 unfoldable pub all : List Case → Bool
 all [] = true
@@ -70,7 +75,7 @@ forms =
     ∷ wrong "region\tram\t20000000\t00010000\trw\n\n" 2
     ∷ []
 
--- 7: length 0, an end past 2 ^ 32, overlap, a repeated name; of two that clash the later line is bad
+-- 7: lines of the right form that are bad all the same, and their neighbours that are not
 unfoldable pub clashing : List Case
 clashing =
     wrong "region\tram\t20000000\t00000000\trw\n" 1
@@ -92,5 +97,18 @@ comparisons =
     "region\ta\t00000000\t00000100\tr\nregion\tab\t00000100\t00000100\trw\n" "a\nab\nc\n"
     ∷ []
 
+-- 12: the first that fits, an empty payload, one byte too long, a right too many, two board regions that adjoin, and whose sheet is bad
+unfoldable pub images : List Case
+images =
+    fit "region\tram\t00000000\t00000100\trw\n" "region\ta\t00000000\t00000100\tr\n\npay" "region\ta\t00000000\t00000100\tr\n\n" (2 ^ 40 + 30)
+    ∷ fit "region\tram\t00000000\t00000100\trw\n" "region\ta\t00000000\t00000101\tr\n\npay" "region\ta\t00000000\t00000100\tr\n\n" (2 * 2 ^ 40 + 30)
+    ∷ fit "region\tram\t00000000\t00000100\trw\n" "region\ta\t00000000\t00000100\trx\n\n" "region\ta\t00000000\t00000101\tr\n\n" (16 * 2 ^ 48)
+    ∷ fit "region\ta\t00000000\t00000100\tr\nregion\tb\t00000100\t00000100\tr\n"
+    "region\ta\t00000080\t00000100\tr\n\n" "region\ta\t00000080\t00000100\tr\n\n" (16 * 2 ^ 48)
+    ∷ fit "" "" "" (17 * 2 ^ 48 + 1)
+    ∷ fit "region\tram\t00000000\t00000100\trw\n" "region\ta\t00000000\t00000100\tr\n" "region\ta\t00000000\t00000100\tr\n\n" (18 * 2 ^ 48 + 2)
+    ∷ fit "region\tram\t00000000\t00000100\trw\n" "region\ta\t00000000\t00000100\tr\n\n" "\n" (19 * 2 ^ 48 + 1)
+    ∷ []
+
 unfoldable pub cases : List Case
-cases = forms ++ clashing ++ comparisons
+cases = forms ++ clashing ++ comparisons ++ images

@@ -5,6 +5,9 @@ use mathlib.Core.Bool.{false}
 use mathlib.Core.List.{List}
 use mathlib.Core.Path.{_≡_}
 use Prim.Native.Nat.{ℕ, _+_, _*_, _%_, _^_}
+use Rattle.fit.specs.Fit.{choiceOf, outcome}
+use Rattle.fit.specs.declared.Choice.{Choice}
+use Rattle.fit.specs.declared.Choice.the-variants as Choice
 use Rattle.sheets.specs.Records.{judged}
 use Rattle.sheets.specs.Scanning.{readOf}
 use Rattle.sheet_reader.specs.Words.{readAnswer, readAfter}
@@ -37,6 +40,18 @@ compareNumber (CompareAnswer.BadFirst n) = numbered 13 n
 compareNumber (CompareAnswer.BadSecond n) = numbered 14 n
 compareNumber CompareAnswer.NoRoom = numbered 10 0
 
+-- the image's number times 2 ^ 40, and where its payload begins; 16 is that neither fits, 17 to 19 a bad sheet: the board's, the first image's, the second's
+unfoldable pub placedAt : (image place : ℕ) → ℕ
+placedAt image place = image * 2 ^ 40 + place % 2 ^ 40
+
+unfoldable pub fitNumber : Choice → ℕ
+fitNumber (Choice.First at) = placedAt 1 at
+fitNumber (Choice.Second at) = placedAt 2 at
+fitNumber Choice.Neither = numbered 16 0
+fitNumber (Choice.BadBoard n) = numbered 17 n
+fitNumber (Choice.BadFirst n) = numbered 18 n
+fitNumber (Choice.BadSecond n) = numbered 19 n
+
 -- what the functions for C promise: the number, and the lent output as it is left
 pub record ReadNumbered (text before after : List ℕ) (number : ℕ) : Type 0 where
   pub number-is : number ≡ readNumber (readAnswer (readOf false text) before)
@@ -49,3 +64,6 @@ pub record WriteNumbered (words before after : List ℕ) (number : ℕ) : Type 0
 pub record CompareNumbered (first second before after : List ℕ) (number : ℕ) : Type 0 where
   pub number-is : number ≡ compareNumber (compareAnswer (readOf false first) (readOf false second) before)
   pub after-is : after ≡ compareAfter (readOf false first) (readOf false second) before
+
+pub record FitNumbered (board first second : List ℕ) (number : ℕ) : Type 0 where
+  pub number-is : number ≡ fitNumber (choiceOf first second (outcome board first second))

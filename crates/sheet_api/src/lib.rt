@@ -1,10 +1,12 @@
-// Map sheets for C: numbers and slices only.
+// Map sheets and images for C: numbers and slices only.
+use fit::Choice;
 use sheet_compare::CompareAnswer;
 use sheet_reader::ReadAnswer;
 use sheet_writer::WriteAnswer;
 ghost use mathlib.Core.Path.{_≡_};
 ghost use Prim.Native.Nat.{_<_};
-ghost use Rattle.sheet_api.specs.Numbers.{CompareNumbered, ReadNumbered, WriteNumbered, compareNumber, readNumber, writeNumber};
+ghost use Rattle.sheet_api.specs.Numbers.{CompareNumbered, FitNumbered, ReadNumbered, WriteNumbered};
+ghost use Rattle.sheet_api.specs.Numbers.{compareNumber, fitNumber, placedAt, readNumber, writeNumber};
 ghost use Rattle.sheet_api.specs.Numbers.{numbered as Numbers·numbered};
 
 // The place of a number in an answer, 2^48.
@@ -17,12 +19,32 @@ const BAD_LINE: u64 = 13;
 
 const BAD_SECOND: u64 = 14;
 
+// No image fits; a bad sheet of the board, of the first image, of the second.
+const NO_FIT: u64 = 16;
+
+const BAD_BOARD: u64 = 17;
+
+const BAD_FIRST_IMAGE: u64 = 18;
+
+const BAD_SECOND_IMAGE: u64 = 19;
+
+// The place of an image's number in an answer, 2^40.
+pub const IMAGE_PLACE: u64 = 0x100_0000_0000;
+
 // number * 2^48 + rest.
 fn numbered(number: u64, rest: usize) -> u64
     requires { ⌜ number < 65536 ⌝ }
     ensures { λ r. ⌜ r ≡ Numbers·numbered number rest ⌝ }
 {
     number * NUMBER_PLACE + rest as u64 % NUMBER_PLACE
+}
+
+// image * 2^40 + the payload's place.
+fn placed(image: u64, at: usize) -> u64
+    requires { ⌜ image < 256 ⌝ }
+    ensures { λ r. ⌜ r ≡ placedAt image at ⌝ }
+{
+    image * IMAGE_PLACE + at as u64 % IMAGE_PLACE
 }
 
 fn read_number(a: ReadAnswer) -> u64
@@ -56,6 +78,19 @@ fn compare_number(a: CompareAnswer) -> u64
     }
 }
 
+fn fit_number(a: Choice) -> u64
+    ensures { λ r. ⌜ r ≡ fitNumber a ⌝ }
+{
+    match a {
+        Choice::First(at) => placed(1, at),
+        Choice::Second(at) => placed(2, at),
+        Choice::Neither => numbered(NO_FIT, 0),
+        Choice::BadBoard(n) => numbered(BAD_BOARD, n),
+        Choice::BadFirst(n) => numbered(BAD_FIRST_IMAGE, n),
+        Choice::BadSecond(n) => numbered(BAD_SECOND_IMAGE, n),
+    }
+}
+
 // Reads a sheet into records of seven words.
 #[no_mangle]
 pub extern "C" fn oddersnow_sheet_read(sheet: &[u8], records: &mut [u32]) -> u64
@@ -78,4 +113,12 @@ pub extern "C" fn oddersnow_sheet_compare(first: &[u8], second: &[u8], out: &mut
     ensures { λ r. ⌜ CompareNumbered (now (first .entry)) (now (second .entry)) (now (out .entry)) (now (out .exit)) r ⌝ }
 {
     compare_number(sheet_compare::compare(first, second, out))
+}
+
+// Which of two images fits a board, and where its payload begins.
+#[no_mangle]
+pub extern "C" fn oddersnow_fit(board: &[u8], first: &[u8], second: &[u8]) -> u64
+    ensures { λ r. ⌜ FitNumbered (now (board .entry)) (now (first .entry)) (now (second .entry)) r ⌝ }
+{
+    fit_number(fit::choose(board, first, second))
 }
