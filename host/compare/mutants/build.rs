@@ -7,7 +7,15 @@ use std::fmt::Write;
 use std::path::{Path, PathBuf};
 use std::{env, fs};
 
-const SOURCES: [&str; 6] = ["calls", "capability", "decode", "machine", "sheet", "text"];
+const SOURCES: [&str; 7] = [
+    "calls",
+    "capability",
+    "decode",
+    "fit",
+    "machine",
+    "sheet",
+    "text",
+];
 
 /// One paragraph of mutants.txt.
 #[derive(Default)]

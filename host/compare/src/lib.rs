@@ -14,6 +14,7 @@ pub mod coverage;
 pub mod cuts;
 pub mod derivations;
 pub mod held;
+pub mod images;
 pub mod instructions;
 pub mod lists;
 pub mod machines;

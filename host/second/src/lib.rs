@@ -9,6 +9,7 @@
 pub mod calls;
 pub mod capability;
 pub mod decode;
+pub mod fit;
 pub mod machine;
 pub mod sheet;
 pub mod text;
