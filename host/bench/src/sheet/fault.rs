@@ -7,6 +7,21 @@ use crate::proved::sheets::{self, Record, MOST_REGIONS};
 
 const MOST_LETTERS: usize = 16;
 
+/// The reason for a bad line of an image's sheet, which an empty line ends.
+pub fn reason_in_image(image: &[u8], line: u64) -> String {
+    let place = line.saturating_sub(1) as usize;
+    let mut lines = image.split_inclusive(|byte| *byte == b'\n');
+    match lines.nth(place) {
+        None if line > 1 => "the image ends here, without the empty line after its sheet".into(),
+        Some(b"\n") => "the image begins with the empty line: its sheet has no region".into(),
+        Some(text) if line > 1 && region(text).is_err() => {
+            let reason = reason(image, line);
+            format!("{reason}; no empty line has ended the image's sheet before it")
+        }
+        _ => reason(image, line),
+    }
+}
+
 /// The reason for a bad line.
 pub fn reason(sheet: &[u8], line: u64) -> String {
     let place = line.saturating_sub(1) as usize;
@@ -73,6 +88,7 @@ fn clash(before: &[Record], region: &Record) -> String {
 
 #[cfg(test)]
 mod tests {
+    use crate::proved::sheets::{self, BadLine};
     use crate::sheet;
 
     /// The line and the reason of a bad sheet.
@@ -108,6 +124,36 @@ mod tests {
         }
         assert_eq!(said(b"\xFF\n"), (1, "it is not text".into()));
         assert_eq!(said(b""), (1, "the sheet has no region".into()));
+    }
+
+    #[test]
+    fn bad_lines_of_images_are_named_with_what_is_wrong() {
+        let good = "region\tcode\t20000000\t00000400\trx\n";
+        for (image, line, reason) in [
+            (String::new(), 1, "the sheet has no region"),
+            ("\npayload".into(), 1, "begins with the empty line"),
+            (good.into(), 2, "ends here, without the empty line"),
+            (
+                format!("{good}payload"),
+                2,
+                "it has no newline; no empty line",
+            ),
+            (
+                format!("{good}\r\n"),
+                2,
+                "carriage return before its newline; no empty line",
+            ),
+            (
+                format!("{good}{good}\n"),
+                2,
+                "there is a region code before it",
+            ),
+        ] {
+            let BadLine(found) = sheets::label(image.as_bytes()).expect_err("a bad sheet");
+            assert_eq!(found, line, "{image:?}");
+            let said = super::reason_in_image(image.as_bytes(), found);
+            assert!(said.contains(reason), "{image:?}: {said}");
+        }
     }
 
     #[test]
