@@ -3,7 +3,7 @@
 mod common;
 
 use common::words::{addi, EBREAK};
-use common::{bench_in, directory, examples, golden};
+use common::{bench_in, directory, examples, golden, shell_in};
 use serde_json::json;
 use std::path::PathBuf;
 
@@ -243,4 +243,23 @@ fn the_payload_of_an_image_with_a_sheet_is_loaded() {
             answer.err
         );
     }
+}
+
+/// Files that can be read once, and output that cannot be written: the run is made and saved all the same.
+#[test]
+fn pipes_are_read_once_and_what_cannot_be_said_is_saved() {
+    let good = image(0x2000_0000, 16, "rx", &code());
+    let directory = with_images("fit_pipes", &[("good", good)]);
+    let answer = shell_in(
+        &directory,
+        "$BENCH fit <(cat board) <(cat good) <(cat good)",
+    );
+    assert_eq!((answer.status, answer.err.as_str()), (0, ""));
+    assert!(answer.out.starts_with("Image 1 fits /dev/fd/"));
+    let answer = shell_in(
+        &directory,
+        "$BENCH run --map board good --save end >/dev/full",
+    );
+    assert_eq!(answer.status, 3, "{}", answer.err);
+    assert!(directory.join("end").exists());
 }

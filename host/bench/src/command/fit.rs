@@ -3,7 +3,7 @@
 use super::{refused_sheet, say, say_json};
 use crate::arguments::Fit as Asked;
 use crate::capability_text::count;
-use crate::proved::sheets::{self, Fit, Label, BAD_BOARD, BAD_IMAGE};
+use crate::proved::sheets::{self, BadLine, Fit, Label, BAD_BOARD, BAD_IMAGE};
 use crate::sheet::label::{placed, Placed};
 use crate::sheet::{self, letters, Bad, Sheet};
 use crate::{file, json, Status};
@@ -16,10 +16,9 @@ pub struct Board {
 }
 
 impl Board {
-    /// The board of a sheet's file, or what is wrong with the file.
-    pub fn read(path: &Path) -> Result<Board, String> {
-        let bytes = file::read(path)?;
-        let sheet = sheet::of(&bytes).map_err(|bad| bad.shown(path))?;
+    /// The board of a sheet's bytes, or what is wrong with them.
+    pub fn of(bytes: Vec<u8>) -> Result<Board, Bad> {
+        let sheet = sheet::of(&bytes)?;
         Ok(Board { bytes, sheet })
     }
 }
@@ -29,6 +28,14 @@ pub struct Labelled<'a> {
     pub path: &'a Path,
     pub bytes: &'a [u8],
     pub label: Label,
+}
+
+impl Labelled<'_> {
+    /// An image with its label, or its first bad line.
+    pub fn of<'a>(path: &'a Path, bytes: &'a [u8]) -> Result<Labelled<'a>, BadLine> {
+        let label = sheets::label(bytes)?;
+        Ok(Labelled { path, bytes, label })
+    }
 }
 
 /// An image beside a board.
@@ -79,19 +86,22 @@ pub fn obey(asked: &Asked) -> Result<Status, String> {
             length: images[which.place()].len() - payload,
         }),
     };
-    conclude(asked, &images, chosen.as_ref())?;
+    let board = Board::of(bytes).map_err(|bad| bad.shown(&asked.board))?;
+    conclude(asked, &board, &images, chosen.as_ref())?;
     Ok(chosen.map_or(Status::NoFit, |_| Status::Ran))
 }
 
 /// Says the answer; every sheet is good.
-fn conclude(asked: &Asked, images: &[Vec<u8>], chosen: Option<&Chosen>) -> Result<(), String> {
-    let board = Board::read(&asked.board)?;
-    let labelled = asked.images.iter().zip(images).filter_map(|(path, bytes)| {
-        let label = sheets::label(bytes).ok()?;
-        Some(Labelled { path, bytes, label })
-    });
+fn conclude(
+    asked: &Asked,
+    board: &Board,
+    images: &[Vec<u8>],
+    chosen: Option<&Chosen>,
+) -> Result<(), String> {
+    let labelled = asked.images.iter().zip(images);
+    let labelled = labelled.filter_map(|(path, bytes)| Labelled::of(path, bytes).ok());
     let labelled: Vec<Labelled> = labelled.collect();
-    let images = labelled.iter().map(|image| Beside::of(&board, image));
+    let images = labelled.iter().map(|image| Beside::of(board, image));
     let images: Vec<Beside> = images.collect();
     if asked.json {
         say_json(&json::fit(chosen, &images))

@@ -6,7 +6,7 @@ use crate::arguments::Run;
 use crate::drive::{self, End, Outcome, Plan};
 use crate::image::{self, Image};
 use crate::names::Names;
-use crate::proved::sheets::{label, NEITHER};
+use crate::proved::sheets::NEITHER;
 use crate::proved::{self, Counts, Refusal, MOST_STEPS};
 use crate::save::Place;
 use crate::sheet::Sheet;
@@ -24,7 +24,7 @@ const DEFAULT_SIZE: u64 = 65_536;
 const MOST_SIZE: u64 = 1 << 24;
 
 pub fn run(asked: Run) -> Result<Status, String> {
-    let board = asked.map.as_deref().map(Board::read).transpose()?;
+    let board = asked.map.as_deref().map(board).transpose()?;
     let map = board.as_ref().map(|board| &board.sheet);
     let files = asked.images.iter().map(|path| file::read(path));
     let files: Vec<Vec<u8>> = files.collect::<Result<_, _>>()?;
@@ -43,29 +43,34 @@ pub fn run(asked: Run) -> Result<Status, String> {
     let names = Names(names);
     let place = asked.save.as_deref().map(|path| place(path, &asked));
     let place = place.transpose()?;
-    if !asked.json {
-        say(&labels_told(&asked, &labelled, &fits))?;
-    }
+    let told = if asked.json {
+        Ok(())
+    } else {
+        say(&labels_told(&asked, &labelled, &fits))
+    };
     match drive(&asked, &mut state) {
         Err(refusal) => refused(refusal, asked.json),
         Ok(outcome) => {
             // What cannot be said is saved nevertheless, and what cannot be saved is said.
             let said = conclude(&asked, &state, &outcome, &names, &fits);
             place.map_or(Ok(()), |place| place.write(&state_file::write(&state)))?;
-            said
+            told.and(said)
         }
     }
+}
+
+/// The board of a map sheet's file.
+fn board(path: &Path) -> Result<Board, String> {
+    Board::of(file::read(path)?).map_err(|bad| bad.shown(path))
 }
 
 /// The images that have a map sheet, where it is good; a bad one is told as the image is read.
 fn labelled<'a>(asked: &'a Run, files: &'a [Vec<u8>]) -> Vec<Labelled<'a>> {
     let files = asked.images.iter().zip(files);
     let files = files.filter(|(_, bytes)| image::is_labelled(asked.format, bytes));
-    let labelled = files.filter_map(|(path, bytes)| {
-        let label = label(bytes).ok()?;
-        Some(Labelled { path, bytes, label })
-    });
-    labelled.collect()
+    files
+        .filter_map(|(path, bytes)| Labelled::of(path, bytes).ok())
+        .collect()
 }
 
 /// Each of them beside the board, where there is one.
