@@ -1,4 +1,4 @@
-/* Oddersnow: the CHERIoT bench machine, its cutter and lists of its calls, for C.
+/* Oddersnow: the CHERIoT bench machine, its cutter, lists of its calls, board map sheets and images, for C.
  *
  * Numbers and slices only. A slice is a pointer and a count of elements. Every function takes any
  * numbers and any slices, answers by a number, and keeps nothing between calls; a slice may be empty, and
@@ -7,7 +7,8 @@
  *
  *   libraries: `rt staticlib label` has the first six functions (target/staticlib/liblabel.a),
  *   `rt staticlib call_lists` oddersnow_calls (target/staticlib/libcall_lists.a), `rt staticlib bench_api`
- *   the last two (target/staticlib/libbench_api.a). A program may link all three.
+ *   the step and the run (target/staticlib/libbench_api.a), `rt staticlib sheet_api` the last four
+ *   (target/staticlib/libsheet_api.a). A program may link all four.
  */
 #ifndef ODDERSNOW_H
 #define ODDERSNOW_H
@@ -80,6 +81,40 @@ uint64_t oddersnow_run(uint32_t *regs, size_t regs_len, uint32_t start,
                        uint8_t *mem, size_t mem_len, uint8_t *tags, size_t tags_len,
                        const uint8_t *revoked, size_t revoked_len, uint32_t steps);
 
+/* Board map sheets (document 02, 7). A sheet is 1 to 64 lines, each the word region, a name of 1 to 16 lower-case
+ * letters, start and length as eight lower-case hexadecimal digits and rights (r, w, x in that order), parted by single
+ * tabs and ended by a newline; no length is 0, no end past 2^32, no name twice, no two regions overlap. A record is seven
+ * words: four with the name's letters, low bytes first and zeros after them, then start, length and rights (r 1, w 2, x 4).
+ *
+ * read writes a sheet's records and tells how many there are; write writes the sheet of records; compare writes the names
+ * whose start, length or rights differ or that only one sheet has, sorted, each on a line; the latter two tell how many bytes.
+ * The answer is number * 2^48 + rest, with number 0 and that count, or with nothing written one of
+ *
+ *   10  the output is too short for the whole answer; rest is 0. This is tested last
+ *   13  the sheet, or the first of two, is bad; rest is its first bad line. Record n is line n; words that make no whole
+ *       record are a bad one; no record at all is bad at line 1
+ *   14  the second sheet is bad; rest is its first bad line
+ *
+ * What lies past the answer in the output stays.
+ */
+uint64_t oddersnow_sheet_read(const uint8_t *sheet, size_t sheet_len, uint32_t *records, size_t records_len);
+uint64_t oddersnow_sheet_write(const uint32_t *records, size_t records_len, uint8_t *out, size_t out_len);
+uint64_t oddersnow_sheet_compare(const uint8_t *first, size_t first_len, const uint8_t *second, size_t second_len,
+                                 uint8_t *out, size_t out_len);
+
+/* Which of two images fits a board (document 02, 12). An image is a map sheet, an empty line and a payload; it fits if each
+ * of its regions lies in one region of the board's sheet that has its rights. The answer is image * 2^40 + the payload's
+ * place in that image, from which it runs to the image's end; image is 1 or 2, and 1 where both fit. Or it is
+ *
+ *   16  neither fits; rest is 0              18  the first image's sheet is bad; rest is its first bad line
+ *   17  the board's sheet is bad; likewise   19  the second image's sheet is bad; likewise
+ *
+ * and the first bad sheet, in this order, is told even where an image fits.
+ */
+uint64_t oddersnow_fit(const uint8_t *board, size_t board_len, const uint8_t *first, size_t first_len,
+                       const uint8_t *second, size_t second_len);
+
+static inline uint64_t oddersnow_rest(uint64_t answer) { return answer & 0xffffffffffff; }
 static inline uint32_t oddersnow_number(uint64_t answer) { return (uint32_t)(answer >> 48); }
 static inline uint32_t oddersnow_trapped(uint64_t answer) { return (uint32_t)(answer >> 24) & 0xffffff; }
 static inline uint32_t oddersnow_retired(uint64_t answer) { return (uint32_t)answer & 0xffffff; }
