@@ -1,6 +1,7 @@
 #!/usr/bin/env bash
 # The demonstration, as `./bench demo`: one image on two boards (examples/interlock.md).
-# Its exit status is 0 if the image ends on the large board and is stopped on the small one.
+# Its exit status is 0 if the image's label fits the large board alone, and without the label the image ends on the
+# large board and is stopped on the small one.
 set -u
 cd "$(dirname "$0")/.." || exit 1
 
@@ -8,13 +9,30 @@ show() { # WORDS..: a command as it is typed, then what it writes
   printf '\n$ %s\n' "$*"
   "$@"
 }
+label() { # BOARD: the image's map sheet beside the board's
+  show ./bench fit "examples/interlock_$1.map" examples/interlock_image.img
+}
 board() { # NAME: the image on that board
   show ./bench run --map "examples/interlock_$1.map" "examples/interlock_$1.hex" examples/interlock_image.hex
 }
 
 cat <<'TEXT'
-Two boards have one part number and two memory maps. The image was built for the large one, and there it
-runs to its end.
+Two boards have one part number and two memory maps. The image was built for the large one, and its label, a
+map sheet before its bytes, says which memory it wants.
+TEXT
+label large
+fits=$?
+
+cat <<'TEXT'
+
+On the small one the label catches the mistake before anything runs: the stack is too short.
+TEXT
+label small
+misfits=$?
+
+cat <<'TEXT'
+
+The same image without its label has to be run to find out. On the large board it runs to its end.
 TEXT
 board large | sed -n 1,3p
 large=${PIPESTATUS[0]}
@@ -27,4 +45,4 @@ TEXT
 board small
 small=$?
 
-[ "$large" -eq 0 ] && [ "$small" -eq 1 ]
+[ "$fits" -eq 0 ] && [ "$misfits" -eq 1 ] && [ "$large" -eq 0 ] && [ "$small" -eq 1 ]

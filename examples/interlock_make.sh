@@ -1,5 +1,6 @@
 #!/usr/bin/env bash
-# Makes the demonstration's HEX files anew from their sources, with Debian's binutils-riscv64-unknown-elf.
+# Makes the demonstration's HEX files anew from their sources, with Debian's binutils-riscv64-unknown-elf, and the image
+# with its label: map sheet, empty line, HEX file.
 # interlock_make.sh [DIRECTORY]: where the files go, by default beside their sources. The linked ELF files go to
 # a DIRECTORY too.
 set -eu
@@ -20,5 +21,6 @@ make() { # NAME SOURCE TEXT-ADDRESS ASSEMBLER-OPTION..
 }
 make interlock_image interlock_image.s 0x20000100
 make interlock_image_short interlock_image.s 0x20000100 -march=rv32ic
+{ cat interlock_image.map; echo; cat "$out/interlock_image.hex"; } >"$out/interlock_image.img"
 make interlock_small interlock_board.s 0x20000000 --defsym STACK_END=0x20000800
 make interlock_large interlock_board.s 0x20000000 --defsym STACK_END=0x20002000

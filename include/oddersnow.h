@@ -124,10 +124,10 @@ uint64_t oddersnow_sheet_compare(const uint8_t *first, size_t first_len, const u
 uint64_t oddersnow_fit(const uint8_t *board, size_t board_len, const uint8_t *first, size_t first_len,
                        const uint8_t *second, size_t second_len);
 
+static inline uint64_t oddersnow_rest(uint64_t answer) { return answer & 0xffffffffffff; }
 static inline uint32_t oddersnow_number(uint64_t answer) { return (uint32_t)(answer >> 48); }
 static inline uint32_t oddersnow_trapped(uint64_t answer) { return (uint32_t)(answer >> 24) & 0xffffff; }
 static inline uint32_t oddersnow_retired(uint64_t answer) { return (uint32_t)answer & 0xffffff; }
-static inline uint64_t oddersnow_rest(uint64_t answer) { return answer & 0xffffffffffff; }
 
 #ifdef __cplusplus
 }

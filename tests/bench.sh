@@ -1,6 +1,6 @@
 #!/usr/bin/env bash
-# The bench command: it builds, its lints and tests, the demonstration, that the demonstration's HEX
-# files are what their sources make, and what ./bench shows where it builds and where it does not. The proved
+# The bench command: it builds, its lints and tests, how long a fit takes, the demonstration, that the demonstration's
+# images are what their sources make, and what ./bench shows where it builds and where it does not. The proved
 # libraries are built by rt, or lie in the directory that ODDERSNOW_STATICLIB names.
 set -u
 source "$(dirname "$0")/lib/check.sh"
@@ -18,10 +18,10 @@ tests() {
   fi
 }
 
-hex_files() {
+image_files() {
   need riscv64-unknown-elf-as binutils-riscv64-unknown-elf && examples/interlock_make.sh "$work" || return 1
   local file
-  for file in examples/interlock_*.hex; do cmp "$file" "$work/${file##*/}" || return 1; done
+  for file in examples/interlock_*.hex examples/interlock_*.img; do cmp "$file" "$work/${file##*/}" || return 1; done
 }
 
 # The ELF files run as the HEX files do, and name the function.
@@ -55,13 +55,33 @@ print(run["end"], run["retired"], run["trapped"], run["state"]["registers"][10],
   done
 }
 
-# What README.md shows at its head is what the demonstration writes.
+# What README.md shows at its head, each block that begins with a command, is what the demonstration writes.
 readme_shows() {
   ./bench demo >"$work/demo"
-  sed -n '/^```$/,/^```$/{/^```$/!p;}' README.md | sed '/^\.\/bench demo/,$d' >"$work/shown"
-  local from
-  from=$(grep -n -F -x -m 1 -e "$(head -n 1 "$work/shown")" "$work/demo" | cut -d: -f1) && [ -n "$from" ] &&
-    tail -n "+$from" "$work/demo" | head -n "$(wc -l <"$work/shown")" | diff - "$work/shown"
+  local block from
+  awk -v out="$work/shown" '/^```$/ { inside = !inside; block += inside; next } inside { print >(out block) }' README.md
+  for block in "$work/shown"[0-9]*; do
+    [ "$(head -c 10 "$block")" = '$ ./bench ' ] || continue
+    from=$(grep -n -F -x -m 1 -e "$(head -n 1 "$block")" "$work/demo" | cut -d: -f1) && [ -n "$from" ] &&
+      tail -n "+$from" "$work/demo" | head -n "$(wc -l <"$block")" | diff - "$block" && echo shown || return 1
+  done >"$work/blocks"
+  [ "$(grep -c -x shown "$work/blocks")" -eq 2 ]
+}
+
+# The best of twenty fits of an image of 1 MiB takes less than 10 ms, from the start of the command to its end.
+quick_fit() {
+  { cat examples/interlock_image.map; echo; head -c 1048576 /dev/zero; } >"$work/large.img"
+  python3 - host/bench/target/release/bench fit examples/interlock_large.map "$work/large.img" <<'PYTHON'
+import subprocess, sys, time
+def once():
+    begin = time.perf_counter()
+    said = subprocess.run(sys.argv[1:], capture_output=True, text=True, check=True).stdout
+    assert "1,048,576 bytes" in said, said
+    return time.perf_counter() - begin
+best = min(once() for _ in range(20))
+print(f"{1000 * best:.1f} ms")
+sys.exit(best >= 0.010)
+PYTHON
 }
 
 # With everything built, ./bench writes what the command writes and nothing else, from any folder.
@@ -140,9 +160,10 @@ check "./bench names a crate that is not proved" failure_named
 check "bench cargo fmt" in_bench cargo fmt --check
 check "bench cargo clippy" in_bench cargo clippy --release --all-targets -- -D warnings
 tests
+check "a fit of an image of 1 MiB takes less than 10 ms" quick_fit
 check "the demonstration" ./bench demo
 check "README.md shows the demonstration's output" readme_shows
-check "the demonstration's HEX files are their sources'" hex_files
+check "the demonstration's images are their sources'" image_files
 check "the demonstration's ELF files run as the HEX files" elf_files
 check "the demonstration's image with short words runs as the other" short_image
 exit $bad

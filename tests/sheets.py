@@ -1,6 +1,6 @@
 #!/usr/bin/env python3
-"""Map sheets through the bench command, beside code that is in neither program: Python's regular expressions for the form of
-a line, and sort, uniq and cut for a comparison. The rules are document 02's, 7. Prints 'ok NAME' or 'FAIL NAME' for each check."""
+"""Map sheets and images through the bench command, beside code that is in neither program: Python's regular expressions for the form of
+a line, and sort, uniq and cut for a comparison. The rules are document 02's, 7 and 12. Prints 'ok NAME' or 'FAIL NAME' for each check."""
 import os
 import random
 import re
@@ -11,7 +11,7 @@ import tempfile
 ROOT = os.path.dirname(os.path.dirname(os.path.abspath(__file__)))
 BENCH = os.path.join(ROOT, "host/bench/target/release/bench")
 LINE = re.compile(rb"region\t([a-z]{1,16})\t([0-9a-f]{8})\t([0-9a-f]{8})\t(r?w?x?)(?<!\t)\n")
-SHEETS, PAIRS = 800, 300
+SHEETS, PAIRS, IMAGES = 800, 300, 500
 TELLING = b"\n\t\r \x00/09:`abfgrwxz{AFRX\x80\xff"
 rng = random.Random(1)
 
@@ -30,6 +30,13 @@ def regions(text):
             return number
         found.append((name, start, end, set(match[4])))
     return found or 1
+
+
+def label(image):
+    """The same of an image's sheet, which the first empty line ends."""
+    sheet, empty, _ = image.partition(b"\n\n")
+    found = regions(sheet + b"\n" if empty else image)
+    return found if empty or isinstance(found, int) else len(found) + 1
 
 
 def good_lines():
@@ -67,6 +74,17 @@ def damaged(text):
     fields[rng.choice([2, 3])] = b"%08x" % (rng.choice(numbers) % (1 << 32))
     lines[line] = b"\t".join(fields)
     return b"".join(lines)
+
+
+def asking(lines):
+    """Some of a board's lines, or one of them asking for a byte or a right more."""
+    chosen = rng.sample(lines, min(rng.choice([1, 3]), len(lines)))
+    fields = chosen[0].split(b"\t")
+    if rng.random() < 0.3:
+        fields[3] = b"%08x" % (int(fields[3], 16) + 1)
+    elif rng.random() < 0.4:
+        fields[4] = b"rwx\n"
+    return b"".join([b"\t".join(fields)] + chosen[1:])
 
 
 def said(*words):
@@ -113,11 +131,41 @@ def compares():
     assert PAIRS > differing > PAIRS // 2, differing
 
 
+def holds(board, image):
+    return all(any(at <= start and end <= to and rights <= has for _, at, to, has in board) for _, start, end, rights in image)
+
+
+def fits():
+    """Two images on a board: which fits, the first bad sheet, or neither."""
+    answers = dict.fromkeys(["first", "second", "neither", "bad"], 0)
+    for _ in range(IMAGES):
+        lines = good_lines()
+        board = damaged(b"".join(lines)) if rng.random() < 0.1 else b"".join(lines)
+        texts = [asking(lines), asking(lines)]
+        texts = [damaged(text) if rng.random() < 0.2 else text for text in texts]
+        payloads = [rng.choice([b"", b"\n", b"payload\n\n"]) for _ in range(2)]
+        one, two = (text + rng.choice([b"\n"] * 9 + [b""]) + payload for text, payload in zip(texts, payloads))
+        put("board", board), put("one", one), put("two", two)
+        judged = [regions(board), label(one), label(two)]
+        status, out, err = said("fit", "board", "one", "two")
+        bad = next((place for place in range(3) if isinstance(judged[place], int)), None)
+        if bad is not None:
+            name = ["board", "one", "two"][bad]
+            assert status == 2 and err.startswith(f"bench: {name}: line {judged[bad]}: "), (board, one, two, judged, err)
+            answers["bad"] += 1
+            continue
+        first, second = (holds(judged[0], image) for image in judged[1:])
+        right = "Image 1 fits" if first else "Image 2 fits" if second else "Neither image fits"
+        assert status == (0 if first or second else 1) and out.startswith(right), (board, one, two, out, err)
+        answers["first" if first else "second" if second else "neither"] += 1
+    assert min(answers.values()) > IMAGES // 20, answers
+
+
 def main():
     bad = 0
     with tempfile.TemporaryDirectory() as folder:
         os.chdir(folder)
-        for check in (checks, compares):
+        for check in (checks, compares, fits):
             try:
                 check()
                 print(f"ok sheets: {check.__doc__}")

@@ -1,5 +1,5 @@
 #!/usr/bin/env bash
-# Map sheets through the bench command, beside Python's regular expressions and sort, uniq and cut
+# Map sheets and images through the bench command, beside Python's regular expressions and sort, uniq and cut
 # (tests/sheets.py). The proved libraries are built by rt, or lie in the directory that ODDERSNOW_STATICLIB names.
 set -u
 source "$(dirname "$0")/lib/check.sh"

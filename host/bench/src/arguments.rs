@@ -7,8 +7,9 @@ use std::path::PathBuf;
 /// The bench: runs an image on the proved CHERIoT machine and shows what happened.
 ///
 /// Numbers are decimal, or hexadecimal after 0x. The exit status is 0 if a run had no trap, 1 if it
-/// trapped or if two map sheets differ, 2 if the machine or the cutter refused or a sheet that was to
-/// be checked or compared is bad, and 3 for bad usage or a bad file.
+/// trapped, if two map sheets differ or if no image fits, 2 if the machine or the cutter refused, an
+/// image does not fit the board that it is to run on, or a sheet that was to be judged is bad, and 3 for
+/// bad usage or a bad file.
 #[derive(Parser)]
 #[command(name = "bench", version, disable_help_subcommand = true)]
 pub struct Arguments {
@@ -29,11 +30,13 @@ pub enum Command {
     /// Checks and compares board map sheets
     #[command(subcommand)]
     Sheet(SheetCommand),
+    /// Says which image fits a board by its map sheet, or why none does
+    Fit(Fit),
 }
 
 #[derive(Args)]
 pub struct Run {
-    /// The files to load: raw, ELF or Intel HEX
+    /// The files to load: raw, ELF or Intel HEX, with a map sheet and an empty line before it or not
     #[arg(required_unless_present = "state")]
     pub images: Vec<PathBuf>,
     /// The form of the images
@@ -136,6 +139,18 @@ pub struct SheetCompare {
     pub first: PathBuf,
     /// The second map sheet
     pub second: PathBuf,
+    /// Write the result as JSON
+    #[arg(long)]
+    pub json: bool,
+}
+
+#[derive(Args)]
+pub struct Fit {
+    /// The board's map sheet
+    pub board: PathBuf,
+    /// One image or two, each a map sheet, an empty line and a payload
+    #[arg(required = true, num_args = 1..=2, value_name = "IMAGE")]
+    pub images: Vec<PathBuf>,
     /// Write the result as JSON
     #[arg(long)]
     pub json: bool,

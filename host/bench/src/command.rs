@@ -1,12 +1,12 @@
 //! What each subcommand does.
 
+pub mod fit;
 mod run;
 pub mod sheet;
 
 use crate::arguments::{Cap, Command, Cut, Explain};
 use crate::capability_text::{length, region, rights, type_words};
 use crate::names::Names;
-use crate::proved::sheets::Which;
 use crate::proved::{self, Refusal};
 use crate::sheet::Bad;
 use crate::trap::Trap;
@@ -24,6 +24,7 @@ pub fn obey(command: Command) -> Result<Status, String> {
         Command::Cut(cut) => cut_shown(&cut),
         Command::Cap(cap) => capability_shown(&cap),
         Command::Sheet(asked) => sheet::obey(&asked),
+        Command::Fit(asked) => fit::obey(&asked),
     }
 }
 
@@ -55,10 +56,10 @@ fn refused(refusal: Refusal, as_json: bool) -> Result<Status, String> {
     Ok(Status::Refused)
 }
 
-/// Says that a sheet is bad, the first or the second of those asked about.
-fn refused_sheet(which: Which, path: &Path, bad: &Bad, as_json: bool) -> Result<Status, String> {
+/// Says that a sheet is bad, with the number of that answer (include/oddersnow.h).
+fn refused_sheet(number: u64, path: &Path, bad: &Bad, as_json: bool) -> Result<Status, String> {
     if as_json {
-        say_json(&json::refused_sheet(which, path, bad))?;
+        say_json(&json::refused_sheet(number, path, bad))?;
     }
     complain(&bad.shown(path));
     Ok(Status::Refused)

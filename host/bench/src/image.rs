@@ -3,15 +3,16 @@
 mod elf;
 mod hex;
 
-use crate::file;
 use crate::names::Name;
+use crate::proved::sheets;
+use crate::sheet::Bad;
 use lent::{State, GRANULE};
 use std::path::Path;
 
 /// The form of an image file.
 #[derive(Clone, Copy, PartialEq, Eq, Debug, clap::ValueEnum)]
 pub enum Format {
-    /// By the file's first bytes: ELF's mark, or a colon for Intel HEX, else raw
+    /// By the file's first bytes: ELF's mark, a colon for Intel HEX, or a map sheet's first word, else raw
     Auto,
     /// Bytes that lie at memory's start
     Raw,
@@ -19,6 +20,8 @@ pub enum Format {
     Elf,
     /// Intel HEX
     Hex,
+    /// A map sheet, an empty line, then one of the others; raw bytes lie where the sheet's first region starts
+    Labelled,
 }
 
 /// Bytes at an address, zeros after them, and where in which file they come from.
@@ -47,16 +50,12 @@ pub struct Image {
     pub names: Vec<Name>,
 }
 
-/// Reads an image; raw bytes go to `start`.
-pub fn read(path: &Path, format: Format, start: u32) -> Result<Image, String> {
-    let bytes = file::read(path)?;
-    if bytes.is_empty() {
-        return Err(format!("{}: the file is empty", path.display()));
-    }
-    let image = match detected(format, &bytes) {
-        Format::Elf => elf::read(&bytes),
-        Format::Hex => hex::read(&bytes),
-        _ => Ok(raw(bytes, start)),
+/// The image of a file's bytes; raw bytes go to `start`.
+pub fn read(path: &Path, bytes: &[u8], format: Format, start: u32) -> Result<Image, String> {
+    let image = match detected(format, bytes) {
+        _ if bytes.is_empty() => Err("the file is empty".into()),
+        Format::Labelled => payload(bytes),
+        format => plain(bytes, format, start),
     };
     let mut image = image.map_err(|reason| format!("{}: {reason}", path.display()))?;
     for segment in &mut image.segments {
@@ -65,11 +64,40 @@ pub fn read(path: &Path, format: Format, start: u32) -> Result<Image, String> {
     Ok(image)
 }
 
+/// Whether a file has a map sheet before its payload.
+pub fn is_labelled(format: Format, bytes: &[u8]) -> bool {
+    detected(format, bytes) == Format::Labelled
+}
+
 fn detected(format: Format, bytes: &[u8]) -> Format {
     match format {
         Format::Auto if bytes.starts_with(b"\x7fELF") => Format::Elf,
         Format::Auto if bytes.starts_with(b":") => Format::Hex,
+        Format::Auto if bytes.starts_with(b"region\t") => Format::Labelled,
         given => given,
+    }
+}
+
+/// The image in the payload after a map sheet.
+fn payload(bytes: &[u8]) -> Result<Image, String> {
+    let label = sheets::label(bytes).map_err(|line| {
+        let Bad { line, reason } = Bad::of_image(bytes, line);
+        format!("line {line}: {reason}")
+    })?;
+    let start = label.regions.first().map_or(0, |region| region.start);
+    let bytes = &bytes[label.payload..];
+    let image = match detected(Format::Auto, bytes) {
+        _ if bytes.is_empty() => Err("it is empty".into()),
+        format => plain(bytes, format, start),
+    };
+    image.map_err(|reason| format!("payload: {reason}"))
+}
+
+fn plain(bytes: &[u8], format: Format, start: u32) -> Result<Image, String> {
+    match format {
+        Format::Elf => elf::read(bytes),
+        Format::Hex => hex::read(bytes),
+        _ => Ok(raw(bytes.to_vec(), start)),
     }
 }
 

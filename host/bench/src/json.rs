@@ -1,11 +1,12 @@
 //! The same results as JSON. Numbers are numbers; bounds are low and high.
 
 use crate::capability_text::{revocation_word, rights, type_words};
+use crate::command::fit::{Beside, Chosen};
 use crate::command::sheet::Pair;
 use crate::drive::{End, Outcome};
 use crate::memory_rows::rows;
 use crate::names::Names;
-use crate::proved::sheets::{Record, Which};
+use crate::proved::sheets::{Record, NEITHER};
 use crate::proved::{bounds, Refusal, Region};
 use crate::sheet::{letters, Bad};
 use crate::trap::{Action, Asked, Authority, Trap};
@@ -43,12 +44,8 @@ pub fn refused(refusal: Refusal) -> Value {
     json!({ "refused": { "number": refusal.0, "reason": refusal.reason() } })
 }
 
-/// A bad sheet, the first or the second of those asked about.
-pub fn refused_sheet(which: Which, path: &Path, bad: &Bad) -> Value {
-    let number = match which {
-        Which::First => 13,
-        Which::Second => 14,
-    };
+/// A bad sheet.
+pub fn refused_sheet(number: u64, path: &Path, bad: &Bad) -> Value {
     let (file, line, reason) = (path.display().to_string(), bad.line, &bad.reason);
     json!({ "refused": { "number": number, "file": file, "line": line, "reason": reason } })
 }
@@ -65,6 +62,47 @@ pub fn differing(pairs: &[Pair]) -> Value {
         json!({ "name": name, "first": first, "second": second })
     };
     json!({ "differ": pairs.iter().map(pair).collect::<Vec<Value>>() })
+}
+
+/// An image that does not fit the board that it was to run on.
+pub fn misfit(image: &Beside) -> Value {
+    let reason = "the image does not fit the board";
+    let image = beside(image);
+    json!({ "refused": { "number": NEITHER, "reason": reason, "image": image } })
+}
+
+/// Images beside a board.
+pub fn images(images: &[Beside]) -> Value {
+    images.iter().map(beside).collect()
+}
+
+/// Which image fits, and each image beside the board.
+pub fn fit(chosen: Option<&Chosen>, images: &[Beside]) -> Value {
+    json!({
+        "fits": chosen.map(|chosen| chosen.number),
+        "payload": chosen.map(|chosen| json!({ "start": chosen.payload, "length": chosen.length })),
+        "images": self::images(images),
+    })
+}
+
+/// An image beside a board: its regions, each with the board's that holds it or why none does.
+fn beside(image: &Beside) -> Value {
+    let regions = image.regions.iter().map(|placed| {
+        let mut value = record(placed.region);
+        value["place"] = placed
+            .place
+            .as_ref()
+            .ok()
+            .map(|place| &place.name[..])
+            .into();
+        value["reason"] = placed.place.as_ref().err().map(String::as_str).into();
+        value
+    });
+    json!({
+        "file": image.path.display().to_string(),
+        "fits": image.fits,
+        "regions": regions.collect::<Vec<Value>>(),
+    })
 }
 
 fn record(region: &Record) -> Value {

@@ -34,6 +34,8 @@ pub enum Status {
     Trapped,
     /// Two sheets that were compared differ.
     Differ,
+    /// No image fits the board.
+    NoFit,
     Refused,
     Bad,
 }
@@ -43,7 +45,7 @@ impl Status {
     fn code(self) -> u8 {
         match self {
             Status::Ran => 0,
-            Status::Trapped | Status::Differ => 1,
+            Status::Trapped | Status::Differ | Status::NoFit => 1,
             Status::Refused => 2,
             Status::Bad => 3,
         }

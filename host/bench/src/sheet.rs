@@ -1,6 +1,7 @@
 //! Board map sheets: files that the proved reader judges, with the words for a line that it calls bad.
 
 mod fault;
+pub mod label;
 
 use crate::file;
 use crate::names::Name;
@@ -32,6 +33,12 @@ impl Bad {
     /// The bad line of a sheet, with the words for it.
     pub fn of(sheet: &[u8], BadLine(line): BadLine) -> Bad {
         let reason = fault::reason(sheet, line);
+        Bad { line, reason }
+    }
+
+    /// The bad line of an image's sheet, with the words for it.
+    pub fn of_image(image: &[u8], BadLine(line): BadLine) -> Bad {
+        let reason = fault::reason_in_image(image, line);
         Bad { line, reason }
     }
 

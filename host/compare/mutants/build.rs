@@ -7,11 +7,12 @@ use std::fmt::Write;
 use std::path::{Path, PathBuf};
 use std::{env, fs};
 
-const SOURCES: [&str; 7] = [
+const SOURCES: [&str; 8] = [
     "calls",
     "capability",
     "compressed",
     "decode",
+    "fit",
     "machine",
     "sheet",
     "text",

@@ -16,6 +16,7 @@ pub mod derivations;
 pub mod filter;
 pub mod halves;
 pub mod held;
+pub mod images;
 pub mod instructions;
 pub mod lists;
 pub mod machines;

@@ -141,6 +141,14 @@ unsafe extern "C" {
         out: *mut u8,
         out_len: usize,
     ) -> u64;
+    fn oddersnow_fit(
+        board: *const u8,
+        board_len: usize,
+        first: *const u8,
+        first_len: usize,
+        second: *const u8,
+        second_len: usize,
+    ) -> u64;
 }
 
 /// Reads a map sheet into records of seven words: four with the name's letters, low bytes first and
@@ -175,6 +183,25 @@ pub fn sheet_compare(first: &[u8], second: &[u8], out: &mut [u8]) -> u64 {
             second.len(),
             out.as_mut_ptr(),
             out.len(),
+        )
+    }
+}
+
+/// Which of two images, each a map sheet, an empty line and a payload, fits a board's sheet. The answer
+/// is image * 2^40 + the payload's place in it, with image 1 or 2; or number * 2^48 + rest: 16 where
+/// neither fits, or 17, 18 or 19 and the first bad line of the board's sheet, the first image's or the
+/// second's.
+#[inline]
+pub fn fit(board: &[u8], first: &[u8], second: &[u8]) -> u64 {
+    // SAFETY: as above; the images may be one, since neither is written.
+    unsafe {
+        oddersnow_fit(
+            board.as_ptr(),
+            board.len(),
+            first.as_ptr(),
+            first.len(),
+            second.as_ptr(),
+            second.len(),
         )
     }
 }

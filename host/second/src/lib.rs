@@ -10,6 +10,7 @@ pub mod calls;
 pub mod capability;
 pub mod compressed;
 pub mod decode;
+pub mod fit;
 pub mod machine;
 pub mod sheet;
 pub mod text;

@@ -76,7 +76,7 @@ pub fn regions(sheet: &[u8]) -> Result<Vec<Region>, u64> {
 }
 
 /// The lines of a text, each with its newline; the last one may lack it.
-pub fn lines(text: &[u8]) -> impl Iterator<Item = &[u8]> {
+pub fn lines(text: &[u8]) -> impl Iterator<Item = &[u8]> + Clone {
     text.split_inclusive(|&byte| byte == b'\n')
 }
 

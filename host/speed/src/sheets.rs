@@ -5,9 +5,10 @@ mod plain;
 
 use std::time::Instant;
 
-/// Bytes of one timing, and how many timings of each are tried, turn by turn: the best counts.
-const BYTES: usize = 2_000_000;
-const TRIES: u32 = 10;
+/// Bytes of one timing, and how many timings of each are tried, turn by turn: the best counts. A timing
+/// is short, so that some are made while nothing else runs.
+const BYTES: usize = 400_000;
+const TRIES: u32 = 50;
 /// Regions of the sheets.
 pub const SIZES: [u32; 3] = [4, 16, 64];
 /// Room for any records and any text.

@@ -1,15 +1,17 @@
 //! `bench run`: the start state, the run, what is said and saved at the end.
 
+use super::fit::{rows, verdict, Beside, Board, Labelled};
 use super::{read_state, refused, say, say_json};
 use crate::arguments::Run;
 use crate::drive::{self, End, Outcome, Plan};
 use crate::image::{self, Image};
 use crate::names::Names;
+use crate::proved::sheets::NEITHER;
 use crate::proved::{self, Counts, Refusal, MOST_STEPS};
 use crate::save::Place;
-use crate::sheet::{self, Sheet};
+use crate::sheet::Sheet;
 use crate::trap::Trap;
-use crate::{json, report, state_file, trace, Status};
+use crate::{complain, file, json, report, state_file, trace, Status};
 use indicatif::{ProgressBar, ProgressStyle};
 use lent::{State, Window};
 use std::io::Write;
@@ -24,38 +26,105 @@ const HEAP: &str = "heap";
 const MOST_SIZE: u64 = 1 << 24;
 
 pub fn run(asked: Run) -> Result<Status, String> {
-    let map = asked.map.as_deref().map(sheet::read).transpose()?;
-    let (mut state, images) = start(&asked, map.as_ref())?;
+    let board = asked.map.as_deref().map(board).transpose()?;
+    let map = board.as_ref().map(|board| &board.sheet);
+    let files = asked.images.iter().map(|path| file::read(path));
+    let files: Vec<Vec<u8>> = files.collect::<Result<_, _>>()?;
+    let labelled = labelled(&asked, &files);
+    let fits = fits(board.as_ref(), &labelled);
+    if let Some(image) = fits.iter().find(|image| !image.fits) {
+        return misfit(&asked, image);
+    }
+    let (mut state, images) = start(&asked, &files, map)?;
     if let Err(refusal) = proved::run(&mut state, 0) {
         return refused(refusal, asked.json);
     }
     image::load(&mut state, &images.segments)?;
-    let mut names = map.as_ref().map_or(Vec::new(), Sheet::names);
+    let mut names = map.map_or(Vec::new(), Sheet::names);
     names.extend(images.names);
     let names = Names(names);
     let place = asked.save.as_deref().map(|path| place(path, &asked));
     let place = place.transpose()?;
+    let told = if asked.json {
+        Ok(())
+    } else {
+        say(&labels_told(&asked, &labelled, &fits))
+    };
     match drive(&asked, &mut state) {
         Err(refusal) => refused(refusal, asked.json),
         Ok(outcome) => {
             // What cannot be said is saved nevertheless, and what cannot be saved is said.
-            let said = conclude(&asked, &state, &outcome, &names);
+            let said = conclude(&asked, &state, &outcome, &names, &fits);
             place.map_or(Ok(()), |place| place.write(&state_file::write(&state)))?;
-            said
+            told.and(said)
         }
     }
 }
 
+/// The board of a map sheet's file.
+fn board(path: &Path) -> Result<Board, String> {
+    Board::of(file::read(path)?).map_err(|bad| bad.shown(path))
+}
+
+/// The images that have a map sheet, where it is good; a bad one is told as the image is read.
+fn labelled<'a>(asked: &'a Run, files: &'a [Vec<u8>]) -> Vec<Labelled<'a>> {
+    let files = asked.images.iter().zip(files);
+    let files = files.filter(|(_, bytes)| image::is_labelled(asked.format, bytes));
+    files
+        .filter_map(|(path, bytes)| Labelled::of(path, bytes).ok())
+        .collect()
+}
+
+/// Each of them beside the board, where there is one.
+fn fits<'a>(board: Option<&'a Board>, images: &'a [Labelled]) -> Vec<Beside<'a>> {
+    let beside = |board: &'a Board| {
+        images
+            .iter()
+            .map(|image| Beside::of(board, image))
+            .collect()
+    };
+    board.map_or(Vec::new(), beside)
+}
+
+/// What is said before a run of the images that have a map sheet.
+fn labels_told(asked: &Run, labelled: &[Labelled], fits: &[Beside]) -> String {
+    let Some(board) = &asked.map else {
+        let unchecked = |image: &Labelled| {
+            let file = image.path.display();
+            format!("{file} has a map sheet; without a board's (--map) nothing was checked.\n")
+        };
+        return labelled.iter().map(unchecked).collect();
+    };
+    let told = fits
+        .iter()
+        .map(|image| format!("{}.\n", verdict(board, image)));
+    told.collect()
+}
+
+/// Says that an image does not fit the board; nothing is run.
+fn misfit(asked: &Run, image: &Beside) -> Result<Status, String> {
+    if asked.json {
+        say_json(&json::misfit(image))?;
+    }
+    let board = asked.map.as_deref().unwrap_or(Path::new(""));
+    let (verdict, rows) = (verdict(board, image), rows(image));
+    complain(&format!(
+        "refused, number {NEITHER}: {verdict}\n{}",
+        rows.trim_end()
+    ));
+    Ok(Status::Refused)
+}
+
 /// The state to start from, a saved one or reset, and the images that go into its memory.
-fn start(asked: &Run, map: Option<&Sheet>) -> Result<(State, Image), String> {
+fn start(asked: &Run, files: &[Vec<u8>], map: Option<&Sheet>) -> Result<(State, Image), String> {
     let saved = asked.state.as_deref().map(read_state).transpose()?;
     let span = map.and_then(Sheet::span);
     let (map_start, map_size) = span.unwrap_or((DEFAULT_START, DEFAULT_SIZE));
     let start = asked.start.unwrap_or(map_start);
     let start = saved.as_ref().map_or(start, |state| state.start);
     let mut images = Image::default();
-    for path in &asked.images {
-        let image = image::read(path, asked.format, start)?;
+    for (path, bytes) in asked.images.iter().zip(files) {
+        let image = image::read(path, bytes, asked.format, start)?;
         images.entry = images.entry.or(image.entry);
         images.segments.extend(image.segments);
         images.names.extend(image.names);
@@ -167,6 +236,7 @@ fn conclude(
     state: &State,
     outcome: &Outcome,
     names: &Names,
+    fits: &[Beside],
 ) -> Result<Status, String> {
     let trap = match &outcome.end {
         End::Trap(before) => Some(Trap::of_step(before, state)),
@@ -174,7 +244,9 @@ fn conclude(
         _ => None,
     };
     if asked.json {
-        say_json(&json::run(state, outcome, trap.as_ref(), names))?;
+        let mut value = json::run(state, outcome, trap.as_ref(), names);
+        value["fit"] = json::images(fits);
+        say_json(&value)?;
     } else {
         let mut text = report::counts(state, outcome);
         if let Some(trap) = &trap {

@@ -3,7 +3,7 @@
 use super::{refused_sheet, say, say_json};
 use crate::arguments::{SheetCheck, SheetCommand, SheetCompare};
 use crate::capability_text::count;
-use crate::proved::sheets::{differing, Record, Which};
+use crate::proved::sheets::{differing, Record, Which, BAD, SECOND_BAD};
 use crate::sheet::{self, letters, Bad, Sheet};
 use crate::{file, json, Status};
 use std::path::Path;
@@ -23,7 +23,7 @@ fn shown(region: &Record) -> String {
 
 fn checked(asked: &SheetCheck) -> Result<Status, String> {
     match sheet::of(&file::read(&asked.sheet)?) {
-        Err(bad) => refused_sheet(Which::First, &asked.sheet, &bad, asked.json),
+        Err(bad) => refused_sheet(BAD, &asked.sheet, &bad, asked.json),
         Ok(sheet) if asked.json => {
             say_json(&json::sheet(&sheet.regions))?;
             Ok(Status::Ran)
@@ -55,11 +55,11 @@ fn compared(asked: &SheetCompare) -> Result<Status, String> {
     let names = match differing(&first, &second) {
         Ok(names) => names,
         Err((which, line)) => {
-            let (path, bytes) = match which {
-                Which::First => (&asked.first, &first),
-                Which::Second => (&asked.second, &second),
+            let (number, path, bytes) = match which {
+                Which::First => (BAD, &asked.first, &first),
+                Which::Second => (SECOND_BAD, &asked.second, &second),
             };
-            return refused_sheet(which, path, &Bad::of(bytes, line), asked.json);
+            return refused_sheet(number, path, &Bad::of(bytes, line), asked.json);
         }
     };
     // Both are good, so that what each has of a name can be shown.

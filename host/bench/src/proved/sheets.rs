@@ -1,7 +1,8 @@
-//! Map sheets by the proved library libsheet_api.a: reading and comparing. Whether a sheet is good,
-//! and which line is its first bad one, is said here and nowhere else in the command.
+//! Map sheets by the proved library libsheet_api.a: reading, comparing, and which image fits a board.
+//! Whether a sheet is good, which line is its first bad one, and whether an image fits, is said here and
+//! nowhere else in the command.
 
-use ::proved::{sheet_compare, sheet_read};
+use ::proved::{fit as fitting, sheet_compare, sheet_read};
 use lent::number_and_rest as parts;
 
 /// The most regions of a sheet, and the words that the library has for each (include/oddersnow.h).
@@ -12,8 +13,17 @@ const NAME_WORDS: usize = 4;
 const NAMES_ROOM: usize = 17 * 2 * MOST_REGIONS;
 
 // The numbers of the library's answers.
-const BAD: u64 = 13;
-const SECOND_BAD: u64 = 14;
+pub const BAD: u64 = 13;
+pub const SECOND_BAD: u64 = 14;
+pub const NEITHER: u64 = 16;
+pub const BAD_BOARD: u64 = 17;
+/// Of the first image and of the second.
+pub const BAD_IMAGE: [u64; 2] = [18, 19];
+/// In the answer for an image that fits: its number stands above the payload's place.
+const IMAGE_AT: u32 = 40;
+
+/// A good sheet, for what is asked of an image without a board.
+const ANY_BOARD: &[u8] = b"region\tany\t00000000\tffffffff\trwx\n";
 
 /// A region as a sheet has it. Its name is letters alone.
 #[derive(Clone, PartialEq, Eq, Debug)]
@@ -69,6 +79,16 @@ pub enum Which {
     Second,
 }
 
+impl Which {
+    /// 0 for the first and 1 for the second.
+    pub fn place(self) -> usize {
+        match self {
+            Which::First => 0,
+            Which::Second => 1,
+        }
+    }
+}
+
 /// The names in which two sheets differ, sorted; or the first bad one of the two with its line.
 pub fn differing(first: &[u8], second: &[u8]) -> Result<Vec<String>, (Which, BadLine)> {
     let mut names = [0; NAMES_ROOM];
@@ -82,4 +102,50 @@ pub fn differing(first: &[u8], second: &[u8]) -> Result<Vec<String>, (Which, Bad
         (SECOND_BAD, line) => Err((Which::Second, BadLine(line))),
         (number, _) => unreachable!("there is room for 128 names, and yet number {number}"),
     }
+}
+
+/// What two images come to on a board.
+#[derive(Clone, Copy, PartialEq, Eq, Debug)]
+pub enum Fit {
+    /// This one fits, and its payload starts at this byte of it.
+    Image(Which, usize),
+    Neither,
+    BadBoard(BadLine),
+    BadImage(Which, BadLine),
+}
+
+/// Which of two images fits a board, the first where both do. For one image alone, it is lent twice.
+pub fn fit(board: &[u8], first: &[u8], second: &[u8]) -> Fit {
+    let (number, rest) = parts(fitting(board, first, second));
+    let place = (rest & ((1 << IMAGE_AT) - 1)) as usize;
+    match number {
+        0 if rest >> IMAGE_AT == 1 => Fit::Image(Which::First, place),
+        0 => Fit::Image(Which::Second, place),
+        NEITHER => Fit::Neither,
+        BAD_BOARD => Fit::BadBoard(BadLine(rest)),
+        number if number == BAD_IMAGE[0] => Fit::BadImage(Which::First, BadLine(rest)),
+        number if number == BAD_IMAGE[1] => Fit::BadImage(Which::Second, BadLine(rest)),
+        number => unreachable!("a fit has no number {number}"),
+    }
+}
+
+/// What an image says of itself: the regions of its own sheet, and where its payload starts.
+#[derive(Clone, PartialEq, Eq, Debug)]
+pub struct Label {
+    pub regions: Vec<Record>,
+    pub payload: usize,
+}
+
+/// The label of an image.
+pub fn label(image: &[u8]) -> Result<Label, BadLine> {
+    if let Fit::BadImage(_, line) = fit(ANY_BOARD, image, image) {
+        return Err(line);
+    }
+    // The sheet is good, so that it ends at the first empty line.
+    let newlines = image.windows(2).position(|pair| pair == b"\n\n");
+    let end = newlines.map_or(image.len(), |place| place + 1);
+    Ok(Label {
+        regions: read(&image[..end])?,
+        payload: end + 1,
+    })
 }

@@ -6,6 +6,23 @@ use crate::digits::word;
 use crate::proved::sheets::{self, Record, MOST_REGIONS};
 
 const MOST_LETTERS: usize = 16;
+/// Said where nothing was found; the tests look for a line that comes to it.
+const UNKNOWN: &str = "it is no region's line";
+
+/// The reason for a bad line of an image's sheet, which an empty line ends.
+pub fn reason_in_image(image: &[u8], line: u64) -> String {
+    let place = line.saturating_sub(1) as usize;
+    let mut lines = image.split_inclusive(|byte| *byte == b'\n');
+    match lines.nth(place) {
+        None if line > 1 => "the image ends here, without the empty line after its sheet".into(),
+        Some(b"\n") => "the image begins with the empty line: its sheet has no region".into(),
+        Some(text) if line > 1 && region(text).is_err() => {
+            let reason = reason(image, line);
+            format!("{reason}; no empty line has ended the image's sheet before it")
+        }
+        _ => reason(image, line),
+    }
+}
 
 /// The reason for a bad line.
 pub fn reason(sheet: &[u8], line: u64) -> String {
@@ -67,12 +84,13 @@ fn clash(before: &[Record], region: &Record) -> String {
     }
     match before.iter().find(|other| !apart(other)) {
         Some(other) => format!("the region overlaps {}", other.name),
-        None => "it is no region's line".into(),
+        None => UNKNOWN.into(),
     }
 }
 
 #[cfg(test)]
 mod tests {
+    use crate::proved::sheets::{self, BadLine};
     use crate::sheet;
 
     /// The line and the reason of a bad sheet.
@@ -108,6 +126,66 @@ mod tests {
         }
         assert_eq!(said(b"\xFF\n"), (1, "it is not text".into()));
         assert_eq!(said(b""), (1, "the sheet has no region".into()));
+    }
+
+    #[test]
+    fn bad_lines_of_images_are_named_with_what_is_wrong() {
+        let good = "region\tcode\t20000000\t00000400\trx\n";
+        for (image, line, reason) in [
+            (String::new(), 1, "the sheet has no region"),
+            ("\npayload".into(), 1, "begins with the empty line"),
+            (good.into(), 2, "ends here, without the empty line"),
+            (
+                format!("{good}payload"),
+                2,
+                "it has no newline; no empty line",
+            ),
+            (
+                format!("{good}\r\n"),
+                2,
+                "carriage return before its newline; no empty line",
+            ),
+            (
+                format!("{good}{good}\n"),
+                2,
+                "there is a region code before it",
+            ),
+        ] {
+            let BadLine(found) = sheets::label(image.as_bytes()).expect_err("a bad sheet");
+            assert_eq!(found, line, "{image:?}");
+            let said = super::reason_in_image(image.as_bytes(), found);
+            assert!(said.contains(reason), "{image:?}: {said}");
+        }
+    }
+
+    /// A text with each of its first bytes changed, and with each byte put in before them.
+    fn damages(text: &[u8], first: usize) -> impl Iterator<Item = Vec<u8>> + '_ {
+        let places = (0..first).flat_map(|place| (0..=u8::MAX).map(move |byte| (place, byte)));
+        places.flat_map(|(place, byte)| {
+            let (before, after) = text.split_at(place);
+            let changed = [before, &[byte], &after[1..]].concat();
+            [changed, [before, &[byte], after].concat()]
+        })
+    }
+
+    /// Whatever one byte does to a sheet or to an image, there are words for the line that is bad then.
+    #[test]
+    fn a_reason_is_found_for_every_damage_of_a_byte() {
+        let text = b"region\ta\tffffffe0\t00000010\trw\nregion\tb\tfffffff0\t00000010\trx\n";
+        let image = [&text[..], b"\npayload"].concat();
+        let mut bad = 0;
+        for damaged in damages(&image, text.len()) {
+            let sheet = &damaged[..damaged.len() - b"\npayload".len()];
+            let of_sheet = sheets::read(sheet).err();
+            let of_sheet = of_sheet.map(|BadLine(line)| super::reason(sheet, line));
+            let of_image = sheets::label(&damaged).err();
+            let of_image = of_image.map(|BadLine(line)| super::reason_in_image(&damaged, line));
+            for reason in of_sheet.into_iter().chain(of_image) {
+                assert_ne!(reason, super::UNKNOWN, "{}", damaged.escape_ascii());
+                bad += 1;
+            }
+        }
+        assert!(bad > 50_000, "{bad}");
     }
 
     #[test]

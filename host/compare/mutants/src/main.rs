@@ -7,6 +7,7 @@ use compare::authority;
 use compare::conclude;
 use compare::cuts::{self, CutAnswer, Label};
 use compare::halves;
+use compare::images;
 use compare::instructions::table;
 use compare::lists::{self, List};
 use compare::machines;
@@ -28,9 +29,11 @@ const RIGHT_CASES: u64 = 100_000;
 const STARTS: u64 = 100_000;
 const IDLE_STARTS: u64 = 1000;
 const RIGHT_STARTS: u64 = 10_000;
-/// The same for sheets, of which a case has many.
+/// The same for sheets, of which a case has many, and for images.
 const SHEETS_CASES: u64 = 20_000;
 const RIGHT_SHEETS: u64 = 2_000;
+const IMAGES_CASES: u64 = 100_000;
+const RIGHT_IMAGES: u64 = 20_000;
 
 fn cut(base: u32, length: u32) -> CutAnswer {
     let (number, low, high, exact) = match mutants::capability::cut(base, length) {
@@ -93,6 +96,9 @@ fn told_apart(comparison: &str, table: &Table, seed: u64, cases: u64) -> Option<
         "sheets" => sheets::compare(SHEETS, seed, cases.min(SHEETS_CASES))
             .err()
             .map(|found| found.case),
+        "images" => images::compare(mutants::fit::fit, seed, cases.min(IMAGES_CASES))
+            .err()
+            .map(|found| found.case),
         "authority" => authority::search(machine, table, seed, cases.min(STARTS), None)
             .err()
             .map(|gain| gain.number),
@@ -107,7 +113,11 @@ fn run(options: &Options) -> Result<String, String> {
     let table = table();
     let mut faults = Vec::new();
     let right = ["cuts", "lists", "machine", "halves"].map(|comparison| (comparison, RIGHT_CASES));
-    let fewer = [("authority", RIGHT_STARTS), ("sheets", RIGHT_SHEETS)];
+    let fewer = [
+        ("authority", RIGHT_STARTS),
+        ("sheets", RIGHT_SHEETS),
+        ("images", RIGHT_IMAGES),
+    ];
     for (comparison, cases) in right.into_iter().chain(fewer) {
         if let Some(case) = told_apart(comparison, &table, options.seed, cases) {
             faults.push(format!("no mutant: {comparison} differs at case {case}"));

@@ -1,0 +1,157 @@
+//! `bench fit`: which image fits a board, or for each of its regions why not.
+
+use super::{refused_sheet, say, say_json};
+use crate::arguments::Fit as Asked;
+use crate::capability_text::count;
+use crate::proved::sheets::{self, BadLine, Fit, Label, BAD_BOARD, BAD_IMAGE};
+use crate::sheet::label::{placed, Placed};
+use crate::sheet::{self, letters, Bad, Sheet};
+use crate::{file, json, Status};
+use std::path::Path;
+
+/// A board: the bytes of its sheet, which is good, and its regions.
+pub struct Board {
+    pub bytes: Vec<u8>,
+    pub sheet: Sheet,
+}
+
+impl Board {
+    /// The board of a sheet's bytes, or what is wrong with them.
+    pub fn of(bytes: Vec<u8>) -> Result<Board, Bad> {
+        let sheet = sheet::of(&bytes)?;
+        Ok(Board { bytes, sheet })
+    }
+}
+
+/// An image's file with its label, which is good.
+pub struct Labelled<'a> {
+    pub path: &'a Path,
+    pub bytes: &'a [u8],
+    pub label: Label,
+}
+
+impl Labelled<'_> {
+    /// An image with its label, or its first bad line.
+    pub fn of<'a>(path: &'a Path, bytes: &'a [u8]) -> Result<Labelled<'a>, BadLine> {
+        let label = sheets::label(bytes)?;
+        Ok(Labelled { path, bytes, label })
+    }
+}
+
+/// An image beside a board.
+pub struct Beside<'a> {
+    pub path: &'a Path,
+    pub fits: bool,
+    pub regions: Vec<Placed<'a>>,
+}
+
+impl Beside<'_> {
+    /// An image beside a board, by itself: it is lent twice, and fits exactly if the first of the two does.
+    pub fn of<'a>(board: &'a Board, image: &'a Labelled) -> Beside<'a> {
+        Beside {
+            path: image.path,
+            fits: sheets::fit(&board.bytes, image.bytes, image.bytes) != Fit::Neither,
+            regions: placed(&image.label.regions, &board.sheet.regions),
+        }
+    }
+}
+
+/// The image that is chosen: its number from 1, where its payload starts and how long it is.
+pub struct Chosen {
+    pub number: usize,
+    pub payload: usize,
+    pub length: usize,
+}
+
+pub fn obey(asked: &Asked) -> Result<Status, String> {
+    let bytes = file::read(&asked.board)?;
+    let images = asked.images.iter().map(|path| file::read(path));
+    let images: Vec<Vec<u8>> = images.collect::<Result<_, _>>()?;
+    // One image is lent twice.
+    let (first, second) = (&images[0], &images[images.len() - 1]);
+    let chosen = match sheets::fit(&bytes, first, second) {
+        Fit::BadBoard(line) => {
+            let bad = Bad::of(&bytes, line);
+            return refused_sheet(BAD_BOARD, &asked.board, &bad, asked.json);
+        }
+        Fit::BadImage(which, line) => {
+            let place = which.place();
+            let bad = Bad::of_image(&images[place], line);
+            return refused_sheet(BAD_IMAGE[place], &asked.images[place], &bad, asked.json);
+        }
+        Fit::Neither => None,
+        Fit::Image(which, payload) => Some(Chosen {
+            number: which.place() + 1,
+            payload,
+            length: images[which.place()].len() - payload,
+        }),
+    };
+    let board = Board::of(bytes).map_err(|bad| bad.shown(&asked.board))?;
+    conclude(asked, &board, &images, chosen.as_ref())?;
+    Ok(chosen.map_or(Status::NoFit, |_| Status::Ran))
+}
+
+/// Says the answer; every sheet is good.
+fn conclude(
+    asked: &Asked,
+    board: &Board,
+    images: &[Vec<u8>],
+    chosen: Option<&Chosen>,
+) -> Result<(), String> {
+    let labelled = asked.images.iter().zip(images);
+    let labelled = labelled.filter_map(|(path, bytes)| Labelled::of(path, bytes).ok());
+    let labelled: Vec<Labelled> = labelled.collect();
+    let images = labelled.iter().map(|image| Beside::of(board, image));
+    let images: Vec<Beside> = images.collect();
+    if asked.json {
+        say_json(&json::fit(chosen, &images))
+    } else {
+        say(&told(&asked.board, chosen, &images))
+    }
+}
+
+/// The answer, and then each image beside the board.
+fn told(board: &Path, chosen: Option<&Chosen>, images: &[Beside]) -> String {
+    let payload = match chosen {
+        None => String::new(),
+        Some(Chosen { length: 0, .. }) => " Its payload is empty.".into(),
+        Some(chosen) => {
+            let (length, place) = (count(chosen.length as u64, "byte"), chosen.payload);
+            format!(" Its payload is {length}, from byte {place} on.")
+        }
+    };
+    if let [image] = images {
+        return format!("{}.{payload}\n\n{}", verdict(board, image), rows(image));
+    }
+    let board = board.display();
+    let mut text = match chosen.map(|chosen| chosen.number) {
+        Some(number) => format!("Image {number} fits {board}.{payload}\n"),
+        None => format!("Neither image fits {board}.\n"),
+    };
+    for (number, image) in (1..).zip(images) {
+        let fits = if image.fits { "fits" } else { "does not fit" };
+        let (file, rows) = (image.path.display(), rows(image));
+        text.push_str(&format!("\nimage {number}, {file}: {fits}\n\n{rows}"));
+    }
+    text
+}
+
+/// Whether an image fits, in a few words.
+pub fn verdict(board: &Path, image: &Beside) -> String {
+    let verb = if image.fits { "fits" } else { "does not fit" };
+    format!("{} {verb} {}", image.path.display(), board.display())
+}
+
+/// Each region of an image, with where it lies on the board or why it does not.
+pub fn rows(image: &Beside) -> String {
+    let row = |Placed { region, place }: &Placed| {
+        let (start, end) = (region.start, region.end());
+        let shown = format!("[{start:08x}, {end:08x}) {}", letters(region.rights));
+        let place = match place {
+            Ok(place) => format!("in {}", place.name),
+            Err(reason) => format!("no: {reason}"),
+        };
+        format!("  {:<16}  {shown:<27}  {place}\n", region.name)
+    };
+    image.regions.iter().map(row).collect()
+}
