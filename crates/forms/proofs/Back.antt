@@ -289,7 +289,7 @@ module _ (w : ℕ) (h : w < 2 ^ 32) where
       (λ e. rw (eq-eqb (opcode w) 0x0f o, eq-eqb (funct3 w) 0 e) (omega arith))
       (λ n. rw (eq-eqb (opcode w) 0x0f o, ne-eqb (funct3 w) 0 n) refl)
 
-  pub unfenced : (opcode w ≡ 0x0f → ⊥) → w ≡ chosen w
+  unfenced : (opcode w ≡ 0x0f → ⊥) → w ≡ chosen w
   unfolding chosen
   unfenced n = rw (ne-eqb (opcode w) 0x0f n) refl
 

@@ -59,7 +59,7 @@ fit3 r x y z p q t = record { aligned = inl (inl refl); a-fits = p; b-fits = q; 
 fit2 : (r y z : ℕ) → y < 2 ^ 32 → z < 2 ^ 32 → Fit (two r y z)
 fit2 r y z q t = record { aligned = inl (inr (refl, refl)); a-fits = omega arith; b-fits = q; c-fits = t }
 
-fit0 : (r : ℕ) → Fit (bare r)
+pub fit0 : (r : ℕ) → Fit (bare r)
 fit0 r = record { aligned = inr (inr (refl, refl, refl, refl)); a-fits = omega arith; b-fits = omega arith; c-fits = omega arith }
 
 upper-fits : (w : ℕ) → upperOf w < 2 ^ 32

@@ -6,7 +6,7 @@ use mathlib.Core.Path.{_≡_, refl, subst}
 use Prim.Native.Nat.{ℕ, zero, suc, _+_, _-_, _*_, _/_, _%_, _^_, _≤_, _<_}
 use native.Mathlib.Nat.{eq-or-lt-of-le, not-suc-le-zero}
 use native.Mathlib.Omega.{arith}
-use borrow.Author.Tests.{eqb-true}
+use borrow.Author.Tests.{eqb-true, ltb-true}
 use lib.Dec.{T, eqb, ltb, eqb→eq, ltb→lt}
 use Rattle.words.specs.Words.{signExtend}
 use Rattle.choices.proofs.Every.{and-left, and-right, every, every-at}
@@ -18,7 +18,7 @@ use Rattle.short_forms.specs.Forms.{registersOf, quadrant2, shortOf}
 use Rattle.forms.specs.ShortShapes.{shortShape}
 use Rattle.forms.specs.Encoding.{fixedBits, formats, shortPlaceOf, placeOf, encodeOf, restored}
 use Rattle.forms.specs.declared.Shape.{Shape}
-use Rattle.forms.proofs.Fit.{Aligned, Fit}
+use Rattle.forms.proofs.Fit.{Aligned, Fit, fit0}
 
 -- the test: `Fit` and the way back, as computed
 lined : (count a b c : ℕ) → Bool
@@ -148,8 +148,7 @@ good-fit h s t =
     let a = ltb (s .a) (2 ^ 32) && b in
     let t₁ = and-right (lined (s .count) (s .a) (s .b) (s .c)) a t in
     let t₂ = and-right (ltb (s .a) (2 ^ 32)) b t₁ in
-    let t₃ = and-right (ltb (s .b) (2 ^ 32)) c t₂ in
-    (
+    let t₃ = and-right (ltb (s .b) (2 ^ 32)) c t₂ in (
       record {
         aligned = lined-up (s .count) (s .a) (s .b) (s .c) (and-left (lined (s .count) (s .a) (s .b) (s .c)) a t);
         a-fits = ltb→lt (s .a) (2 ^ 32) (and-left (ltb (s .a) (2 ^ 32)) b t₁);
@@ -165,3 +164,8 @@ half-again h l =
     let e : h % 4096 + 4096 * (h / 4096) ≡ h = omega arith in
     let t : T (right (h / 4096) (h % 4096)) = every-at (right (h / 4096)) 4096 (parts (h / 4096) (omega arith)) (h % 4096) (omega arith) in
     good-fit h (shortShape (shortOf h)) (subst (λ (x : ℕ). T (good x (shortShape (shortOf x)))) e t)
+
+-- from 2 ^ 16 on there is no form
+pub half-fit : (h : ℕ) → Fit (shortShape (shortOf h))
+unfolding shortOf shortShape
+half-fit h = by-test (ltb h (2 ^ 16)) (λ t. half-again h (ltb-true h (2 ^ 16) t) .0) (λ t. rw t (fit0 255))

@@ -8,7 +8,6 @@ use lib.Dec.{eqb, ltb}
 use Rattle.words.proofs.Word.{by-test}
 use Rattle.short_forms.specs.Forms.{shortOf}
 use Rattle.short_forms.specs.Meaning.{legal, isLegal}
-use Rattle.short_forms.specs.Standing.{wordOf, instructionOf}
 use Rattle.short_forms.proofs.Laws.{half-legal}
 use Rattle.short_forms.specs.declared.ShortForm.{ShortForm}
 use Rattle.short_forms.specs.declared.ShortForm.the-variants.{Addi4spn, Lw, Ld, Sw, Sd, Addi, Jal, Li, Addi16sp, Lui, Srli, Srai, Andi, Sub, Xor, Or, And}
@@ -50,7 +49,7 @@ use Rattle.instructions.specs.declared.Instruction.{Instruction}
 use Rattle.instructions.specs.declared.Instruction.the-variants.{Integer, Jump, Memory, Capability, System, Illegal}
 use Rattle.forms.specs.Names.{rowCount}
 use Rattle.forms.specs.Shapes.{aluRow, aluImmediateRow, multiplyRow, divideRow, branchRow, loadRow, storeRow, csrRow, csrImmediateRow, inspectionRow, combinationRow, integerShape, jumpShape, memoryShape, capabilityShape, systemShape, instructionShape, two}
-use Rattle.forms.specs.ShortShapes.{named, addiShape, shortShape, shapeOf}
+use Rattle.forms.specs.ShortShapes.{named, addiShape, shortShape, shapeOf, instructionOf}
 use Rattle.forms.specs.declared.Shape.{Shape}
 
 alu-row : (x : Alu) → aluRow x < rowCount
@@ -248,7 +247,7 @@ short-legal NoForm = refl
 
 -- a word, long or short, has a row exactly where the machine's decoder takes it
 pub legal-row : (w : ℕ) → ltb (shapeOf w .row) rowCount ≡ isLegal (instructionOf w)
-unfolding shapeOf wordOf listed
+unfolding shapeOf instructionOf listed
 legal-row w =
     by-test (eqb (w % 4) 3)
     (λ t. rw t (long-legal w (decodeOf w)))

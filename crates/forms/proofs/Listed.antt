@@ -13,14 +13,13 @@ use Rattle.instructions.specs.declared.SystemInstruction.the-variants.{Fence}
 use Rattle.instructions.specs.declared.Instruction.{Instruction}
 use Rattle.instructions.specs.declared.Instruction.the-variants.{System}
 use Rattle.short_forms.specs.Forms.{shortOf}
-use Rattle.short_forms.specs.Standing.{wordOf, instructionOf}
 use Rattle.forms.specs.Shapes.{two, predOf, succOf, systemShape, instructionShape}
-use Rattle.forms.specs.ShortShapes.{shortShape, shapeOf}
+use Rattle.forms.specs.ShortShapes.{shortShape, shapeOf, instructionOf}
 use Rattle.forms.specs.Encoding.{placeF, chosen, restored}
 use Rattle.forms.specs.declared.Shape.{Shape}
-use Rattle.forms.proofs.Back.{unfenced, long-again}
+use Rattle.forms.proofs.Back.{long-again}
 use Rattle.forms.proofs.Fit.{Fit, long-fit}
-use Rattle.forms.proofs.Halves.{half-again}
+use Rattle.forms.proofs.Halves.{half-again, half-fit}
 
 -- a word of the code: four bytes, or two where its two low bits are not 11
 pub record Word (w : ℕ) : Type 0 where
@@ -30,6 +29,10 @@ pub record Word (w : ℕ) : Type 0 where
 not-fence : (w : ℕ) → (w % 4 ≡ 3 → ⊥) → opcode w ≡ 0x0f → ⊥
 not-fence w n e = n (omega arith)
 
+pub short-chosen : (w : ℕ) → (w % 4 ≡ 3 → ⊥) → w ≡ chosen w
+unfolding chosen
+short-chosen w n = rw (ne-eqb (opcode w) 0x0f (not-fence w n)) refl
+
 -- the word made of what is listed is the chosen one
 pub listed-again : (w : ℕ) → Word w → restored w (shapeOf w) ≡ chosen w
 unfolding shapeOf
@@ -38,11 +41,11 @@ listed-again w h =
     (λ t. rw t (long-again w (h .fits)))
     (λ t.
     let n = eqb-false (w % 4) 3 t in
-    rw t (half-again w (h .short n) .1 ∙ unfenced w (h .fits) (not-fence w n)))
+    rw t (half-again w (h .short n) .1 ∙ short-chosen w n))
 
-pub shape-fit : (w : ℕ) → Word w → Fit (shapeOf w)
+pub shape-fit : (w : ℕ) → Fit (shapeOf w)
 unfolding shapeOf
-shape-fit w h = by-test (eqb (w % 4) 3) (λ t. rw t (long-fit w)) (λ t. rw t (half-again w (h .short (eqb-false (w % 4) 3 t)) .0))
+shape-fit w = by-test (eqb (w % 4) 3) (λ t. rw t (long-fit w)) (λ t. rw t (half-fit w))
 
 -- FENCE
 decodes-fence : (w : ℕ) → opcode w ≡ 0x0f → funct3 w ≡ 0 → decodeOf w ≡ System Fence
@@ -57,7 +60,7 @@ unfolding shapeOf instructionShape systemShape
 fence-shape w o f = rw (eq-eqb (w % 4) 3 (long-fence w o), decodes-fence w o f) refl
 
 fence-instruction : (w : ℕ) → opcode w ≡ 0x0f → funct3 w ≡ 0 → instructionOf w ≡ System Fence
-unfolding wordOf
+unfolding instructionOf
 fence-instruction w o f = rw (eq-eqb (w % 4) 3 (long-fence w o)) (decodes-fence w o f)
 
 -- the chosen word: listed alike, the same instruction, of the same length, a word

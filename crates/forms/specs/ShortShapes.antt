@@ -1,9 +1,13 @@
--- What is listed of a half: of its form, by a row of its own, the register fields and the immediate that the half has. A register that a form implies is not named.
-use Prim.Native.Nat.{ℕ, _%_}
+-- What is listed of a half: of its form, by a row of its own, the register fields and the immediate that the half has. A register that a form implies is
+-- not named. And of any word, long or short.
+use Prim.Native.Nat.{ℕ}
 use mathlib.Core.Bool.{cond}
 use lib.Dec.{ltb, eqb}
 use Rattle.instructions.specs.Decode.{decodeOf}
+use Rattle.instructions.specs.declared.Instruction.{Instruction}
 use Rattle.short_forms.specs.Forms.{shortOf}
+use Rattle.short_forms.specs.Long.{longForm}
+use Rattle.short_forms.specs.Standing.{isLong}
 use Rattle.short_forms.specs.declared.ShortForm.{ShortForm}
 use Rattle.short_forms.specs.declared.ShortForm.the-variants.{Addi4spn, Lw, Ld, Sw, Sd, Addi, Jal, Li, Addi16sp, Lui, Srli, Srai, Andi, Sub, Xor, Or, And}
 use Rattle.short_forms.specs.declared.ShortForm.the-variants.{J, Beqz, Bnez, Slli, Lwsp, Ldsp, Jr, Mv, Ebreak, Jalr, Add, Swsp, Sdsp, NoForm}
@@ -55,6 +59,10 @@ shortShape (Swsp rs2 offset) = named rs2 (two 114 rs2 offset)
 shortShape (Sdsp rs2 offset) = named rs2 (two 115 rs2 offset)
 shortShape NoForm = bare unlisted
 
--- what is listed of a word: two low bits 11 make a word of four bytes, others a half
+-- what is listed of a word: two low bits 11 make it a long one, others a half
 unfoldable pub shapeOf : (word : ℕ) → Shape
-shapeOf w = cond (eqb (w % 4) 3) (instructionShape w (decodeOf w)) (shortShape (shortOf w))
+shapeOf w = cond (isLong w) (instructionShape w (decodeOf w)) (shortShape (shortOf w))
+
+-- what the machine takes a word for
+unfoldable pub instructionOf : (word : ℕ) → Instruction
+instructionOf w = decodeOf (cond (isLong w) w (longForm w))
