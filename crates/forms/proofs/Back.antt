@@ -1,4 +1,5 @@
--- Each instruction that the decoder gives, encoded again from what is listed of it, is the word that it was decoded from: by the decoder's own tests, a line a row.
+-- Each instruction that the decoder gives, encoded again from what is listed of it, is the word that it was decoded from: by the decoder's own tests, a line
+-- a row.
 use mathlib.Core.Bool.{Bool, true, false, cond, _&&_}
 use mathlib.Core.Path.{_≡_, refl, sym, ap, _∙_}
 use Prim.Native.Nat.{ℕ, _+_, _*_, _/_, _%_, _^_, _≤_, _<_}
@@ -8,8 +9,11 @@ use borrow.Author.Tests.{eqb-true, eqb-false, eq-eqb, ne-eqb}
 use lib.Dec.{eqb, ltb}
 use Rattle.words.specs.Words.{wrap}
 use Rattle.words.proofs.Word.{by-test}
-use Rattle.instructions.specs.Fields.{opcode, rdOf, funct3, rs1Of, rs2Of, funct7, upper12, immediateI, immediateS, immediateB, immediateU, immediateJ, offsetAui}
-use Rattle.instructions.specs.Decode.{namingOf, loadOf, storeOf, fenceOf, aluOf, shiftLeftOf, shiftRightOf, opImmOf, op32Of, multiplyOf, opByOf, opOf, luiOf, auipccOf, auicgpOf, jalOf, branchOf, jalrOf, csrRegisterOf, csrImmediateOf, csrOf, wholeOf, systemOf, specialOf, sourceDestOf, combineOf, twoSourceOf, capabilityOf, decodeOf}
+use Rattle.instructions.specs.Fields.{opcode, rdOf, funct3, rs1Of, rs2Of, funct7, upper12, immediateI, immediateS, immediateB, immediateU, immediateJ}
+use Rattle.instructions.specs.Fields.{offsetAui}
+use Rattle.instructions.specs.Decode.{namingOf, loadOf, storeOf, fenceOf, aluOf, shiftLeftOf, shiftRightOf, opImmOf, op32Of, multiplyOf, opByOf, opOf, luiOf}
+use Rattle.instructions.specs.Decode.{auipccOf, auicgpOf, jalOf, branchOf, jalrOf, csrRegisterOf, csrImmediateOf, csrOf, wholeOf, systemOf, specialOf}
+use Rattle.instructions.specs.Decode.{sourceDestOf, combineOf, twoSourceOf, capabilityOf, decodeOf}
 use Rattle.instructions.specs.declared.Alu.{Alu}
 use Rattle.instructions.specs.declared.Csr.{Csr}
 use Rattle.instructions.specs.declared.Csr.the-variants.{Mstatus, Mcause, Mtval}
@@ -166,7 +170,8 @@ module _ (w : ℕ) (h : w < 2 ^ 32) where
       (tested (λ (a : Alu). Back w (Integer (Op a (rdOf w) (rs1Of w) (rs2Of w)))) (funct3 w) 4 _ _ (λ e. formatR w h 0x4033 (omega arith)) (λ n₄.
       (tested (λ (a : Alu). Back w (Integer (Op a (rdOf w) (rs1Of w) (rs2Of w)))) (funct3 w) 5 _ _ (λ e. formatR w h 0x5033 (omega arith)) (λ n₅.
       (tested (λ (a : Alu). Back w (Integer (Op a (rdOf w) (rs1Of w) (rs2Of w)))) (funct3 w) 6 _ _ (λ e. formatR w h 0x6033 (omega arith)) (λ n₆.
-      (formatR w h 0x7033 (lastR 0x7033 (opcode w) (funct3 w) (funct7 w) 0 o (last (funct3 w) (below-eight w) (four (funct3 w) n₀ n₁ n₂ n₃) n₄ n₅ n₆) f refl))))))))))))))))
+      (formatR w h 0x7033 (lastR 0x7033 (opcode w) (funct3 w) (funct7 w) 0 o (last (funct3 w) (below-eight w) (four (funct3 w) n₀ n₁ n₂ n₃) n₄ n₅ n₆) f
+      refl))))))))))))))))
 
   op32 : opcode w ≡ 0x33 → funct7 w ≡ 0x20 → Back w (op32Of (funct3 w) (rdOf w) (rs1Of w) (rs2Of w))
   unfolding restored instructionShape encodeOf placeOf fixedBits formats op32Of integerShape
@@ -185,7 +190,8 @@ module _ (w : ℕ) (h : w < 2 ^ 32) where
       (tested (Back w) (funct3 w) 4 _ _ (λ e. formatR w h 0x2004033 (omega arith)) (λ n₄.
       (tested (Back w) (funct3 w) 5 _ _ (λ e. formatR w h 0x2005033 (omega arith)) (λ n₅.
       (tested (Back w) (funct3 w) 6 _ _ (λ e. formatR w h 0x2006033 (omega arith)) (λ n₆.
-      (formatR w h 0x2007033 (lastR 0x2007033 (opcode w) (funct3 w) (funct7 w) 1 o (last (funct3 w) (below-eight w) (four (funct3 w) n₀ n₁ n₂ n₃) n₄ n₅ n₆) f refl))))))))))))))))
+      (formatR w h 0x2007033 (lastR 0x2007033 (opcode w) (funct3 w) (funct7 w) 1 o (last (funct3 w) (below-eight w) (four (funct3 w) n₀ n₁ n₂ n₃) n₄ n₅ n₆)
+      f refl))))))))))))))))
 
   op : opcode w ≡ 0x33 → Back w (opOf (funct3 w) (funct7 w) (rdOf w) (rs1Of w) (rs2Of w))
   unfolding restored instructionShape encodeOf placeOf fixedBits formats opOf opByOf

@@ -28,7 +28,8 @@ use Rattle.instructions.specs.declared.Scr.the-variants.{Mtcc, Mtdc, Mscratchc,
 use Rattle.instructions.specs.declared.Inspection.{Inspection}
 use Rattle.instructions.specs.declared.Inspection.the-variants.{GetPerm, GetType, GetBase, GetLen, GetTag, RoundLength, AlignmentMask, GetAddr, GetHigh, GetTop}
 use Rattle.instructions.specs.declared.Combination.{Combination}
-use Rattle.instructions.specs.declared.Combination.the-variants.{SetBounds, SetBoundsExact, Seal, Unseal, AndPerm, SetAddr, IncAddr, SubAddr, SetHigh, TestSubset, SetEqualExact}
+use Rattle.instructions.specs.declared.Combination.the-variants.{SetBounds, SetBoundsExact, Seal, Unseal, AndPerm, SetAddr, IncAddr, SubAddr, SetHigh}
+use Rattle.instructions.specs.declared.Combination.the-variants.{TestSubset, SetEqualExact}
 use Rattle.instructions.specs.declared.IntegerInstruction.{IntegerInstruction}
 use Rattle.instructions.specs.declared.IntegerInstruction.the-variants.{Lui, OpImm, Op, Multiply, Divide}
 use Rattle.instructions.specs.declared.JumpInstruction.{JumpInstruction}
@@ -42,7 +43,9 @@ use Rattle.instructions.specs.declared.SystemInstruction.the-variants.{Fence, W
 use Rattle.instructions.specs.declared.Instruction.{Instruction}
 use Rattle.instructions.specs.declared.Instruction.the-variants.{Integer, Jump, Memory, Capability, System, Illegal}
 use Rattle.forms.specs.declared.Shape.{Shape}
-use Rattle.forms.specs.Shapes.{three, two, bare, upperOf, predOf, succOf, aluRow, aluImmediateRow, multiplyRow, divideRow, branchRow, loadRow, storeRow, csrRow, csrImmediateRow, csrNumber, scrNumber, inspectionRow, combinationRow, integerShape, jumpShape, memoryShape, capabilityShape, systemShape, instructionShape}
+use Rattle.forms.specs.Shapes.{three, two, bare, upperOf, predOf, succOf, aluRow, aluImmediateRow, multiplyRow, divideRow, branchRow, loadRow, storeRow}
+use Rattle.forms.specs.Shapes.{csrRow, csrImmediateRow, csrNumber, scrNumber, inspectionRow, combinationRow, integerShape, jumpShape, memoryShape}
+use Rattle.forms.specs.Shapes.{capabilityShape, systemShape, instructionShape}
 
 abbrev pub Aligned : (count a b c : ℕ) → Type 0
 Aligned n a b c = ((n ≡ 3) ⊎ ((n ≡ 2) × (a ≡ 0))) ⊎ (((n ≡ 1) × (a ≡ 0) × (b ≡ 0)) ⊎ ((n ≡ 0) × (a ≡ 0) × (b ≡ 0) × (c ≡ 0)))

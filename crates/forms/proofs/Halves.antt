@@ -36,67 +36,99 @@ right : (j k : ℕ) → Bool
 right j k = let h = k + 4096 * j in good h (shortShape (shortOf h))
 
 part0 : T (every (right 0) 4096)
-unfolding right good lined shortShape shortOf quadrant0 quadrant1 quadrant2 addi4spnOf addi16spOf upperOf twoOf arithmeticOf slliOf lwspOf ldspOf movesOf addsOf registersOf immediateWide offsetWord offsetDouble immediateSix immediateSixteens immediateUpper offsetJump offsetBranch offsetLoadWord offsetLoadDouble offsetStoreWord offsetStoreDouble signExtend restored encodeOf placeOf shortPlaceOf fixedBits formats
+unfolding right good lined shortShape shortOf quadrant0 quadrant1 quadrant2 addi4spnOf addi16spOf upperOf twoOf arithmeticOf slliOf lwspOf ldspOf movesOf
+    addsOf registersOf immediateWide offsetWord offsetDouble immediateSix immediateSixteens immediateUpper offsetJump offsetBranch offsetLoadWord
+    offsetLoadDouble offsetStoreWord offsetStoreDouble signExtend restored encodeOf placeOf shortPlaceOf fixedBits formats
 part0 = tt
 
 part1 : T (every (right 1) 4096)
-unfolding right good lined shortShape shortOf quadrant0 quadrant1 quadrant2 addi4spnOf addi16spOf upperOf twoOf arithmeticOf slliOf lwspOf ldspOf movesOf addsOf registersOf immediateWide offsetWord offsetDouble immediateSix immediateSixteens immediateUpper offsetJump offsetBranch offsetLoadWord offsetLoadDouble offsetStoreWord offsetStoreDouble signExtend restored encodeOf placeOf shortPlaceOf fixedBits formats
+unfolding right good lined shortShape shortOf quadrant0 quadrant1 quadrant2 addi4spnOf addi16spOf upperOf twoOf arithmeticOf slliOf lwspOf ldspOf movesOf
+    addsOf registersOf immediateWide offsetWord offsetDouble immediateSix immediateSixteens immediateUpper offsetJump offsetBranch offsetLoadWord
+    offsetLoadDouble offsetStoreWord offsetStoreDouble signExtend restored encodeOf placeOf shortPlaceOf fixedBits formats
 part1 = tt
 
 part2 : T (every (right 2) 4096)
-unfolding right good lined shortShape shortOf quadrant0 quadrant1 quadrant2 addi4spnOf addi16spOf upperOf twoOf arithmeticOf slliOf lwspOf ldspOf movesOf addsOf registersOf immediateWide offsetWord offsetDouble immediateSix immediateSixteens immediateUpper offsetJump offsetBranch offsetLoadWord offsetLoadDouble offsetStoreWord offsetStoreDouble signExtend restored encodeOf placeOf shortPlaceOf fixedBits formats
+unfolding right good lined shortShape shortOf quadrant0 quadrant1 quadrant2 addi4spnOf addi16spOf upperOf twoOf arithmeticOf slliOf lwspOf ldspOf movesOf
+    addsOf registersOf immediateWide offsetWord offsetDouble immediateSix immediateSixteens immediateUpper offsetJump offsetBranch offsetLoadWord
+    offsetLoadDouble offsetStoreWord offsetStoreDouble signExtend restored encodeOf placeOf shortPlaceOf fixedBits formats
 part2 = tt
 
 part3 : T (every (right 3) 4096)
-unfolding right good lined shortShape shortOf quadrant0 quadrant1 quadrant2 addi4spnOf addi16spOf upperOf twoOf arithmeticOf slliOf lwspOf ldspOf movesOf addsOf registersOf immediateWide offsetWord offsetDouble immediateSix immediateSixteens immediateUpper offsetJump offsetBranch offsetLoadWord offsetLoadDouble offsetStoreWord offsetStoreDouble signExtend restored encodeOf placeOf shortPlaceOf fixedBits formats
+unfolding right good lined shortShape shortOf quadrant0 quadrant1 quadrant2 addi4spnOf addi16spOf upperOf twoOf arithmeticOf slliOf lwspOf ldspOf movesOf
+    addsOf registersOf immediateWide offsetWord offsetDouble immediateSix immediateSixteens immediateUpper offsetJump offsetBranch offsetLoadWord
+    offsetLoadDouble offsetStoreWord offsetStoreDouble signExtend restored encodeOf placeOf shortPlaceOf fixedBits formats
 part3 = tt
 
 part4 : T (every (right 4) 4096)
-unfolding right good lined shortShape shortOf quadrant0 quadrant1 quadrant2 addi4spnOf addi16spOf upperOf twoOf arithmeticOf slliOf lwspOf ldspOf movesOf addsOf registersOf immediateWide offsetWord offsetDouble immediateSix immediateSixteens immediateUpper offsetJump offsetBranch offsetLoadWord offsetLoadDouble offsetStoreWord offsetStoreDouble signExtend restored encodeOf placeOf shortPlaceOf fixedBits formats
+unfolding right good lined shortShape shortOf quadrant0 quadrant1 quadrant2 addi4spnOf addi16spOf upperOf twoOf arithmeticOf slliOf lwspOf ldspOf movesOf
+    addsOf registersOf immediateWide offsetWord offsetDouble immediateSix immediateSixteens immediateUpper offsetJump offsetBranch offsetLoadWord
+    offsetLoadDouble offsetStoreWord offsetStoreDouble signExtend restored encodeOf placeOf shortPlaceOf fixedBits formats
 part4 = tt
 
 part5 : T (every (right 5) 4096)
-unfolding right good lined shortShape shortOf quadrant0 quadrant1 quadrant2 addi4spnOf addi16spOf upperOf twoOf arithmeticOf slliOf lwspOf ldspOf movesOf addsOf registersOf immediateWide offsetWord offsetDouble immediateSix immediateSixteens immediateUpper offsetJump offsetBranch offsetLoadWord offsetLoadDouble offsetStoreWord offsetStoreDouble signExtend restored encodeOf placeOf shortPlaceOf fixedBits formats
+unfolding right good lined shortShape shortOf quadrant0 quadrant1 quadrant2 addi4spnOf addi16spOf upperOf twoOf arithmeticOf slliOf lwspOf ldspOf movesOf
+    addsOf registersOf immediateWide offsetWord offsetDouble immediateSix immediateSixteens immediateUpper offsetJump offsetBranch offsetLoadWord
+    offsetLoadDouble offsetStoreWord offsetStoreDouble signExtend restored encodeOf placeOf shortPlaceOf fixedBits formats
 part5 = tt
 
 part6 : T (every (right 6) 4096)
-unfolding right good lined shortShape shortOf quadrant0 quadrant1 quadrant2 addi4spnOf addi16spOf upperOf twoOf arithmeticOf slliOf lwspOf ldspOf movesOf addsOf registersOf immediateWide offsetWord offsetDouble immediateSix immediateSixteens immediateUpper offsetJump offsetBranch offsetLoadWord offsetLoadDouble offsetStoreWord offsetStoreDouble signExtend restored encodeOf placeOf shortPlaceOf fixedBits formats
+unfolding right good lined shortShape shortOf quadrant0 quadrant1 quadrant2 addi4spnOf addi16spOf upperOf twoOf arithmeticOf slliOf lwspOf ldspOf movesOf
+    addsOf registersOf immediateWide offsetWord offsetDouble immediateSix immediateSixteens immediateUpper offsetJump offsetBranch offsetLoadWord
+    offsetLoadDouble offsetStoreWord offsetStoreDouble signExtend restored encodeOf placeOf shortPlaceOf fixedBits formats
 part6 = tt
 
 part7 : T (every (right 7) 4096)
-unfolding right good lined shortShape shortOf quadrant0 quadrant1 quadrant2 addi4spnOf addi16spOf upperOf twoOf arithmeticOf slliOf lwspOf ldspOf movesOf addsOf registersOf immediateWide offsetWord offsetDouble immediateSix immediateSixteens immediateUpper offsetJump offsetBranch offsetLoadWord offsetLoadDouble offsetStoreWord offsetStoreDouble signExtend restored encodeOf placeOf shortPlaceOf fixedBits formats
+unfolding right good lined shortShape shortOf quadrant0 quadrant1 quadrant2 addi4spnOf addi16spOf upperOf twoOf arithmeticOf slliOf lwspOf ldspOf movesOf
+    addsOf registersOf immediateWide offsetWord offsetDouble immediateSix immediateSixteens immediateUpper offsetJump offsetBranch offsetLoadWord
+    offsetLoadDouble offsetStoreWord offsetStoreDouble signExtend restored encodeOf placeOf shortPlaceOf fixedBits formats
 part7 = tt
 
 part8 : T (every (right 8) 4096)
-unfolding right good lined shortShape shortOf quadrant0 quadrant1 quadrant2 addi4spnOf addi16spOf upperOf twoOf arithmeticOf slliOf lwspOf ldspOf movesOf addsOf registersOf immediateWide offsetWord offsetDouble immediateSix immediateSixteens immediateUpper offsetJump offsetBranch offsetLoadWord offsetLoadDouble offsetStoreWord offsetStoreDouble signExtend restored encodeOf placeOf shortPlaceOf fixedBits formats
+unfolding right good lined shortShape shortOf quadrant0 quadrant1 quadrant2 addi4spnOf addi16spOf upperOf twoOf arithmeticOf slliOf lwspOf ldspOf movesOf
+    addsOf registersOf immediateWide offsetWord offsetDouble immediateSix immediateSixteens immediateUpper offsetJump offsetBranch offsetLoadWord
+    offsetLoadDouble offsetStoreWord offsetStoreDouble signExtend restored encodeOf placeOf shortPlaceOf fixedBits formats
 part8 = tt
 
 part9 : T (every (right 9) 4096)
-unfolding right good lined shortShape shortOf quadrant0 quadrant1 quadrant2 addi4spnOf addi16spOf upperOf twoOf arithmeticOf slliOf lwspOf ldspOf movesOf addsOf registersOf immediateWide offsetWord offsetDouble immediateSix immediateSixteens immediateUpper offsetJump offsetBranch offsetLoadWord offsetLoadDouble offsetStoreWord offsetStoreDouble signExtend restored encodeOf placeOf shortPlaceOf fixedBits formats
+unfolding right good lined shortShape shortOf quadrant0 quadrant1 quadrant2 addi4spnOf addi16spOf upperOf twoOf arithmeticOf slliOf lwspOf ldspOf movesOf
+    addsOf registersOf immediateWide offsetWord offsetDouble immediateSix immediateSixteens immediateUpper offsetJump offsetBranch offsetLoadWord
+    offsetLoadDouble offsetStoreWord offsetStoreDouble signExtend restored encodeOf placeOf shortPlaceOf fixedBits formats
 part9 = tt
 
 part10 : T (every (right 10) 4096)
-unfolding right good lined shortShape shortOf quadrant0 quadrant1 quadrant2 addi4spnOf addi16spOf upperOf twoOf arithmeticOf slliOf lwspOf ldspOf movesOf addsOf registersOf immediateWide offsetWord offsetDouble immediateSix immediateSixteens immediateUpper offsetJump offsetBranch offsetLoadWord offsetLoadDouble offsetStoreWord offsetStoreDouble signExtend restored encodeOf placeOf shortPlaceOf fixedBits formats
+unfolding right good lined shortShape shortOf quadrant0 quadrant1 quadrant2 addi4spnOf addi16spOf upperOf twoOf arithmeticOf slliOf lwspOf ldspOf movesOf
+    addsOf registersOf immediateWide offsetWord offsetDouble immediateSix immediateSixteens immediateUpper offsetJump offsetBranch offsetLoadWord
+    offsetLoadDouble offsetStoreWord offsetStoreDouble signExtend restored encodeOf placeOf shortPlaceOf fixedBits formats
 part10 = tt
 
 part11 : T (every (right 11) 4096)
-unfolding right good lined shortShape shortOf quadrant0 quadrant1 quadrant2 addi4spnOf addi16spOf upperOf twoOf arithmeticOf slliOf lwspOf ldspOf movesOf addsOf registersOf immediateWide offsetWord offsetDouble immediateSix immediateSixteens immediateUpper offsetJump offsetBranch offsetLoadWord offsetLoadDouble offsetStoreWord offsetStoreDouble signExtend restored encodeOf placeOf shortPlaceOf fixedBits formats
+unfolding right good lined shortShape shortOf quadrant0 quadrant1 quadrant2 addi4spnOf addi16spOf upperOf twoOf arithmeticOf slliOf lwspOf ldspOf movesOf
+    addsOf registersOf immediateWide offsetWord offsetDouble immediateSix immediateSixteens immediateUpper offsetJump offsetBranch offsetLoadWord
+    offsetLoadDouble offsetStoreWord offsetStoreDouble signExtend restored encodeOf placeOf shortPlaceOf fixedBits formats
 part11 = tt
 
 part12 : T (every (right 12) 4096)
-unfolding right good lined shortShape shortOf quadrant0 quadrant1 quadrant2 addi4spnOf addi16spOf upperOf twoOf arithmeticOf slliOf lwspOf ldspOf movesOf addsOf registersOf immediateWide offsetWord offsetDouble immediateSix immediateSixteens immediateUpper offsetJump offsetBranch offsetLoadWord offsetLoadDouble offsetStoreWord offsetStoreDouble signExtend restored encodeOf placeOf shortPlaceOf fixedBits formats
+unfolding right good lined shortShape shortOf quadrant0 quadrant1 quadrant2 addi4spnOf addi16spOf upperOf twoOf arithmeticOf slliOf lwspOf ldspOf movesOf
+    addsOf registersOf immediateWide offsetWord offsetDouble immediateSix immediateSixteens immediateUpper offsetJump offsetBranch offsetLoadWord
+    offsetLoadDouble offsetStoreWord offsetStoreDouble signExtend restored encodeOf placeOf shortPlaceOf fixedBits formats
 part12 = tt
 
 part13 : T (every (right 13) 4096)
-unfolding right good lined shortShape shortOf quadrant0 quadrant1 quadrant2 addi4spnOf addi16spOf upperOf twoOf arithmeticOf slliOf lwspOf ldspOf movesOf addsOf registersOf immediateWide offsetWord offsetDouble immediateSix immediateSixteens immediateUpper offsetJump offsetBranch offsetLoadWord offsetLoadDouble offsetStoreWord offsetStoreDouble signExtend restored encodeOf placeOf shortPlaceOf fixedBits formats
+unfolding right good lined shortShape shortOf quadrant0 quadrant1 quadrant2 addi4spnOf addi16spOf upperOf twoOf arithmeticOf slliOf lwspOf ldspOf movesOf
+    addsOf registersOf immediateWide offsetWord offsetDouble immediateSix immediateSixteens immediateUpper offsetJump offsetBranch offsetLoadWord
+    offsetLoadDouble offsetStoreWord offsetStoreDouble signExtend restored encodeOf placeOf shortPlaceOf fixedBits formats
 part13 = tt
 
 part14 : T (every (right 14) 4096)
-unfolding right good lined shortShape shortOf quadrant0 quadrant1 quadrant2 addi4spnOf addi16spOf upperOf twoOf arithmeticOf slliOf lwspOf ldspOf movesOf addsOf registersOf immediateWide offsetWord offsetDouble immediateSix immediateSixteens immediateUpper offsetJump offsetBranch offsetLoadWord offsetLoadDouble offsetStoreWord offsetStoreDouble signExtend restored encodeOf placeOf shortPlaceOf fixedBits formats
+unfolding right good lined shortShape shortOf quadrant0 quadrant1 quadrant2 addi4spnOf addi16spOf upperOf twoOf arithmeticOf slliOf lwspOf ldspOf movesOf
+    addsOf registersOf immediateWide offsetWord offsetDouble immediateSix immediateSixteens immediateUpper offsetJump offsetBranch offsetLoadWord
+    offsetLoadDouble offsetStoreWord offsetStoreDouble signExtend restored encodeOf placeOf shortPlaceOf fixedBits formats
 part14 = tt
 
 part15 : T (every (right 15) 4096)
-unfolding right good lined shortShape shortOf quadrant0 quadrant1 quadrant2 addi4spnOf addi16spOf upperOf twoOf arithmeticOf slliOf lwspOf ldspOf movesOf addsOf registersOf immediateWide offsetWord offsetDouble immediateSix immediateSixteens immediateUpper offsetJump offsetBranch offsetLoadWord offsetLoadDouble offsetStoreWord offsetStoreDouble signExtend restored encodeOf placeOf shortPlaceOf fixedBits formats
+unfolding right good lined shortShape shortOf quadrant0 quadrant1 quadrant2 addi4spnOf addi16spOf upperOf twoOf arithmeticOf slliOf lwspOf ldspOf movesOf
+    addsOf registersOf immediateWide offsetWord offsetDouble immediateSix immediateSixteens immediateUpper offsetJump offsetBranch offsetLoadWord
+    offsetLoadDouble offsetStoreWord offsetStoreDouble signExtend restored encodeOf placeOf shortPlaceOf fixedBits formats
 part15 = tt
 
 -- every part, and so every half

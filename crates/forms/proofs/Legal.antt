@@ -34,7 +34,8 @@ use Rattle.instructions.specs.declared.Scr.the-variants.{Mtcc, Mtdc, Mscratchc,
 use Rattle.instructions.specs.declared.Inspection.{Inspection}
 use Rattle.instructions.specs.declared.Inspection.the-variants.{GetPerm, GetType, GetBase, GetLen, GetTag, RoundLength, AlignmentMask, GetAddr, GetHigh, GetTop}
 use Rattle.instructions.specs.declared.Combination.{Combination}
-use Rattle.instructions.specs.declared.Combination.the-variants.{SetBounds, SetBoundsExact, Seal, Unseal, AndPerm, SetAddr, IncAddr, SubAddr, SetHigh, TestSubset, SetEqualExact}
+use Rattle.instructions.specs.declared.Combination.the-variants.{SetBounds, SetBoundsExact, Seal, Unseal, AndPerm, SetAddr, IncAddr, SubAddr, SetHigh}
+use Rattle.instructions.specs.declared.Combination.the-variants.{TestSubset, SetEqualExact}
 use Rattle.instructions.specs.declared.IntegerInstruction.{IntegerInstruction}
 use Rattle.instructions.specs.declared.IntegerInstruction.the-variants as integer
 use Rattle.instructions.specs.declared.JumpInstruction.{JumpInstruction}
@@ -48,7 +49,8 @@ use Rattle.instructions.specs.declared.SystemInstruction.the-variants as system
 use Rattle.instructions.specs.declared.Instruction.{Instruction}
 use Rattle.instructions.specs.declared.Instruction.the-variants.{Integer, Jump, Memory, Capability, System, Illegal}
 use Rattle.forms.specs.Names.{rowCount}
-use Rattle.forms.specs.Shapes.{aluRow, aluImmediateRow, multiplyRow, divideRow, branchRow, loadRow, storeRow, csrRow, csrImmediateRow, inspectionRow, combinationRow, integerShape, jumpShape, memoryShape, capabilityShape, systemShape, instructionShape, two}
+use Rattle.forms.specs.Shapes.{aluRow, aluImmediateRow, multiplyRow, divideRow, branchRow, loadRow, storeRow, csrRow, csrImmediateRow, inspectionRow}
+use Rattle.forms.specs.Shapes.{combinationRow, integerShape, jumpShape, memoryShape, capabilityShape, systemShape, instructionShape, two}
 use Rattle.forms.specs.ShortShapes.{named, addiShape, shortShape, shapeOf, instructionOf}
 use Rattle.forms.specs.declared.Shape.{Shape}
 

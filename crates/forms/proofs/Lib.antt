@@ -1,3 +1,4 @@
+pub mod Apart
 pub mod Formats
 pub mod Back
 pub mod Fit

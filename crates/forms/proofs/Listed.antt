@@ -14,17 +14,12 @@ use Rattle.instructions.specs.declared.Instruction.{Instruction}
 use Rattle.instructions.specs.declared.Instruction.the-variants.{System}
 use Rattle.short_forms.specs.Forms.{shortOf}
 use Rattle.forms.specs.Shapes.{two, predOf, succOf, systemShape, instructionShape}
-use Rattle.forms.specs.ShortShapes.{shortShape, shapeOf, instructionOf}
+use Rattle.forms.specs.ShortShapes.{shortShape, shapeOf, instructionOf, Word}
 use Rattle.forms.specs.Encoding.{placeF, chosen, restored}
 use Rattle.forms.specs.declared.Shape.{Shape}
 use Rattle.forms.proofs.Back.{long-again}
 use Rattle.forms.proofs.Fit.{Fit, long-fit}
 use Rattle.forms.proofs.Halves.{half-again, half-fit}
-
--- a word of the code: four bytes, or two where its two low bits are not 11
-pub record Word (w : ℕ) : Type 0 where
-  pub fits : w < 2 ^ 32
-  pub short : (w % 4 ≡ 3 → ⊥) → w < 2 ^ 16
 
 not-fence : (w : ℕ) → (w % 4 ≡ 3 → ⊥) → opcode w ≡ 0x0f → ⊥
 not-fence w n e = n (omega arith)

@@ -89,7 +89,8 @@ placeJump c =
 
 -- C.BEQZ and C.BNEZ
 abbrev pub placeBranch : (b c : ℕ) → ℕ
-placeBranch b c = c / 2 ^ 5 % 2 * 2 ^ 2 + c / 2 % 2 ^ 2 * 2 ^ 3 + c / 2 ^ 6 % 2 ^ 2 * 2 ^ 5 + b % 2 ^ 3 * 2 ^ 7 + c / 2 ^ 3 % 2 ^ 2 * 2 ^ 10 + c / 2 ^ 8 % 2 * 2 ^ 12
+placeBranch b c =
+    c / 2 ^ 5 % 2 * 2 ^ 2 + c / 2 % 2 ^ 2 * 2 ^ 3 + c / 2 ^ 6 % 2 ^ 2 * 2 ^ 5 + b % 2 ^ 3 * 2 ^ 7 + c / 2 ^ 3 % 2 ^ 2 * 2 ^ 10 + c / 2 ^ 8 % 2 * 2 ^ 12
 
 -- C.LWSP, C.LDSP, C.SWSP, C.SDSP
 abbrev pub placeLoadWord : (b c : ℕ) → ℕ

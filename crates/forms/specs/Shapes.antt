@@ -1,4 +1,5 @@
--- What is listed of an instruction: the row of its name, and its operands as words: registers in the order rd, rs1, rs2, then the others in the standard's order.
+-- What is listed of an instruction: the row of its name, and its operands as words: registers in the order rd, rs1, rs2, then the others in the standard's
+-- order.
 -- Offsets and immediates are the decoder's, sign-extended; shift amounts, lengths, CSR and special register numbers are unsigned.
 use Prim.Native.Nat.{ℕ, _+_, _*_, _/_, _%_, _^_}
 use Rattle.words.specs.Words.{signExtend}
@@ -23,7 +24,8 @@ use Rattle.instructions.specs.declared.Scr.the-variants.{Mtcc, Mtdc, Mscratchc,
 use Rattle.instructions.specs.declared.Inspection.{Inspection}
 use Rattle.instructions.specs.declared.Inspection.the-variants.{GetPerm, GetType, GetBase, GetLen, GetTag, RoundLength, AlignmentMask, GetAddr, GetHigh, GetTop}
 use Rattle.instructions.specs.declared.Combination.{Combination}
-use Rattle.instructions.specs.declared.Combination.the-variants.{SetBounds, SetBoundsExact, Seal, Unseal, AndPerm, SetAddr, IncAddr, SubAddr, SetHigh, TestSubset, SetEqualExact}
+use Rattle.instructions.specs.declared.Combination.the-variants.{SetBounds, SetBoundsExact, Seal, Unseal, AndPerm, SetAddr, IncAddr, SubAddr, SetHigh}
+use Rattle.instructions.specs.declared.Combination.the-variants.{TestSubset, SetEqualExact}
 use Rattle.instructions.specs.declared.IntegerInstruction.{IntegerInstruction}
 use Rattle.instructions.specs.declared.IntegerInstruction.the-variants.{Lui, OpImm, Op, Multiply, Divide}
 use Rattle.instructions.specs.declared.JumpInstruction.{JumpInstruction}

@@ -1,6 +1,7 @@
 -- What is listed of a half: of its form, by a row of its own, the register fields and the immediate that the half has. A register that a form implies is
 -- not named. And of any word, long or short.
-use Prim.Native.Nat.{ℕ}
+use Prim.Native.Nat.{ℕ, _%_, _^_, _<_}
+use mathlib.Core.Path.{_≡_}
 use mathlib.Core.Bool.{cond}
 use lib.Dec.{ltb, eqb}
 use Rattle.instructions.specs.Decode.{decodeOf}
@@ -58,6 +59,11 @@ shortShape (Add rd rs2) = named rd (named rs2 (two 113 rd rs2))
 shortShape (Swsp rs2 offset) = named rs2 (two 114 rs2 offset)
 shortShape (Sdsp rs2 offset) = named rs2 (two 115 rs2 offset)
 shortShape NoForm = bare unlisted
+
+-- a word of the code: four bytes, or two where its two low bits are not 11
+pub record Word (w : ℕ) : Type 0 where
+  pub fits : w < 2 ^ 32
+  pub short : (w % 4 ≡ 3 → ⊥) → w < 2 ^ 16
 
 -- what is listed of a word: two low bits 11 make it a long one, others a half
 unfoldable pub shapeOf : (word : ℕ) → Shape

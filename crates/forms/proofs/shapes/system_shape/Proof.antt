@@ -26,7 +26,13 @@ returns-5 c = simp (c .three .ensures, c .before .csr-number .ensures, c .before
 
 returns-6 : tie.Need-returns-6
 unfolding systemShape
-returns-6 c = simp (c .three2 .ensures, c .before .csr-number2 .ensures, c .before .before .csr-immediate-row .ensures, c .before .before .before .before .x2 .given .1)
+returns-6 c = simp (
+  c .three2 .ensures,
+  c .before .csr-number2 .ensures,
+  c .before .before .csr-immediate-row .ensures,
+  c .before .before .before .before
+      .x2 .given .1,
+)
 
 returns-7 : tie.Need-returns-7
 unfolding systemShape
