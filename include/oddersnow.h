@@ -8,7 +8,8 @@
  *   libraries: `rt staticlib label` has the first six functions (target/staticlib/liblabel.a),
  *   `rt staticlib call_lists` oddersnow_calls (target/staticlib/libcall_lists.a), `rt staticlib bench_api`
  *   oddersnow_step and oddersnow_run (target/staticlib/libbench_api.a), `rt staticlib sheet_api` the
- *   functions about sheets (target/staticlib/libsheet_api.a). A program may link all of them.
+ *   functions about sheets (target/staticlib/libsheet_api.a), `rt staticlib listing_api` oddersnow_list and
+ *   oddersnow_assemble (target/staticlib/liblisting_api.a). A program may link all of them.
  */
 #ifndef ODDERSNOW_H
 #define ODDERSNOW_H
@@ -128,6 +129,20 @@ static inline uint64_t oddersnow_rest(uint64_t answer) { return answer & 0xfffff
 static inline uint32_t oddersnow_number(uint64_t answer) { return (uint32_t)(answer >> 48); }
 static inline uint32_t oddersnow_trapped(uint64_t answer) { return (uint32_t)(answer >> 24) & 0xffffff; }
 static inline uint32_t oddersnow_retired(uint64_t answer) { return (uint32_t)answer & 0xffffff; }
+
+/* The listing of code: a line a word, as docs/LISTING.md has it; and the assembly of such lines. out takes the text, or the
+ * code, from its start on; bytes past it stay as they are. The answer is number * 2^48 + rest:
+ *
+ *   0   rest is how many bytes were written
+ *   10  out is too short; tested last, rest 0
+ *   13  (assemble) a line is no word's listing: rest is the number of the first one, from 1. A last line without newline is one
+ *   15  (list) the code ends inside a word: rest is that word's byte offset
+ *
+ * In every case but 0 nothing is written. The listing of whole words assembles to the same bytes, but for FENCE, where fm, rd and
+ * rs1 are 0 then; text that assembles lists as the same text.
+ */
+uint64_t oddersnow_list(const uint8_t *code, size_t code_len, uint8_t *out, size_t out_len);
+uint64_t oddersnow_assemble(const uint8_t *text, size_t text_len, uint8_t *out, size_t out_len);
 
 #ifdef __cplusplus
 }

@@ -6,7 +6,7 @@ use Prim.Native.Nat.{ℕ, zero, suc, _*_, _/_, _^_, _<_}
 use borrow.Author.Tests.{eq-eqb}
 use lib.Dec.{T, leb, ltb, leb→le, ltb→lt}
 use lib.ListN.{getD, length}
-use Rattle.metadata.proofs.Table.{and-left, and-right, every, every-at}
+use Rattle.choices.proofs.Every.{and-left, and-right, every, every-at}
 use Rattle.capability.specs.Capability.{low, high, tagged}
 use Rattle.capability.specs.declared.Capability.{Capability}
 use Rattle.state.specs.Layout.{capabilityCount}

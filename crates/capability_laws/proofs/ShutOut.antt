@@ -5,7 +5,7 @@ use mathlib.Core.List.{List, [], _∷_}
 use Prim.Native.Nat.{ℕ, zero, suc, _+_, _^_, _≤_, _<_}
 use native.Mathlib.Omega.{arith}
 use lib.Dec.{T, eqb→eq}
-use Rattle.metadata.proofs.Table.{and-left, and-right}
+use Rattle.choices.proofs.Every.{and-left, and-right}
 use Rattle.bounds.specs.Bounds.{Expressible, Contains}
 use Rattle.bounds.specs.Cutting.{cutOf, answerNumber, answerLow, answerHigh, CutPromise}
 use Rattle.bounds.specs.declared.CutAnswer.{CutAnswer}

@@ -4,7 +4,7 @@ use mathlib.Core.List.{List, [], _∷_}
 use Prim.Native.Nat.{ℕ, zero, suc}
 use lib.Dec.{T, eqb, eqb→eq}
 use lib.ListN.{getD}
-use Rattle.metadata.proofs.Table.{and-left, and-right}
+use Rattle.choices.proofs.Every.{and-left, and-right}
 use Rattle.state.specs.Lent.{State}
 use Rattle.machine.specs.declared.StepAnswer.{StepAnswer}
 use Rattle.machine.specs.Run.{stepAnswer, stepAfter, stepNumber, stepRetired}

@@ -8,7 +8,7 @@ use native.Mathlib.Omega.{arith}
 use lib.Bits.{bitAnd, and-shr, and-mod, and-le-l, and-comm}
 use lib.Dec.{T, leb, ltb, eqb, leb→le, ltb→lt, eqb→eq}
 use Rattle.metadata.specs.Rights.{bit, rightsOf, codeOf}
-use Rattle.metadata.proofs.Table.{every, every-at, and-left, and-right}
+use Rattle.choices.proofs.Every.{every, every-at, and-left, and-right}
 
 -- n bits of a are among those of b
 within : (n a b : ℕ) → Bool

@@ -1,7 +1,7 @@
 -- The table of rights: its rule at all 64 entries by one test that antt computes, and what a match on a number has passed when no key fits.
 -- Assumes nothing.
-use mathlib.Core.Path.{_≡_, subst, sym, _∙_, ap}
-use mathlib.Core.Bool.{Bool, true, false, _&&_}
+use mathlib.Core.Path.{_≡_, sym, _∙_, ap}
+use mathlib.Core.Bool.{Bool}
 use mathlib.Core.List.{List, [], _∷_}
 use mathlib.Core.Logic.{_⊎_, inl, inr}
 use Prim.Native.Nat.{ℕ, zero, suc, _+_, _≤_, _<_}
@@ -9,28 +9,8 @@ use native.Mathlib.Nat.{eq-or-lt-of-le, not-suc-le-zero}
 use native.Mathlib.Omega.{arith}
 use lib.Dec.{T, eqb, ltb, eqb→eq, ltb→lt}
 use lib.ListN.{getD}
+use Rattle.choices.proofs.Every.{every, every-at}
 use Rattle.metadata.specs.Rights.{rightsOf}
-
-pub and-left : (a b : Bool) → T (a && b) → T a
-and-left true b t = tt
-and-left false b t = t
-
-pub and-right : (a b : Bool) → T (a && b) → T b
-and-right true b t = t
-and-right false b t = absurd t
-
--- f passes at every number below n
-abbrev pub every : (ℕ → Bool) → ℕ → Bool
-every f zero = true
-every f (suc n) = f n && every f n
-
-pub every-at : (f : ℕ → Bool) (n : ℕ) → T (every f n) → (k : ℕ) → k < n → T (f k)
-every-at f zero t k h = absurd (not-suc-le-zero h)
-every-at f (suc n) t k h = go (eq-or-lt-of-le h) (every-at f n (and-right (f n) (every f n) t) k)
-  where
-    go : (suc k ≡ suc n) ⊎ (suc k < suc n) → (k < n → T (f k)) → T (f k)
-    go (inl e) rest = subst (λ x. T (f x)) (omega arith) (and-left (f n) (every f n) t)
-    go (inr l) rest = rest (omega arith)
 
 -- the entries of the table of rights, as MASKS has them: an arm that reads another number is not proved by the rule
 unfoldable pub masks : List ℕ

@@ -3,6 +3,7 @@
 ghost use mathlib.Core.List.{[], _∷_};
 ghost use mathlib.Core.Path.{_≡_};
 ghost use Prim.Native.Nat.{_≤_, _<_};
+ghost use lib.ListN.{length};
 ghost use Rattle.text.specs.Digits.{digitOf, digits, placesOf, decimal, signed};
 ghost use Rattle.text.specs.Digits.{glyph as Digits·glyph};
 ghost use Rattle.text.specs.Writing.{Delivers, Puts};
@@ -127,5 +128,16 @@ pub fn put_signed(out: &mut [u8], at: usize, v: u32) -> usize
     } else {
         let end = put_byte(out, at, b'-');
         put_decimal(out, end, (SIGN - (v - SIGN)) as u64)
+    }
+}
+
+// How many bytes `put_signed` writes where it has room.
+pub fn signed_length(v: u32) -> usize
+    ensures { λ r. ⌜ (r ≡ length (signed v)) × (r ≤ 11) ⌝ }
+{
+    if v < SIGN {
+        places_of(v as u64) as usize
+    } else {
+        1 + places_of((SIGN - (v - SIGN)) as u64) as usize
     }
 }

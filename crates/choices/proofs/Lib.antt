@@ -1,0 +1,2 @@
+-- What the proofs of several layers share.
+pub mod Every

@@ -1,0 +1,156 @@
+-- From a row and operands back to the word: the row's fixed bits, and the operands where its format has them.
+use mathlib.Core.Bool.{cond, _&&_}
+use mathlib.Core.List.{List, [], _∷_}
+use Prim.Native.Nat.{ℕ, _+_, _*_, _/_, _%_, _^_}
+use lib.Dec.{eqb, ltb}
+use lib.ListN.{getD}
+use Rattle.words.specs.Words.{wrap}
+use Rattle.instructions.specs.Fields.{opcode, funct3}
+use Rattle.forms.specs.Names.{rowCount}
+use Rattle.forms.specs.declared.Shape.{Shape}
+
+unfoldable pub fixedBits : List ℕ
+fixedBits =
+    0x37 ∷ 0x17 ∷ 0x7b ∷ 0x6f ∷ 0x67 ∷ 0x63 ∷ 0x1063 ∷ 0x4063 ∷ 0x5063 ∷ 0x6063 ∷
+    0x7063 ∷ 0x30200073 ∷ 0x3 ∷ 0x1003 ∷ 0x2003 ∷ 0x4003 ∷ 0x5003 ∷ 0x3003 ∷ 0x23 ∷ 0x1023 ∷
+    0x2023 ∷ 0x3023 ∷ 0x13 ∷ 0x1013 ∷ 0x2013 ∷ 0x3013 ∷ 0x4013 ∷ 0x5013 ∷ 0x40005013 ∷ 0x6013 ∷
+    0x7013 ∷ 0x33 ∷ 0x40000033 ∷ 0x1033 ∷ 0x2033 ∷ 0x3033 ∷ 0x4033 ∷ 0x5033 ∷ 0x40005033 ∷ 0x6033 ∷
+    0x7033 ∷ 0xf ∷ 0x10500073 ∷ 0x73 ∷ 0x100073 ∷ 0x1073 ∷ 0x2073 ∷ 0x3073 ∷ 0x5073 ∷ 0x6073 ∷
+    0x7073 ∷ 0x200005b ∷ 0x105b ∷ 0x205b ∷ 0xfea0005b ∷ 0xfeb0005b ∷ 0xfe00005b ∷ 0xfe10005b ∷ 0xfe20005b ∷ 0xfe30005b ∷
+    0xfe40005b ∷ 0xfe80005b ∷ 0xfe90005b ∷ 0xfef0005b ∷ 0xff70005b ∷ 0xff80005b ∷ 0x1000005b ∷ 0x1200005b ∷ 0x1600005b ∷ 0x1800005b ∷
+    0x1a00005b ∷ 0x2000005b ∷ 0x2200005b ∷ 0x2800005b ∷ 0x2c00005b ∷ 0x4000005b ∷ 0x4200005b ∷ 0x2000033 ∷ 0x2001033 ∷ 0x2002033 ∷
+    0x2003033 ∷ 0x2004033 ∷ 0x2005033 ∷ 0x2006033 ∷ 0x2007033 ∷ 0x0 ∷ 0x4000 ∷ 0x6000 ∷ 0xc000 ∷ 0xe000 ∷
+    0x1 ∷ 0x1 ∷ 0x2001 ∷ 0x4001 ∷ 0x6101 ∷ 0x6001 ∷ 0x8001 ∷ 0x8401 ∷ 0x8801 ∷ 0x8c01 ∷
+    0x8c21 ∷ 0x8c41 ∷ 0x8c61 ∷ 0xa001 ∷ 0xc001 ∷ 0xe001 ∷ 0x2 ∷ 0x4002 ∷ 0x6002 ∷ 0x8002 ∷
+    0x8002 ∷ 0x9002 ∷ 0x9002 ∷ 0x9002 ∷ 0xc002 ∷ 0xe002 ∷ []
+
+-- R 0, I 1, S 2, B 3, U 4, J 5, two registers 6, CSR number and immediate 7, none 8, FENCE 9; from 10 on those of halves
+unfoldable pub formats : List ℕ
+formats =
+    4 ∷ 4 ∷ 4 ∷ 5 ∷ 1 ∷ 3 ∷ 3 ∷ 3 ∷ 3 ∷ 3 ∷ 3 ∷ 8 ∷ 1 ∷ 1 ∷ 1 ∷ 1 ∷ 1 ∷ 1 ∷ 2 ∷ 2 ∷
+    2 ∷ 2 ∷ 1 ∷ 0 ∷ 1 ∷ 1 ∷ 1 ∷ 0 ∷ 0 ∷ 1 ∷ 1 ∷ 0 ∷ 0 ∷ 0 ∷ 0 ∷ 0 ∷ 0 ∷ 0 ∷ 0 ∷ 0 ∷
+    0 ∷ 9 ∷ 8 ∷ 8 ∷ 8 ∷ 1 ∷ 1 ∷ 1 ∷ 7 ∷ 7 ∷ 7 ∷ 0 ∷ 1 ∷ 1 ∷ 6 ∷ 6 ∷ 6 ∷ 6 ∷ 6 ∷ 6 ∷
+    6 ∷ 6 ∷ 6 ∷ 6 ∷ 6 ∷ 6 ∷ 0 ∷ 0 ∷ 0 ∷ 0 ∷ 0 ∷ 0 ∷ 0 ∷ 0 ∷ 0 ∷ 0 ∷ 0 ∷ 0 ∷ 0 ∷ 0 ∷
+    0 ∷ 0 ∷ 0 ∷ 0 ∷ 0 ∷ 10 ∷ 11 ∷ 12 ∷ 13 ∷ 14 ∷ 15 ∷ 15 ∷ 19 ∷ 15 ∷ 16 ∷ 15 ∷ 17 ∷ 17 ∷ 17 ∷ 18 ∷
+    18 ∷ 18 ∷ 18 ∷ 19 ∷ 20 ∷ 20 ∷ 15 ∷ 21 ∷ 22 ∷ 26 ∷ 25 ∷ 8 ∷ 26 ∷ 25 ∷ 23 ∷ 24 ∷ []
+
+abbrev pub placeR : (a b c : ℕ) → ℕ
+placeR a b c = a % 2 ^ 5 * 2 ^ 7 + b % 2 ^ 5 * 2 ^ 15 + c % 2 ^ 5 * 2 ^ 20
+
+abbrev pub placeI : (a b c : ℕ) → ℕ
+placeI a b c = a % 2 ^ 5 * 2 ^ 7 + b % 2 ^ 5 * 2 ^ 15 + c % 2 ^ 12 * 2 ^ 20
+
+abbrev pub placeS : (a b c : ℕ) → ℕ
+placeS a b c = c % 2 ^ 5 * 2 ^ 7 + a % 2 ^ 5 * 2 ^ 15 + b % 2 ^ 5 * 2 ^ 20 + c / 2 ^ 5 % 2 ^ 7 * 2 ^ 25
+
+abbrev pub placeB : (a b c : ℕ) → ℕ
+placeB a b c = c / 2 ^ 11 % 2 * 2 ^ 7 + c / 2 % 2 ^ 4 * 2 ^ 8 + a % 2 ^ 5 * 2 ^ 15 + b % 2 ^ 5 * 2 ^ 20 + c / 2 ^ 5 % 2 ^ 6 * 2 ^ 25 + c / 2 ^ 12 % 2 * 2 ^ 31
+
+abbrev pub placeU : (b c : ℕ) → ℕ
+placeU b c = b % 2 ^ 5 * 2 ^ 7 + c % 2 ^ 20 * 2 ^ 12
+
+abbrev pub placeJ : (b c : ℕ) → ℕ
+placeJ b c = b % 2 ^ 5 * 2 ^ 7 + c / 2 ^ 12 % 2 ^ 8 * 2 ^ 12 + c / 2 ^ 11 % 2 * 2 ^ 20 + c / 2 % 2 ^ 10 * 2 ^ 21 + c / 2 ^ 20 % 2 * 2 ^ 31
+
+abbrev pub placeF : (b c : ℕ) → ℕ
+placeF b c = c % 2 ^ 4 * 2 ^ 20 + b % 2 ^ 4 * 2 ^ 24
+
+-- halves: C.ADDI4SPN
+abbrev pub placeWide : (b c : ℕ) → ℕ
+placeWide b c = b % 2 ^ 3 * 2 ^ 2 + c / 2 ^ 3 % 2 * 2 ^ 5 + c / 2 ^ 2 % 2 * 2 ^ 6 + c / 2 ^ 6 % 2 ^ 4 * 2 ^ 7 + c / 2 ^ 4 % 2 ^ 2 * 2 ^ 11
+
+-- C.LW and C.SW, C.LD and C.SD: the register in the low field, the one in the high field, the offset
+abbrev pub placeWord : (low high c : ℕ) → ℕ
+placeWord l h c = l % 2 ^ 3 * 2 ^ 2 + c / 2 ^ 6 % 2 * 2 ^ 5 + c / 2 ^ 2 % 2 * 2 ^ 6 + h % 2 ^ 3 * 2 ^ 7 + c / 2 ^ 3 % 2 ^ 3 * 2 ^ 10
+
+abbrev pub placeDouble : (low high c : ℕ) → ℕ
+placeDouble l h c = l % 2 ^ 3 * 2 ^ 2 + c / 2 ^ 6 % 2 ^ 2 * 2 ^ 5 + h % 2 ^ 3 * 2 ^ 7 + c / 2 ^ 3 % 2 ^ 3 * 2 ^ 10
+
+-- a full register field or one of three bits, and six bits: immediates and shift amounts
+abbrev pub placeSix : (b c : ℕ) → ℕ
+placeSix b c = c % 2 ^ 5 * 2 ^ 2 + b % 2 ^ 5 * 2 ^ 7 + c / 2 ^ 5 % 2 * 2 ^ 12
+
+abbrev pub placeSixEight : (b c : ℕ) → ℕ
+placeSixEight b c = c % 2 ^ 5 * 2 ^ 2 + b % 2 ^ 3 * 2 ^ 7 + c / 2 ^ 5 % 2 * 2 ^ 12
+
+-- C.ADDI16SP
+abbrev pub placeSixteens : (c : ℕ) → ℕ
+placeSixteens c = c / 2 ^ 5 % 2 * 2 ^ 2 + c / 2 ^ 7 % 2 ^ 2 * 2 ^ 3 + c / 2 ^ 6 % 2 * 2 ^ 5 + c / 2 ^ 4 % 2 * 2 ^ 6 + c / 2 ^ 9 % 2 * 2 ^ 12
+
+-- C.SUB, C.XOR, C.OR, C.AND
+abbrev pub placeEights : (b c : ℕ) → ℕ
+placeEights b c = c % 2 ^ 3 * 2 ^ 2 + b % 2 ^ 3 * 2 ^ 7
+
+-- C.J and C.JAL
+abbrev pub placeJump : (c : ℕ) → ℕ
+placeJump c =
+    c / 2 ^ 5 % 2 * 2 ^ 2 + c / 2 % 2 ^ 3 * 2 ^ 3 + c / 2 ^ 7 % 2 * 2 ^ 6 + c / 2 ^ 6 % 2 * 2 ^ 7
+    + (c / 2 ^ 10 % 2 * 2 ^ 8 + c / 2 ^ 8 % 2 ^ 2 * 2 ^ 9 + c / 2 ^ 4 % 2 * 2 ^ 11 + c / 2 ^ 11 % 2 * 2 ^ 12)
+
+-- C.BEQZ and C.BNEZ
+abbrev pub placeBranch : (b c : ℕ) → ℕ
+placeBranch b c =
+    c / 2 ^ 5 % 2 * 2 ^ 2 + c / 2 % 2 ^ 2 * 2 ^ 3 + c / 2 ^ 6 % 2 ^ 2 * 2 ^ 5 + b % 2 ^ 3 * 2 ^ 7 + c / 2 ^ 3 % 2 ^ 2 * 2 ^ 10 + c / 2 ^ 8 % 2 * 2 ^ 12
+
+-- C.LWSP, C.LDSP, C.SWSP, C.SDSP
+abbrev pub placeLoadWord : (b c : ℕ) → ℕ
+placeLoadWord b c = c / 2 ^ 6 % 2 ^ 2 * 2 ^ 2 + c / 2 ^ 2 % 2 ^ 3 * 2 ^ 4 + b % 2 ^ 5 * 2 ^ 7 + c / 2 ^ 5 % 2 * 2 ^ 12
+
+abbrev pub placeLoadDouble : (b c : ℕ) → ℕ
+placeLoadDouble b c = c / 2 ^ 6 % 2 ^ 3 * 2 ^ 2 + c / 2 ^ 3 % 2 ^ 2 * 2 ^ 5 + b % 2 ^ 5 * 2 ^ 7 + c / 2 ^ 5 % 2 * 2 ^ 12
+
+abbrev pub placeStoreWord : (b c : ℕ) → ℕ
+placeStoreWord b c = b % 2 ^ 5 * 2 ^ 2 + c / 2 ^ 6 % 2 ^ 2 * 2 ^ 7 + c / 2 ^ 2 % 2 ^ 4 * 2 ^ 9
+
+abbrev pub placeStoreDouble : (b c : ℕ) → ℕ
+placeStoreDouble b c = b % 2 ^ 5 * 2 ^ 2 + c / 2 ^ 6 % 2 ^ 3 * 2 ^ 7 + c / 2 ^ 3 % 2 ^ 3 * 2 ^ 10
+
+-- C.MV and C.ADD; C.JR and C.JALR have the first field alone
+abbrev pub placeFull : (b c : ℕ) → ℕ
+placeFull b c = c % 2 ^ 5 * 2 ^ 2 + b % 2 ^ 5 * 2 ^ 7
+
+unfoldable pub shortPlaceOf : (format a b c : ℕ) → ℕ
+shortPlaceOf f a b c =
+    cond (eqb f 10) (placeWide b c)
+    (cond (eqb f 11) (placeWord a b c)
+    (cond (eqb f 12) (placeDouble a b c)
+    (cond (eqb f 13) (placeWord b a c)
+    (cond (eqb f 14) (placeDouble b a c)
+    (cond (eqb f 15) (placeSix b c)
+    (cond (eqb f 16) (placeSixteens c)
+    (cond (eqb f 17) (placeSixEight b c)
+    (cond (eqb f 18) (placeEights b c)
+    (cond (eqb f 19) (placeJump c)
+    (cond (eqb f 20) (placeBranch b c)
+    (cond (eqb f 21) (placeLoadWord b c)
+    (cond (eqb f 22) (placeLoadDouble b c)
+    (cond (eqb f 23) (placeStoreWord b c)
+    (cond (eqb f 24) (placeStoreDouble b c)
+    (cond (eqb f 25) (placeFull b c)
+    (placeFull c 0))))))))))))))))
+
+unfoldable pub placeOf : (format a b c : ℕ) → ℕ
+placeOf f a b c =
+    cond (eqb f 0) (placeR a b c)
+    (cond (eqb f 1) (placeI a b c)
+    (cond (eqb f 2) (placeS a b c)
+    (cond (eqb f 3) (placeB a b c)
+    (cond (eqb f 4) (placeU b c)
+    (cond (eqb f 5) (placeJ b c)
+    (cond (eqb f 6) (placeR b c 0)
+    (cond (eqb f 7) (placeI a c b)
+    (cond (eqb f 8) 0
+    (cond (eqb f 9) (placeF b c)
+    (shortPlaceOf f a b c))))))))))
+
+-- the word of a row and operands; 0 where there is no such row
+unfoldable pub encodeOf : (row a b c : ℕ) → ℕ
+encodeOf row a b c = cond (ltb row rowCount) (wrap (getD fixedBits row 0 + placeOf (getD formats row 0) a b c)) 0
+
+-- The word that stands for all encodings of one instruction. Only FENCE has several: its fm, rd and rs1 do not matter, and are 0 in the chosen word.
+unfoldable pub chosen : (word : ℕ) → ℕ
+chosen w = cond (eqb (opcode w) 0x0f && eqb (funct3 w) 0) (0x0f + placeF (w / 2 ^ 24) (w / 2 ^ 20)) w
+
+-- the word of what is listed: by its row and operands; where it has no row, the word itself
+unfoldable pub restored : (word : ℕ) → Shape → ℕ
+restored w s = cond (ltb (s .row) rowCount) (encodeOf (s .row) (s .a) (s .b) (s .c)) w

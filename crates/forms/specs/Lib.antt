@@ -1,0 +1,4 @@
+pub mod Names
+pub mod Shapes
+pub mod ShortShapes
+pub mod Encoding
