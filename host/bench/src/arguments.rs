@@ -7,7 +7,8 @@ use std::path::PathBuf;
 /// The bench: runs an image on the proved CHERIoT machine and shows what happened.
 ///
 /// Numbers are decimal, or hexadecimal after 0x. The exit status is 0 if a run had no trap, 1 if it
-/// trapped, 2 if the machine or the cutter refused, and 3 for bad usage or a bad file.
+/// trapped, 2 if the machine, the cutter, the lister or the assembler refused, and 3 for bad usage
+/// or a bad file.
 #[derive(Parser)]
 #[command(name = "bench", version, disable_help_subcommand = true)]
 pub struct Arguments {
@@ -25,6 +26,10 @@ pub enum Command {
     Cut(Cut),
     /// Shows the capability with an address and a metadata word
     Cap(Cap),
+    /// Lists the words of an image, each with its address and its instruction
+    List(List),
+    /// Assembles a listing to bytes
+    Assemble(Assemble),
 }
 
 #[derive(Args)]
@@ -106,6 +111,33 @@ pub struct Cap {
     /// Write the result as JSON
     #[arg(long)]
     pub json: bool,
+}
+
+#[derive(Args)]
+pub struct List {
+    /// The file to list: raw, ELF or Intel HEX
+    pub image: PathBuf,
+    /// The form of the image
+    #[arg(long, value_enum, default_value_t = Format::Auto)]
+    pub format: Format,
+    /// The address of raw bytes [default: 0x20000000]
+    #[arg(long, value_parser = word)]
+    pub start: Option<u32>,
+    /// Write the listing alone, in the form that assembles
+    #[arg(long, conflicts_with = "json")]
+    pub plain: bool,
+    /// Write the result as JSON
+    #[arg(long)]
+    pub json: bool,
+}
+
+#[derive(Args)]
+pub struct Assemble {
+    /// The listing, in the form that list --plain writes
+    pub text: PathBuf,
+    /// Where to save the bytes [default: standard output]
+    #[arg(short, long, value_name = "OUT")]
+    pub output: Option<PathBuf>,
 }
 
 /// A number: decimal, or hexadecimal after 0x.

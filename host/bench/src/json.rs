@@ -2,9 +2,10 @@
 
 use crate::capability_text::{revocation_word, rights, type_words};
 use crate::drive::{End, Outcome};
+use crate::listing::Part;
 use crate::memory_rows::rows;
 use crate::names::Names;
-use crate::proved::{bounds, Refusal, Region};
+use crate::proved::{bounds, instruction, Region};
 use crate::trap::{Action, Asked, Authority, Trap};
 use lent::{
     instruction_bytes, place_name, Capability, State, CAPABILITIES, MCAUSE, MSTATUS, MTVAL,
@@ -35,8 +36,29 @@ pub fn explained(state: &State, trap: Option<&Trap>, names: &Names) -> Value {
     })
 }
 
-pub fn refused(refusal: Refusal) -> Value {
-    json!({ "refused": { "number": refusal.0, "reason": refusal.reason() } })
+pub fn refused(number: u64, reason: &str) -> Value {
+    json!({ "refused": { "number": number, "reason": reason } })
+}
+
+/// The parts of an image with their words.
+pub fn listing(parts: &[Part]) -> Value {
+    let parts = parts.iter().map(|part| {
+        let words = part.lines().into_iter().map(|line| {
+            json!({
+                "address": line.address,
+                "word": line.word,
+                "length": instruction_bytes(line.word),
+                "instruction": line.instruction,
+            })
+        });
+        json!({
+            "origin": part.segment.origin,
+            "address": part.segment.address,
+            "words": words.collect::<Vec<Value>>(),
+            "zeros": part.segment.zeros,
+        })
+    });
+    json!({ "parts": parts.collect::<Vec<Value>>() })
 }
 
 pub fn cut(region: Region, exact: bool) -> Value {
@@ -82,6 +104,7 @@ fn trap(trap: &Trap, state: &State, names: &Names) -> Value {
         "names": places(trap.pcc.address, names),
         "word": trap.word,
         "length": trap.word.map(instruction_bytes),
+        "instruction": trap.word.map(instruction),
         "cause": trap.cause,
         "mcause": trap.mcause,
         "mtval": trap.mtval,
