@@ -138,7 +138,7 @@ fn a_listing_is_json_too() {
 }
 
 #[test]
-fn bytes_that_end_inside_a_word_are_refused_with_its_offset() {
+fn a_cut_off_word_is_refused_with_its_place() {
     let directory = with_file("cut_off", &code()[..8]);
     let reason = "file: raw bytes at [20000000, 20000008): \
                   the bytes end inside the word at offset 6, 20000006";

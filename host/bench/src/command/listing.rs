@@ -57,8 +57,8 @@ pub fn assemble(asked: &Assemble) -> Result<Status, String> {
     Ok(Status::Ran)
 }
 
-/// The line that is no word's listing, by its number and its text. A terminal obeys some bytes, and a
-/// tab is not told from spaces there, so they are written out.
+/// What is said of a bad line: its number and its text. A terminal obeys some bytes, and a tab is not
+/// told from spaces there, so they are written out.
 fn bad_line(text: &[u8], refusal: Refused) -> String {
     let number = refusal.place;
     let mut lines = text.split_inclusive(|byte| *byte == b'\n');
