@@ -36,7 +36,7 @@ elf_files() {
     done
     cmp "$work/hex.state" "$work/elf.state" && cmp "$work/hex.txt" "$work/elf.txt" || return 1
   done
-  (cd "$work" && "$bench" run interlock_small.elf interlock_image.elf) | grep -F '2000010c, word fe113c23, byte 0 of plan'
+  (cd "$work" && "$bench" run interlock_small.elf interlock_image.elf) | grep -F '2000010c, word fe113c23, csc 2 1 -8, byte 0 of plan'
 }
 
 # The image with short words does on both boards what the other does: it makes as many steps, and ends, or is stopped by
@@ -53,6 +53,39 @@ print(run["end"], run["retired"], run["trapped"], run["state"]["registers"][10],
     done
     [ -s "$work/image" ] && cmp "$work/image" "$work/image_short" || return 1
   done
+}
+
+# The demonstration's images, with short words and without: each is listed, its listing assembles to the bytes that binutils
+# has of the same HEX file, and these bytes have the same listing.
+round_trip() {
+  need riscv64-unknown-elf-objcopy binutils-riscv64-unknown-elf || return 1
+  local bench=$PWD/host/bench/target/release/bench file
+  for file in examples/interlock_image.hex examples/interlock_image_short.hex; do
+    riscv64-unknown-elf-objcopy -I ihex -O binary "$file" "$work/bytes" && [ -s "$work/bytes" ] &&
+      "$bench" list --plain "$file" >"$work/plain" && "$bench" assemble "$work/plain" -o "$work/back" && cmp "$work/bytes" "$work/back" &&
+      "$bench" assemble "$work/plain" | cmp - "$work/bytes" && "$bench" list --plain --format raw "$work/back" | cmp - "$work/plain" || return 1
+  done
+}
+
+refuses() { # COMMAND..: status 2, and nothing on standard output; what it says is kept
+  "$bench" "$@" >"$work/out" 2>"$work/err"
+  [ $? -eq 2 ] && [ ! -s "$work/out" ]
+}
+# A listing that lost its last byte, one with a name in upper case, and bytes that lost their last are refused with the place.
+damage_named() { # after round_trip, which leaves the image with short words
+  local bench=$PWD/host/bench/target/release/bench bad="$work/bad: line"
+  head -c -1 "$work/plain" >"$work/bad" && refuses assemble "$work/bad" &&
+    says "$work/err" "refused, number 13: $bad 19 is no word's listing: 'cjalr\\t0\\t1\\t0', without a newline" || return 1
+  sed '4s/csc/CSC/' "$work/plain" >"$work/bad" && refuses assemble "$work/bad" &&
+    says "$work/err" "refused, number 13: $bad 4 is no word's listing: 'CSC\\t2\\t1\\t-8'" || return 1
+  head -c -1 "$work/bytes" >"$work/bad" && refuses list --format raw "$work/bad" &&
+    says "$work/err" "refused, number 15: $work/bad: raw bytes at [20000000, 20000041): the bytes end inside the word at offset 62, 2000003e"
+}
+
+# The listing that examples/interlock.md shows is the head of the image's.
+listing_shown() {
+  sed -n '/^\$ .*bench list/,/^```$/{/^\$ /d;/^```$/d;p;}' examples/interlock.md >"$work/shown"
+  [ -s "$work/shown" ] && ./bench list examples/interlock_image.hex | head -n "$(wc -l <"$work/shown")" | diff - "$work/shown"
 }
 
 # What README.md shows at its head, each block that begins with a command, is what the demonstration writes.
@@ -94,12 +127,12 @@ nothing_added() {
   [ $? -eq "$status" ] && cmp "$work/command.out" "$work/bench.out" && cmp "$work/command.err" "$work/bench.err"
 }
 
-# A repository of three crates with an rt and a build of our own, which take seconds instead of minutes.
+# A repository of four crates with an rt and a build of our own, which take seconds instead of minutes.
 small_repository() { # FOLDER
   mkdir -p "$1/host/bench/src" "$1/kit" && cp bench "$1" &&
-    printf 'low:\nother:  # nobody leans on it\nlabel: low\nbench_api: low label\nsheet_api: low\n' >"$1/crates.txt"
+    printf 'low:\nother:  # nobody leans on it\nlabel: low\nbench_api: low label\nsheet_api: low\nlisting_api: low\n' >"$1/crates.txt"
   local crate
-  for crate in low label bench_api sheet_api; do mkdir -p "$1/crates/$crate/src"; done
+  for crate in low label bench_api sheet_api listing_api; do mkdir -p "$1/crates/$crate/src"; done
   cat >"$1/kit/rt" <<'RT'
 #!/usr/bin/env bash
 mkdir -p target/log target/staticlib
@@ -136,16 +169,17 @@ says() { # FILE TEXT..: each text stands in the file, one after the other
 progress_shown() {
   small_repository "$work/small" || return 1
   in_small ./bench --missing >"$work/missing"
-  printf 'library label\nlibrary bench_api\nlibrary sheet_api\ncommand\n' | cmp - "$work/missing" || return 1
+  printf 'library label\nlibrary bench_api\nlibrary sheet_api\nlibrary listing_api\ncommand\n' | cmp - "$work/missing" || return 1
   in_small ./bench cut 1 2 >"$work/out" 2>"$work/err" || return 1
   echo "the command cut 1 2" | cmp - "$work/out" &&
-    says "$work/err" "the proofs of 1 crates, libraries label bench_api sheet_api, the command" "proved 0 of 1 crates; 0:0" "proved 0 of 1 crates, now low; 0:0" built &&
+    says "$work/err" "the proofs of 1 crates, libraries label bench_api sheet_api listing_api, the command" \
+      "proved 0 of 1 crates; 0:0" "proved 0 of 1 crates, now low; 0:0" built &&
     in_small ./bench cut 1 2 >"$work/out" 2>&1 && echo "the command cut 1 2" | cmp - "$work/out"
 }
 older_than_sources() { # after progress_shown
   sleep 0.1
   touch "$work/small/crates/low/src/new.rt"
-  [ "$(in_small ./bench --missing | tr '\n' ' ')" = "library label library bench_api library sheet_api command " ]
+  [ "$(in_small ./bench --missing | tr '\n' ' ')" = "library label library bench_api library sheet_api library listing_api command " ]
 }
 failure_named() { # after older_than_sources
   VERDICT="NOT PROVED" in_small ./bench cut 1 2 >"$work/out" 2>"$work/err"
@@ -166,4 +200,7 @@ check "README.md shows the demonstration's output" readme_shows
 check "the demonstration's images are their sources'" image_files
 check "the demonstration's ELF files run as the HEX files" elf_files
 check "the demonstration's image with short words runs as the other" short_image
+check "the demonstration's image is listed and assembled again" round_trip
+check "examples/interlock.md shows the image's listing" listing_shown
+check "a damaged listing or image is refused with its place" damage_named
 exit $bad

@@ -13,6 +13,6 @@ if [ ${#missing[@]} -gt 0 ]; then
   apt-get -o DPkg::Lock::Timeout=300 install -y -qq --no-install-recommends "${missing[@]}"
 fi
 if [ -z "${ODDERSNOW_STATICLIB:-}" ]; then
-  (cd ../.. && rt staticlib label && rt staticlib bench_api && rt staticlib sheet_api)
+  (cd ../.. && for name in label bench_api sheet_api listing_api; do rt staticlib "$name"; done)
 fi
 cargo build --release

@@ -4,7 +4,13 @@
 use std::env;
 use std::path::{absolute, PathBuf};
 
-const LIBRARIES: [&str; 4] = ["label", "call_lists", "bench_api", "sheet_api"];
+const LIBRARIES: [&str; 5] = [
+    "label",
+    "call_lists",
+    "bench_api",
+    "sheet_api",
+    "listing_api",
+];
 
 fn main() {
     let named = env::var_os("ODDERSNOW_STATICLIB").map(PathBuf::from);

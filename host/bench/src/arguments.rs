@@ -7,9 +7,9 @@ use std::path::PathBuf;
 /// The bench: runs an image on the proved CHERIoT machine and shows what happened.
 ///
 /// Numbers are decimal, or hexadecimal after 0x. The exit status is 0 if a run had no trap, 1 if it
-/// trapped, if two map sheets differ or if no image fits, 2 if the machine or the cutter refused, an
-/// image does not fit the board that it is to run on, or a sheet that was to be judged is bad, and 3 for
-/// bad usage or a bad file.
+/// trapped, if two map sheets differ or if no image fits, 2 if the machine, the cutter, the lister or the
+/// assembler refused, an image does not fit the board that it is to run on, or a sheet that was to be
+/// judged is bad, and 3 for bad usage or a bad file.
 #[derive(Parser)]
 #[command(name = "bench", version, disable_help_subcommand = true)]
 pub struct Arguments {
@@ -32,6 +32,10 @@ pub enum Command {
     Sheet(SheetCommand),
     /// Says which image fits a board by its map sheet, or why none does
     Fit(Fit),
+    /// Lists the words of an image, each with its address and its instruction
+    List(List),
+    /// Assembles a listing to bytes
+    Assemble(Assemble),
 }
 
 #[derive(Args)]
@@ -134,6 +138,24 @@ pub struct SheetCheck {
 }
 
 #[derive(Args)]
+pub struct List {
+    /// The file to list: raw, ELF or Intel HEX
+    pub image: PathBuf,
+    /// The form of the image
+    #[arg(long, value_enum, default_value_t = Format::Auto)]
+    pub format: Format,
+    /// The address of raw bytes [default: 0x20000000]
+    #[arg(long, value_parser = word)]
+    pub start: Option<u32>,
+    /// Write the listing alone, in the form that assembles
+    #[arg(long, conflicts_with = "json")]
+    pub plain: bool,
+    /// Write the result as JSON
+    #[arg(long)]
+    pub json: bool,
+}
+
+#[derive(Args)]
 pub struct SheetCompare {
     /// The first map sheet
     pub first: PathBuf,
@@ -154,6 +176,15 @@ pub struct Fit {
     /// Write the result as JSON
     #[arg(long)]
     pub json: bool,
+}
+
+#[derive(Args)]
+pub struct Assemble {
+    /// The listing, in the form that list --plain writes
+    pub text: PathBuf,
+    /// Where to save the bytes [default: standard output]
+    #[arg(short, long, value_name = "OUT")]
+    pub output: Option<PathBuf>,
 }
 
 /// A number: decimal, or hexadecimal after 0x.

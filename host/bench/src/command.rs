@@ -1,6 +1,7 @@
 //! What each subcommand does.
 
 pub mod fit;
+mod listing;
 mod run;
 pub mod sheet;
 
@@ -25,21 +26,24 @@ pub fn obey(command: Command) -> Result<Status, String> {
         Command::Cap(cap) => capability_shown(&cap),
         Command::Sheet(asked) => sheet::obey(&asked),
         Command::Fit(asked) => fit::obey(&asked),
+        Command::List(list) => listing::list(&list),
+        Command::Assemble(assemble) => listing::assemble(&assemble),
     }
 }
 
 /// Writes to standard output; a reader that has gone away is no error.
-fn say(text: &str) -> Result<(), String> {
+fn say_bytes(bytes: &[u8]) -> Result<(), String> {
     let mut output = std::io::stdout().lock();
-    match output
-        .write_all(text.as_bytes())
-        .and_then(|()| output.flush())
-    {
+    match output.write_all(bytes).and_then(|()| output.flush()) {
         Err(error) if error.kind() != ErrorKind::BrokenPipe => {
             Err(format!("standard output: {error}"))
         }
         _ => Ok(()),
     }
+}
+
+fn say(text: &str) -> Result<(), String> {
+    say_bytes(text.as_bytes())
 }
 
 fn say_json(value: &Value) -> Result<(), String> {
@@ -48,10 +52,14 @@ fn say_json(value: &Value) -> Result<(), String> {
 
 /// Says that something was refused, with document 01's number.
 fn refused(refusal: Refusal, as_json: bool) -> Result<Status, String> {
+    refused_by(refusal.0, refusal.reason(), as_json)
+}
+
+/// Says that something was refused, by which number and why.
+fn refused_by(number: u64, reason: &str, as_json: bool) -> Result<Status, String> {
     if as_json {
-        say_json(&json::refused(refusal))?;
+        say_json(&json::refused(number, reason))?;
     }
-    let (number, reason) = (refusal.0, refusal.reason());
     complain(&format!("refused, number {number}: {reason}"));
     Ok(Status::Refused)
 }

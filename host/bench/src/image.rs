@@ -9,6 +9,9 @@ use crate::sheet::Bad;
 use lent::{State, GRANULE};
 use std::path::Path;
 
+/// Where memory starts, and raw bytes with it, if nothing else is said.
+pub const DEFAULT_START: u32 = 0x2000_0000;
+
 /// The form of an image file.
 #[derive(Clone, Copy, PartialEq, Eq, Debug, clap::ValueEnum)]
 pub enum Format {
@@ -38,7 +41,7 @@ impl Segment {
         u64::from(self.address) + self.bytes.len() as u64 + self.zeros
     }
 
-    fn shown(&self) -> String {
+    pub fn shown(&self) -> String {
         format!("[{:08x}, {:08x})", self.address, self.end())
     }
 }

@@ -4,10 +4,11 @@ use crate::capability_text::{revocation_word, rights, type_words};
 use crate::command::fit::{Beside, Chosen};
 use crate::command::sheet::Pair;
 use crate::drive::{End, Outcome};
+use crate::listing::Part;
 use crate::memory_rows::rows;
 use crate::names::Names;
 use crate::proved::sheets::{Record, NEITHER};
-use crate::proved::{bounds, Refusal, Region};
+use crate::proved::{bounds, instruction, Refusal, Region};
 use crate::sheet::{letters, Bad};
 use crate::trap::{Action, Asked, Authority, Trap};
 use lent::{
@@ -40,8 +41,29 @@ pub fn explained(state: &State, trap: Option<&Trap>, names: &Names) -> Value {
     })
 }
 
-pub fn refused(refusal: Refusal) -> Value {
-    json!({ "refused": { "number": refusal.0, "reason": refusal.reason() } })
+pub fn refused(number: u64, reason: &str) -> Value {
+    json!({ "refused": { "number": number, "reason": reason } })
+}
+
+/// The parts of an image with their words.
+pub fn listing(parts: &[Part]) -> Value {
+    let parts = parts.iter().map(|part| {
+        let words = part.lines().into_iter().map(|line| {
+            json!({
+                "address": line.address,
+                "word": line.word,
+                "length": instruction_bytes(line.word),
+                "instruction": line.instruction,
+            })
+        });
+        json!({
+            "origin": part.segment.origin,
+            "address": part.segment.address,
+            "words": words.collect::<Vec<Value>>(),
+            "zeros": part.segment.zeros,
+        })
+    });
+    json!({ "parts": parts.collect::<Vec<Value>>() })
 }
 
 /// A bad sheet.
@@ -157,6 +179,7 @@ fn trap(trap: &Trap, state: &State, names: &Names) -> Value {
         "names": places(trap.pcc.address, names),
         "word": trap.word,
         "length": trap.word.map(instruction_bytes),
+        "instruction": trap.word.map(instruction),
         "cause": trap.cause,
         "mcause": trap.mcause,
         "mtval": trap.mtval,

@@ -1,4 +1,4 @@
-//! The bench command: runs an image on the proved machine and shows what happened.
+//! The bench command: runs an image on the proved machine and shows what happened, and lists it.
 
 mod arguments;
 mod capability_text;
@@ -8,6 +8,7 @@ mod drive;
 mod file;
 mod image;
 mod json;
+mod listing;
 mod memory_rows;
 mod names;
 mod probe;

@@ -1,11 +1,14 @@
 //! The proved libraries: the machine's run (libbench_api.a), the cut and the bounds lookup
-//! (liblabel.a), map sheets (libsheet_api.a). Everything that the command says about the machine,
-//! about bounds or about whether a sheet is good comes through here.
+//! (liblabel.a), map sheets (libsheet_api.a), the lister and the assembler (liblisting_api.a).
+//! Everything that the command says about the machine, about bounds, of an instruction or about
+//! whether a sheet is good comes through here.
 
 pub mod sheets;
 
+pub use ::proved::{assemble, list, Refused};
+
 use ::proved::{bounds_high, bounds_low, cut_exact, cut_high, cut_low, cut_number};
-use lent::{Answer, Capability, State};
+use lent::{instruction_bytes, Answer, Capability, State};
 
 /// The most steps that one call runs (document 01, refusal 5).
 pub const MOST_STEPS: u64 = lent::MOST_STEPS as u64;
@@ -79,4 +82,16 @@ pub fn cut(base: u32, length: u32) -> Result<(Region, bool), Refusal> {
         }
         number => Err(Refusal(number.into())),
     }
+}
+
+/// A word's line in the lister's form, for a person: without its end, and its tabs as spaces.
+pub fn instruction(word: u32) -> String {
+    let bytes = word.to_le_bytes();
+    let line = list(&bytes[..instruction_bytes(word) as usize]);
+    spaced(line.unwrap_or_default().trim_end())
+}
+
+/// A line of a listing with its tabs as spaces.
+pub fn spaced(line: &str) -> String {
+    line.replace('\t', " ")
 }

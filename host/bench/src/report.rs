@@ -1,11 +1,12 @@
-//! What a run or a saved state comes to, for a person: counts, the trap, the registers.
+//! What a run or a saved state comes to, for a person: counts, the trap, the registers; and an image's listing.
 
 use crate::capability_text::{count, grouped, is_integer, length, region};
 use crate::capability_text::{revocation_words, rights, type_words};
 use crate::drive::{End, Outcome};
+use crate::listing::Part;
 use crate::memory_rows::{rows, Row, ROW};
 use crate::names::Names;
-use crate::proved::bounds;
+use crate::proved::{bounds, instruction};
 use crate::request::digits;
 use crate::trap::{Action, Asked, Authority, Trap};
 use lent::{place_name, Capability, State, CAPABILITIES, GRANULE};
@@ -25,7 +26,7 @@ pub fn counts(state: &State, outcome: &Outcome) -> String {
     format!("{retired} retired, {trapped} trapped. {end}\n")
 }
 
-/// A trap: where, the word, the cause, what was asked beside its bounds, and what lies there.
+/// A trap: where, the word, its instruction, the cause, what was asked beside its bounds, and what lies there.
 pub fn trap(trap: &Trap, state: &State, names: &Names) -> String {
     let mut text = String::new();
     if trap.gone_on {
@@ -35,9 +36,7 @@ pub fn trap(trap: &Trap, state: &State, names: &Names) -> String {
     }
     let _ = writeln!(text, "Trap: {}.\n", trap.cause);
     let place = names.place(trap.pcc.address);
-    let word = trap.word.map_or("not fetched".into(), |word| {
-        format!("word {}", digits(word))
-    });
+    let word = trap.word.map_or("not fetched".into(), word_shown);
     let _ = writeln!(text, "  at       {:08x}, {word}{place}", trap.pcc.address);
     if let Some(asked) = trap.asked {
         text.push_str(&asked_line(asked, trap, names));
@@ -54,6 +53,15 @@ pub fn trap(trap: &Trap, state: &State, names: &Names) -> String {
         text.push_str(&memory_there(asked, state));
     }
     text
+}
+
+/// A word and its instruction. An illegal word is listed as its digits, which are not said twice.
+fn word_shown(word: u32) -> String {
+    let (digits, instruction) = (digits(word), instruction(word));
+    if instruction == digits {
+        return format!("word {digits}");
+    }
+    format!("word {digits}, {instruction}")
 }
 
 fn asked_line(asked: Asked, trap: &Trap, names: &Names) -> String {
@@ -195,6 +203,26 @@ fn register_line(name: &str, value: Capability) -> String {
     let kind = type_words(value.metadata);
     let held = rights(value.metadata).join(" ");
     format!("{start}{bounds:<22} {held:<21} {kind}\n")
+}
+
+/// The parts of an image, one after the other: where each lies, its words, and how many zeros follow.
+pub fn listing(parts: &[Part]) -> String {
+    let texts: Vec<String> = parts.iter().map(part_listing).collect();
+    texts.join("\n")
+}
+
+fn part_listing(part: &Part) -> String {
+    let segment = part.segment;
+    let mut text = format!("{} at {}\n", segment.origin, segment.shown());
+    for line in part.lines() {
+        let (word, said) = (digits(line.word), &line.instruction);
+        let _ = writeln!(text, "  {:08x}  {word:<8}  {said}", line.address);
+    }
+    if segment.zeros > 0 {
+        let zeros = count(segment.zeros, "byte");
+        let _ = writeln!(text, "  then {zeros} of zeros, which are not in the file");
+    }
+    text
 }
 
 #[cfg(test)]

@@ -14,7 +14,7 @@ pub struct Place {
 
 impl Place {
     /// The place of a name, tried out: a file can be made beside it, and what it replaces is a file.
-    pub fn new(path: &Path) -> Result<Place, String> {
+    fn new(path: &Path) -> Result<Place, String> {
         let name = path.display().to_string();
         // A link stays: the file that it leads to is replaced.
         let path = fs::canonicalize(path).unwrap_or_else(|_| path.into());
@@ -33,11 +33,21 @@ impl Place {
         Ok(place)
     }
 
-    /// Puts a text there. If that fails, what was there stays, and nothing lies beside it.
-    pub fn write(&self, text: &str) -> Result<(), String> {
+    /// The place of a name, but of no file that is read.
+    pub fn apart(path: &Path, read: &[&Path]) -> Result<Place, String> {
+        let file = path.canonicalize().ok();
+        if file.is_some() && read.iter().any(|other| other.canonicalize().ok() == file) {
+            let name = path.display();
+            return Err(format!("{name}: it is read, and not written over"));
+        }
+        Place::new(path)
+    }
+
+    /// Puts bytes there. If that fails, what was there stays, and nothing lies beside it.
+    pub fn write(&self, bytes: &[u8]) -> Result<(), String> {
         let mut file = File::create(&self.beside).map_err(|error| self.told(error))?;
         let written = file
-            .write_all(text.as_bytes())
+            .write_all(bytes)
             .and_then(|()| file.sync_all())
             .and_then(|()| fs::rename(&self.beside, &self.path));
         written.map_err(|error| {

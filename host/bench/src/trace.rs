@@ -1,12 +1,15 @@
-//! A step on one line: where, the word, and what it changed; of a load of a tagged capability also
+//! A step on one line: where, the word, its instruction, and what it changed; of a load of a tagged capability also
 //! what the revocation bits said of its low bound.
 
 use crate::capability_text::{is_integer, region, revocation_words};
 use crate::probe;
-use crate::proved::{bounds, Counts};
+use crate::proved::{bounds, instruction, Counts};
 use crate::request::{destination, digits, Request};
 use crate::trap::Trap;
 use lent::{instruction_bytes, place_name, Capability, State, CAPABILITIES, CONTROL, MSTATUS, PCC};
+
+/// The letters that nearly every instruction has room in: those of `cincaddrimm 15 15 -2048`.
+const SAID: usize = 23;
 
 /// The line of the step from `before` to `after`.
 pub fn line(number: u64, before: &State, after: &State, made: Counts) -> String {
@@ -20,9 +23,10 @@ pub fn line(number: u64, before: &State, after: &State, made: Counts) -> String 
         changes.extend(word.and_then(|word| filtered(word, before, after)));
         (word, changes)
     };
+    let said = word.map_or(String::new(), instruction);
     let word = word.map_or("--------".into(), digits);
     let text = format!(
-        "{number:>8}  {:08x}  {word:<8}  {}",
+        "{number:>8}  {:08x}  {word:<8}  {said:<SAID$}  {}",
         pcc.address,
         changes.join(", ")
     );

@@ -47,6 +47,7 @@ fn the_demonstration_as_json() {
     assert_eq!(trap["cause"], "store outside the bounds of c2");
     assert_eq!(trap["at"], 0x2000_010Cu32);
     assert_eq!(trap["word"], 0xFE11_3C23u32);
+    assert_eq!(trap["instruction"], "csc 2 1 -8");
     assert_eq!(trap["gone_on"], false);
     assert_eq!(trap["names"], json!([{ "name": "image", "offset": 12 }]));
     let asked = &trap["asked"];
@@ -183,10 +184,10 @@ fn the_trace_shows_new_bounds_of_pcc_and_no_word_that_was_not_fetched() {
     let answer = bench_in(&directory, &["run", "--state", "start", "--trace"]);
     let lines: Vec<&str> = answer.out.lines().take(3).collect();
     let said = [
-        "       1  20000000  000100e7  c1 := 20000004 [00000000, 100000000), \
+        "       1  20000000  000100e7  cjalr 1 2 0              c1 := 20000004 [00000000, 100000000), \
          PCC := 20000004 [20000004, 20000008)",
-        "       2  20000004  00700513  c10 := 00000007",
-        "       3  20000008  --------  trap: fetch outside the bounds of PCC",
+        "       2  20000004  00700513  addi 10 0 7              c10 := 00000007",
+        "       3  20000008  --------                           trap: fetch outside the bounds of PCC",
     ];
     assert_eq!(lines, said);
 }
@@ -194,7 +195,7 @@ fn the_trace_shows_new_bounds_of_pcc_and_no_word_that_was_not_fetched() {
 /// c.li x10, 7; c.jal .+4 over c.nop; a long word between two multiples of four; c.ebreak. The start is at
 /// an address that is even and no multiple of four.
 #[test]
-fn the_trace_shows_short_words_by_four_digits() {
+fn the_trace_shows_short_words_by_four_digits_and_their_names() {
     let directory = directory("trace_short");
     let halves = [0u16, 0x451D, 0x2011, 0x0001, 0x0513, 0x0095, 0x9002];
     let image: Vec<u8> = halves.iter().flat_map(|half| half.to_le_bytes()).collect();
@@ -203,18 +204,18 @@ fn the_trace_shows_short_words_by_four_digits() {
     let answer = bench_in(&directory, &run);
     let lines: Vec<&str> = answer.out.lines().take(4).collect();
     let said = [
-        "       1  20000002  451d      c10 := 00000007",
-        "       2  20000004  2011      c1 := 20000006 [00000000, 100000000), \
+        "       1  20000002  451d      c.li 10 7                c10 := 00000007",
+        "       2  20000004  2011      c.jal 4                  c1 := 20000006 [00000000, 100000000), \
          PCC := 20000008 [00000000, 100000000)",
-        "       3  20000008  00950513  c10 := 00000010",
-        "       4  2000000c  9002      trap: breakpoint (EBREAK)",
+        "       3  20000008  00950513  addi 10 10 9             c10 := 00000010",
+        "       4  2000000c  9002      c.ebreak                 trap: breakpoint (EBREAK)",
     ];
     assert_eq!(lines, said);
     let value = bench_in(&directory, &[&run[..], &["--json"]].concat()).json();
     let trap = &value["trap"];
     assert_eq!(
-        (&trap["word"], &trap["length"]),
-        (&json!(0x9002), &json!(2))
+        (&trap["word"], &trap["length"], &trap["instruction"]),
+        (&json!(0x9002), &json!(2), &json!("c.ebreak"))
     );
     let odd = bench_in(&directory, &["run", "image", "--entry", "0x20000003"]);
     assert_eq!((odd.status, odd.out.as_str()), (3, ""));
@@ -233,9 +234,9 @@ fn the_trace_shows_products_and_quotients() {
     let answer = bench_in(&directory, &["run", "--state", "start", "--trace"]);
     let lines: Vec<&str> = answer.out.lines().take(3).collect();
     let said = [
-        "       1  20000000  02310533  c10 := ffffffeb",
-        "       2  20000004  020145b3  c11 := ffffffff",
-        "       3  20000008  02316633  c12 := ffffffff",
+        "       1  20000000  02310533  mul 10 2 3               c10 := ffffffeb",
+        "       2  20000004  020145b3  div 11 2 0               c11 := ffffffff",
+        "       3  20000008  02316633  rem 12 2 3               c12 := ffffffff",
     ];
     assert_eq!(lines, said);
 }
@@ -250,7 +251,11 @@ fn a_trace_ends_with_its_reader() {
     let answer = shell_in(&directory, line);
     assert_eq!(
         (answer.status, answer.out.as_str(), answer.err.as_str()),
-        (0, "       1  20000000  00150513  c10 := 00000001\n", "")
+        (
+            0,
+            "       1  20000000  00150513  addi 10 10 1             c10 := 00000001\n",
+            ""
+        )
     );
     let line = "$BENCH run --state start --trace --steps 20000 --save end | head -n 1";
     assert_eq!(shell_in(&directory, line).status, 0);

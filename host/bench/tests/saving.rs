@@ -78,7 +78,7 @@ fn an_image_is_not_written_over_but_a_state_is() {
     for place in ["image", "link", "../saved_over/image"] {
         let answer = bench_in(&directory, &["run", "image", "--save", place]);
         assert_eq!((answer.status, answer.out.as_str()), (3, ""), "{place}");
-        let reason = format!("bench: {place}: this run reads it, and does not write over it\n");
+        let reason = format!("bench: {place}: it is read, and not written over\n");
         assert_eq!(answer.err, reason);
     }
     assert_eq!(std::fs::read(directory.join("image")).unwrap(), image);

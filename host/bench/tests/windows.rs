@@ -89,12 +89,12 @@ fn the_trace_says_what_the_bits_said_of_a_low_bound() {
     let answer = bench_in(&directory, &["run", "--state", "start", "--trace"]);
     let lines: Vec<&str> = answer.out.lines().take(5).collect();
     let said = [
-        "       1  20000000  00013203  c4 := 20000038 [20000038, 20000040), \
+        "       1  20000000  00013203  clc 4 2 0                c4 := 20000038 [20000038, 20000040), \
          low bound outside the window",
-        "       2  20000004  00813283  c5 := 20000048 no tag [20000048, 20000050), low bound marked",
-        "       3  20000008  01013303  c6 := 20000040 [20000040, 20000048), low bound clear",
-        "       4  2000000c  01813383",
-        "       5  20000010  0002a503  trap: load by c5, which has no tag",
+        "       2  20000004  00813283  clc 5 2 8                c5 := 20000048 no tag [20000048, 20000050), low bound marked",
+        "       3  20000008  01013303  clc 6 2 16               c6 := 20000040 [20000040, 20000048), low bound clear",
+        "       4  2000000c  01813383  clc 7 2 24",
+        "       5  20000010  0002a503  clw 10 5 0               trap: load by c5, which has no tag",
     ];
     assert_eq!(lines, said);
     let line = "  revoked  20000048, its low bound, is marked";

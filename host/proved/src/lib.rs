@@ -4,6 +4,10 @@
 //! A function with a body is `#[inline]`: it is compiled where it is called, so that a program links
 //! only the libraries that it calls.
 
+mod listing;
+
+pub use listing::{assemble, list, Refused};
+
 // SAFETY: declared as in include/oddersnow.h; each takes and gives plain numbers, and is total.
 unsafe extern "C" {
     #[link_name = "oddersnow_cut_number"]

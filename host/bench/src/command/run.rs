@@ -4,7 +4,7 @@ use super::fit::{rows, verdict, Beside, Board, Labelled};
 use super::{read_state, refused, say, say_json};
 use crate::arguments::Run;
 use crate::drive::{self, End, Outcome, Plan};
-use crate::image::{self, Image};
+use crate::image::{self, Image, DEFAULT_START};
 use crate::names::Names;
 use crate::proved::sheets::NEITHER;
 use crate::proved::{self, Counts, Refusal, MOST_STEPS};
@@ -15,9 +15,8 @@ use crate::{complain, file, json, report, state_file, trace, Status};
 use indicatif::{ProgressBar, ProgressStyle};
 use lent::{State, Window};
 use std::io::Write;
-use std::path::Path;
+use std::path::{Path, PathBuf};
 
-const DEFAULT_START: u32 = 0x2000_0000;
 const DEFAULT_SIZE: u64 = 65_536;
 /// The region of a map whose granules have revocation bits.
 const HEAP: &str = "heap";
@@ -55,7 +54,9 @@ pub fn run(asked: Run) -> Result<Status, String> {
         Ok(outcome) => {
             // What cannot be said is saved nevertheless, and what cannot be saved is said.
             let said = conclude(&asked, &state, &outcome, &names, &fits);
-            place.map_or(Ok(()), |place| place.write(&state_file::write(&state)))?;
+            place.map_or(Ok(()), |place| {
+                place.write(state_file::write(&state).as_bytes())
+            })?;
             told.and(said)
         }
     }
@@ -174,15 +175,9 @@ fn windowed(state: State, window: Window) -> State {
 
 /// The place to save to. A state may be written over, to go on from it, but no image or sheet.
 fn place(path: &Path, asked: &Run) -> Result<Place, String> {
-    let file = path.canonicalize().ok();
-    let mut read = asked.images.iter().chain(&asked.map);
-    if file.is_some() && read.any(|other| other.canonicalize().ok() == file) {
-        let name = path.display();
-        return Err(format!(
-            "{name}: this run reads it, and does not write over it"
-        ));
-    }
-    Place::new(path)
+    let read = asked.images.iter().chain(&asked.map);
+    let read: Vec<&Path> = read.map(PathBuf::as_path).collect();
+    Place::apart(path, &read)
 }
 
 /// Runs, with a line a step or a bar of progress.
