@@ -8,7 +8,7 @@ use crate::listing::Part;
 use crate::memory_rows::rows;
 use crate::names::Names;
 use crate::proved::sheets::{Record, NEITHER};
-use crate::proved::{bounds, instruction, Refusal, Region};
+use crate::proved::{bounds, instruction, Region};
 use crate::sheet::{letters, Bad};
 use crate::trap::{Action, Asked, Authority, Trap};
 use lent::{

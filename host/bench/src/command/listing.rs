@@ -13,7 +13,8 @@ const MOST_SHOWN: usize = 80;
 
 pub fn list(asked: &List) -> Result<Status, String> {
     let start = asked.start.unwrap_or(DEFAULT_START);
-    let image = image::read(&asked.image, asked.format, start)?;
+    let bytes = file::read(&asked.image)?;
+    let image = image::read(&asked.image, &bytes, asked.format, start)?;
     let mut parts = Vec::new();
     for segment in &image.segments {
         match Part::of(segment) {
