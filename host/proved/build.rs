@@ -4,7 +4,7 @@
 use std::env;
 use std::path::{absolute, PathBuf};
 
-const LIBRARIES: [&str; 3] = ["label", "call_lists", "bench_api"];
+const LIBRARIES: [&str; 4] = ["label", "call_lists", "bench_api", "listing_api"];
 
 fn main() {
     let named = env::var_os("ODDERSNOW_STATICLIB").map(PathBuf::from);

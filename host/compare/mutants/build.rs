@@ -7,7 +7,15 @@ use std::fmt::Write;
 use std::path::{Path, PathBuf};
 use std::{env, fs};
 
-const SOURCES: [&str; 5] = ["calls", "capability", "compressed", "decode", "machine"];
+const SOURCES: [&str; 7] = [
+    "calls",
+    "capability",
+    "compressed",
+    "decode",
+    "encoding",
+    "listing",
+    "machine",
+];
 
 /// One paragraph of mutants.txt.
 #[derive(Default)]

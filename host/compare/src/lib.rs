@@ -17,6 +17,7 @@ pub mod filter;
 pub mod halves;
 pub mod held;
 pub mod instructions;
+pub mod listing;
 pub mod lists;
 pub mod machines;
 pub mod operands;

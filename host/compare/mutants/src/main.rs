@@ -8,6 +8,7 @@ use compare::conclude;
 use compare::cuts::{self, CutAnswer, Label};
 use compare::halves;
 use compare::instructions::table;
+use compare::listing::{self, Lister};
 use compare::lists::{self, List};
 use compare::machines;
 use compare::options::Options;
@@ -63,6 +64,11 @@ fn calls(list: &mut List) -> u32 {
     })
 }
 
+const LISTER: Lister = Lister {
+    list: mutants::listing::list,
+    assemble: mutants::listing::assemble,
+};
+
 fn machine(state: &mut State, call: Call) -> u64 {
     call.on(state, mutants::machine::step, mutants::machine::run)
 }
@@ -80,6 +86,9 @@ fn told_apart(comparison: &str, table: &Table, seed: u64, cases: u64) -> Option<
         "halves" => halves::compare(machine, seed, halves::CASES, None)
             .err()
             .map(|found| found.number),
+        "listing" => listing::compare(LISTER, seed, listing::CASES)
+            .err()
+            .map(|found| found.case),
         "authority" => authority::search(machine, table, seed, cases.min(STARTS), None)
             .err()
             .map(|gain| gain.number),
@@ -93,7 +102,8 @@ fn told_apart(comparison: &str, table: &Table, seed: u64, cases: u64) -> Option<
 fn run(options: &Options) -> Result<String, String> {
     let table = table();
     let mut faults = Vec::new();
-    let right = ["cuts", "lists", "machine", "halves"].map(|comparison| (comparison, RIGHT_CASES));
+    let right = ["cuts", "lists", "machine", "halves", "listing"];
+    let right = right.map(|comparison| (comparison, RIGHT_CASES));
     for (comparison, cases) in right.into_iter().chain([("authority", RIGHT_STARTS)]) {
         if let Some(case) = told_apart(comparison, &table, options.seed, cases) {
             faults.push(format!("no mutant: {comparison} differs at case {case}"));
