@@ -1,5 +1,5 @@
 //! Steps a second of the proved machine and of the second program on long programs, in one process, and
-//! lookups of bounds by the proved routine and by plain ones.
+//! lookups of bounds by the proved routine and by plain ones, and bytes a second of lister and assembler.
 //!
 //!   speed                      all programs on both, with their ratio
 //!   speed ENGINE PROGRAM STEPS one run and no times, for an instruction count by callgrind;
@@ -8,7 +8,11 @@
 //!   speed lookup ROUTINE KIND LOOKUPS
 //!                              lookups by one routine and no times; ROUTINE is proved, second or tuned,
 //!                              KIND random, whole, exponent4 or small, LOOKUPS a number of millions
+//!   speed listing              listing and assembling by both; fails below the bar
+//!   speed listing ENGINE FUNCTION ROUNDS
+//!                              so many rounds and no times, and the bytes of one; FUNCTION is list or assemble
 
+mod listing;
 mod lookup;
 mod programs;
 
@@ -73,6 +77,10 @@ fn asked(arguments: &[&str]) -> Option<()> {
             let sum = lookup::run(lookup::routine(name)?, kind, millions.parse().ok()?)?;
             println!("{sum:016x}");
         }
+        ["listing"] => listing::compare_all(),
+        ["listing", name, what, rounds] => {
+            println!("{}", listing::count(name, what, rounds.parse().ok()?)?);
+        }
         [name, program, millions] => run(engine(name)?, program, millions.parse().ok()?),
         _ => return None,
     }
@@ -82,5 +90,5 @@ fn asked(arguments: &[&str]) -> Option<()> {
 fn main() {
     let arguments: Vec<String> = std::env::args().skip(1).collect();
     let arguments: Vec<&str> = arguments.iter().map(String::as_str).collect();
-    asked(&arguments).expect("speed [[lookup ROUTINE KIND | ENGINE PROGRAM] MILLIONS]");
+    asked(&arguments).expect("speed [[lookup ROUTINE KIND | ENGINE PROGRAM] MILLIONS | listing [ENGINE FUNCTION ROUNDS]]");
 }
