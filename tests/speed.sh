@@ -2,7 +2,8 @@
 # The speed programs: every step retires on both machines, and the proved machine needs no more of the
 # host's instructions for a step than the second program, and for one of the integer program by short words
 # at most a quarter more than by long ones. The bounds lookup: the proved routine needs no
-# more than the second program's and than the tuned one. Callgrind counts them, so that what else the
+# more than the second program's and than the tuned one. The lister and the assembler need few enough
+# for 20 million bytes of code or text a second. Callgrind counts them, so that what else the
 # computer does changes nothing. The proved libraries are built by rt, or lie in the directory that
 # ODDERSNOW_STATICLIB names.
 set -u
@@ -22,7 +23,7 @@ no_more() { # COUNT COUNT
   left=$(cat "$work/count$1") && right=$(cat "$work/count$2") && [ "$left" -le "$right" ]
 }
 
-check "the proved libraries" library bench_api label
+check "the proved libraries" library bench_api label listing_api
 check "the speed program builds" build
 check "valgrind is here" need valgrind valgrind
 for program in integer short memory capability bounded multiply; do
@@ -45,5 +46,24 @@ for kind in random whole exponent4 small; do
   for routine in second tuned; do
     check "the proved lookup takes no more instructions for $kind words ($routine)" no_more ".lookup.proved.$kind" ".lookup.$routine.$kind"
   done
+done
+
+# So many instructions for a byte are 20 million bytes a second on a core that does six thousand million in that time.
+most=300
+collected() { # ENGINE FUNCTION ROUNDS: writes the host's instructions of a whole run, and the bytes of a round
+  valgrind --tool=callgrind --callgrind-out-file=/dev/null host/target/release/speed listing "$@" >"$work/bytes" 2>"$work/out" || return 1
+  sed -n 's/.*Collected : //p' "$work/out" >"$work/collected.$3"
+}
+bytes() { # ENGINE FUNCTION: the instructions for a byte, a run without a round taken away
+  collected "$@" 0 && collected "$@" 1 || return 1
+  echo $((($(cat "$work/collected.1") - $(cat "$work/collected.0")) / $(cat "$work/bytes"))) >"$work/count.$1.$2"
+}
+few_enough() { [ "$(cat "$work/count.$1")" -le "$most" ]; } # COUNT
+for what in list assemble; do
+  for engine in proved second; do
+    check "$what ($engine)" bytes "$engine" "$what"
+    echo "$engine, $what: $(cat "$work/count.$engine.$what") instructions a byte"
+  done
+  check "$what takes at most $most instructions a byte" few_enough "proved.$what"
 done
 exit $bad

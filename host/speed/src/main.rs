@@ -8,7 +8,7 @@
 //!   speed lookup ROUTINE KIND LOOKUPS
 //!                              lookups by one routine and no times; ROUTINE is proved, second or tuned,
 //!                              KIND random, whole, exponent4 or small, LOOKUPS a number of millions
-//!   speed listing              listing and assembling by both; fails below the bar
+//!   speed listing              listing and assembling by both, with their ratio
 //!   speed listing ENGINE FUNCTION ROUNDS
 //!                              so many rounds and no times, and the bytes of one; FUNCTION is list or assemble
 
