@@ -48,22 +48,25 @@ for kind in random whole exponent4 small; do
   done
 done
 
-# So many instructions for a byte are 20 million bytes a second on a core that does six thousand million in that time.
+# So many instructions for a byte are 20 million bytes a second on a core that does six thousand million in that time;
+# for code that is half long words and half short ones.
 most=300
-collected() { # ENGINE FUNCTION ROUNDS: writes the host's instructions of a whole run, and the bytes of a round
+collected() { # ENGINE FUNCTION KIND ROUNDS: writes the host's instructions of a whole run, and the bytes of a round
   valgrind --tool=callgrind --callgrind-out-file=/dev/null host/target/release/speed listing "$@" >"$work/bytes" 2>"$work/out" || return 1
-  sed -n 's/.*Collected : //p' "$work/out" >"$work/collected.$3"
+  sed -n 's/.*Collected : //p' "$work/out" >"$work/collected.$4"
 }
-bytes() { # ENGINE FUNCTION: the instructions for a byte, a run without a round taken away
+bytes() { # ENGINE FUNCTION KIND: the instructions for a byte, a run without a round taken away
   collected "$@" 0 && collected "$@" 1 || return 1
-  echo $((($(cat "$work/collected.1") - $(cat "$work/collected.0")) / $(cat "$work/bytes"))) >"$work/count.$1.$2"
+  echo $((($(cat "$work/collected.1") - $(cat "$work/collected.0")) / $(cat "$work/bytes"))) >"$work/count.$1.$2.$3"
 }
 few_enough() { [ "$(cat "$work/count.$1")" -le "$most" ]; } # COUNT
 for what in list assemble; do
-  for engine in proved second; do
-    check "$what ($engine)" bytes "$engine" "$what"
-    echo "$engine, $what: $(cat "$work/count.$engine.$what") instructions a byte"
+  for kind in mixed long short; do
+    for engine in proved second; do
+      check "$what of $kind words ($engine)" bytes "$engine" "$what" "$kind"
+      echo "$engine, $what, $kind: $(cat "$work/count.$engine.$what.$kind") instructions a byte"
+    done
   done
-  check "$what takes at most $most instructions a byte" few_enough "proved.$what"
+  check "$what takes at most $most instructions a byte" few_enough "proved.$what.mixed"
 done
 exit $bad

@@ -24,7 +24,7 @@ const SHORT: [u16; 16] = [
     0x0001, 0x0000,
 ];
 
-/// The kinds of code; instructions are counted on the first.
+/// The kinds of code.
 const KINDS: [&str; 3] = ["mixed", "long", "short"];
 
 /// Code of a kind.
@@ -72,8 +72,8 @@ fn run(routine: Routine, given: &[u8], out: &mut [u8]) -> usize {
 
 /// The bytes of the input, after some rounds of one routine and no times, for an instruction count by
 /// callgrind. With no round, only the input is made.
-pub fn count(engine: &str, what: &str, rounds: u32) -> Option<usize> {
-    let (proved, second, given, room) = asked(what, KINDS[0])?;
+pub fn count(engine: &str, what: &str, kind: &str, rounds: u32) -> Option<usize> {
+    let (proved, second, given, room) = asked(what, kind)?;
     let mut out = vec![0; room];
     let routine = match engine {
         "proved" => proved,

@@ -9,8 +9,9 @@
 //!                              lookups by one routine and no times; ROUTINE is proved, second or tuned,
 //!                              KIND random, whole, exponent4 or small, LOOKUPS a number of millions
 //!   speed listing              listing and assembling by both, with their ratio
-//!   speed listing ENGINE FUNCTION ROUNDS
-//!                              so many rounds and no times, and the bytes of one; FUNCTION is list or assemble
+//!   speed listing ENGINE FUNCTION KIND ROUNDS
+//!                              so many rounds and no times, and the bytes of one; FUNCTION is list or assemble,
+//!                              KIND mixed, long or short
 
 mod listing;
 mod lookup;
@@ -78,8 +79,11 @@ fn asked(arguments: &[&str]) -> Option<()> {
             println!("{sum:016x}");
         }
         ["listing"] => listing::compare_all(),
-        ["listing", name, what, rounds] => {
-            println!("{}", listing::count(name, what, rounds.parse().ok()?)?);
+        ["listing", name, what, kind, rounds] => {
+            println!(
+                "{}",
+                listing::count(name, what, kind, rounds.parse().ok()?)?
+            );
         }
         [name, program, millions] => run(engine(name)?, program, millions.parse().ok()?),
         _ => return None,
@@ -90,5 +94,5 @@ fn asked(arguments: &[&str]) -> Option<()> {
 fn main() {
     let arguments: Vec<String> = std::env::args().skip(1).collect();
     let arguments: Vec<&str> = arguments.iter().map(String::as_str).collect();
-    asked(&arguments).expect("speed [[lookup ROUTINE KIND | ENGINE PROGRAM] MILLIONS | listing [ENGINE FUNCTION ROUNDS]]");
+    asked(&arguments).expect("speed [[lookup ROUTINE KIND | ENGINE PROGRAM] MILLIONS | listing [ENGINE FUNCTION KIND ROUNDS]]");
 }
