@@ -20,7 +20,7 @@ none_left_out() {
   { folders; echo bench; } | sort | diff "$work/there" -
 }
 
-check "the proved libraries" library label call_lists bench_api sheet_api || exit 1
+check "the proved libraries" library label call_lists bench_api sheet_api listing_api || exit 1
 check "cargo fmt" cargo fmt --all --check
 check "no package of host/ is left out" none_left_out
 for folder in $(folders); do

@@ -1,7 +1,7 @@
 #!/usr/bin/env bash
 # What others published, and capability programs, on the proved machine: published.sh [PART..], by
-# default all of routines, instructions, decoding, halves and programs. The proved library is built by
-# rt, or lies in the directory that ODDERSNOW_STATICLIB names; the RISC-V tools and qemu are
+# default all of routines, instructions, decoding, halves, listing and programs. The proved libraries are built by
+# rt, or lie in the directory that ODDERSNOW_STATICLIB names; the RISC-V tools and qemu are
 # Debian's. What a part wrote is in host/target/published.
 set -u
 source "$(dirname "$0")/lib/check.sh"
@@ -18,14 +18,14 @@ tools() {
     riscv64-unknown-elf-gcc --version && riscv64-unknown-elf-objdump --version && qemu-riscv32 --version
 }
 build() {
-  library bench_api && (cd host && cargo build --offline --release -p published --bin published)
+  library bench_api listing_api && (cd host && cargo build --offline --release -p published --bin published)
 }
 
-[ $# -gt 0 ] || set -- routines instructions decoding halves programs
+[ $# -gt 0 ] || set -- routines instructions decoding halves listing programs
 part tools tools && part build build || exit 1
 for name in "$@"; do
   case $name in
-  routines | instructions | decoding | halves | programs)
+  routines | instructions | decoding | halves | listing | programs)
     part "$name" host/target/release/published "$name" &&
       tail -n 2 "$out/$name.txt" | head -n 1
     ;;

@@ -3,9 +3,10 @@
 # host's instructions for a step than the second program, and for one of the integer program by short words
 # at most a quarter more than by long ones. The bounds lookup: the proved routine needs no
 # more than the second program's and than the tuned one. Map sheets: the proved reader and writer need no more
-# for a byte than the second program's. Callgrind counts them, so that what else the computer does changes
-# nothing. By time, sheets are read and written at 50 MB a second or more. The proved libraries are built by rt,
-# or lie in the directory that ODDERSNOW_STATICLIB names.
+# for a byte than the second program's. The lister and the assembler need few enough for 20 million bytes of
+# code or text a second. Callgrind counts them, so that what else the computer does changes nothing. By time,
+# sheets are read and written at 50 MB a second or more. The proved libraries are built by rt, or lie in the
+# directory that ODDERSNOW_STATICLIB names.
 set -u
 source "$(dirname "$0")/lib/check.sh"
 each=1000000
@@ -28,7 +29,7 @@ at_least() { # MB: every rate of the proved library in the table of sheets, of w
   awk -v least="$1" 'NR > 1 && $3 >= least { good++ } END { exit !(NR == 7 && good == 6) }' "$work/rates"
 }
 
-check "the proved libraries" library bench_api label sheet_api
+check "the proved libraries" library bench_api label sheet_api listing_api
 check "the speed program builds" build
 check "valgrind is here" need valgrind valgrind
 for program in integer short memory capability bounded multiply; do
@@ -61,4 +62,26 @@ for way in read write; do
 done
 log=$work/table check "sheets are read and written at 50 MB a second" at_least 50
 cat "$work/table"
+
+# So many instructions for a byte are 20 million bytes a second on a core that does six thousand million in that time;
+# for code that is half long words and half short ones.
+most=300
+collected() { # ENGINE FUNCTION KIND ROUNDS: writes the host's instructions of a whole run, and the bytes of a round
+  valgrind --tool=callgrind --callgrind-out-file=/dev/null host/target/release/speed listing "$@" >"$work/bytes" 2>"$work/out" || return 1
+  sed -n 's/.*Collected : //p' "$work/out" >"$work/collected.$4"
+}
+bytes() { # ENGINE FUNCTION KIND: the instructions for a byte, a run without a round taken away
+  collected "$@" 0 && collected "$@" 1 || return 1
+  echo $((($(cat "$work/collected.1") - $(cat "$work/collected.0")) / $(cat "$work/bytes"))) >"$work/count.$1.$2.$3"
+}
+few_enough() { [ "$(cat "$work/count.$1")" -le "$most" ]; } # COUNT
+for what in list assemble; do
+  for kind in mixed long short; do
+    for engine in proved second; do
+      check "$what of $kind words ($engine)" bytes "$engine" "$what" "$kind"
+      echo "$engine, $what, $kind: $(cat "$work/count.$engine.$what.$kind") instructions a byte"
+    done
+  done
+  check "$what takes at most $most instructions a byte" few_enough "proved.$what.mixed"
+done
 exit $bad

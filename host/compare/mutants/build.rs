@@ -7,12 +7,14 @@ use std::fmt::Write;
 use std::path::{Path, PathBuf};
 use std::{env, fs};
 
-const SOURCES: [&str; 8] = [
+const SOURCES: [&str; 10] = [
     "calls",
     "capability",
     "compressed",
     "decode",
+    "encoding",
     "fit",
+    "listing",
     "machine",
     "sheet",
     "text",

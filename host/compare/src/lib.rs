@@ -18,6 +18,7 @@ pub mod halves;
 pub mod held;
 pub mod images;
 pub mod instructions;
+pub mod listing;
 pub mod lists;
 pub mod machines;
 pub mod operands;

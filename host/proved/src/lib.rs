@@ -123,6 +123,35 @@ pub fn calls(start: [u32; 3], kinds: &[u32], values: &[u32], out: &mut [u32]) ->
     }
 }
 
+/// A function from lent bytes to lent bytes, with its answer: number * 2^48 + rest.
+macro_rules! text_function {
+    ($(#[$doc:meta])* $name:ident is $declared:ident) => {
+        // SAFETY: declared as in include/oddersnow.h.
+        unsafe extern "C" {
+            fn $declared(given: *const u8, given_len: usize, out: *mut u8, out_len: usize) -> u64;
+        }
+
+        $(#[$doc])*
+        #[inline]
+        pub fn $name(given: &[u8], out: &mut [u8]) -> u64 {
+            // SAFETY: as for the machine.
+            unsafe { $declared(given.as_ptr(), given.len(), out.as_mut_ptr(), out.len()) }
+        }
+    };
+}
+
+text_function! {
+    /// The listing of code. 0 and the bytes written; 15 and the byte offset of the word that is cut off; 10
+    /// for an output that is too short.
+    list_into is oddersnow_list
+}
+
+text_function! {
+    /// The code of a listing. 0 and the bytes written; 13 and the number, from 1, of the first line that is
+    /// no word's listing; 10 for an output that is too short.
+    assemble_into is oddersnow_assemble
+}
+
 // SAFETY: declared as in include/oddersnow.h.
 unsafe extern "C" {
     fn oddersnow_sheet_read(

@@ -1,12 +1,8 @@
 //! The lister and the assembler, each with an output as long as its answer asks.
 
-// SAFETY: declared as in include/oddersnow.h.
-unsafe extern "C" {
-    fn oddersnow_list(code: *const u8, code_len: usize, out: *mut u8, out_len: usize) -> u64;
-    fn oddersnow_assemble(text: *const u8, text_len: usize, out: *mut u8, out_len: usize) -> u64;
-}
+use crate::{assemble_into, list_into};
 
-type Function = unsafe extern "C" fn(*const u8, usize, *mut u8, usize) -> u64;
+type Function = fn(&[u8], &mut [u8]) -> u64;
 
 /// The number of the refusal of an output that is too short.
 const SHORT_OUTPUT: u64 = 10;
@@ -23,14 +19,14 @@ pub struct Refused {
 /// The listing of code. Refusal 15 is of bytes that end inside a word, at whose offset that begins.
 #[inline]
 pub fn list(code: &[u8]) -> Result<String, Refused> {
-    let text = answer(oddersnow_list, code)?;
+    let text = answer(list_into, code)?;
     Ok(String::from_utf8(text).expect("a listing is ASCII"))
 }
 
 /// The code of a listing. Refusal 13 is of the first line that is no word's listing, from 1.
 #[inline]
 pub fn assemble(text: &[u8]) -> Result<Vec<u8>, Refused> {
-    answer(oddersnow_assemble, text)
+    answer(assemble_into, text)
 }
 
 /// What a function writes for an input. An output that it finds too short is doubled.
@@ -38,9 +34,7 @@ pub fn assemble(text: &[u8]) -> Result<Vec<u8>, Refused> {
 fn answer(function: Function, input: &[u8]) -> Result<Vec<u8>, Refused> {
     let mut out = vec![0; FIRST_LENT * input.len()];
     loop {
-        // SAFETY: each pointer is of a live slice with as many bytes as the count after it says,
-        // and the two do not overlap.
-        let answer = unsafe { function(input.as_ptr(), input.len(), out.as_mut_ptr(), out.len()) };
+        let answer = function(input, &mut out);
         let (number, rest) = (answer >> 48, answer & ((1 << 48) - 1));
         match number {
             0 => {

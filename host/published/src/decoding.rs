@@ -240,9 +240,8 @@ const RANDOM: usize = 200_000;
 const OTHER_LENGTHS: usize = 20_000;
 const PADDING: usize = 28;
 
-/// Compares the whole sample.
-pub fn run(machine: Machine) -> Result<String, String> {
-    let place = tools::workplace("decoding")?;
+/// The words of the sample, those of other lengths than 32 bits last.
+pub fn samples() -> [Listing; 2] {
     let mut random = Random::new(1, 1);
     let mut words = [
         grid(&mut random),
@@ -258,10 +257,15 @@ pub fn run(machine: Machine) -> Result<String, String> {
     others.extend((0..OTHER_LENGTHS).map(|_| random.word() | 0x1F));
     let skipped = others.len() / OTHER_LENGTHS;
     let others: Vec<u32> = others.into_iter().step_by(skipped).collect();
+    [(words, 0), (others, PADDING)].map(|(words, padding)| Listing { words, padding })
+}
+
+/// Compares the whole sample.
+pub fn run(machine: Machine) -> Result<String, String> {
+    let place = tools::workplace("decoding")?;
     let mut totals = Totals::default();
-    for (words, padding) in [(words, 0), (others, PADDING)] {
-        let listing = Listing { words, padding };
-        for reading in listing.read(&place)? {
+    for sample in samples() {
+        for reading in sample.read(&place)? {
             totals.check(machine, &reading)?;
         }
     }

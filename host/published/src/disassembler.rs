@@ -18,7 +18,7 @@ impl Listing {
         let object = self.object(place)?;
         let options = ["-d", "-z", "-M", "no-aliases,numeric"];
         let text = tools::run(tools::tool("objdump").args(options).arg(&object))?;
-        let stride = 4 + self.padding;
+        let stride = self.stride();
         let mut texts = vec![None; self.words.len()];
         for (address, text) in text.lines().filter_map(line) {
             if address.is_multiple_of(stride) {
@@ -31,6 +31,11 @@ impl Listing {
         let pair = |(&word, text): (&u32, Option<String>)| Some((word, text?));
         let readings: Option<Vec<_>> = self.words.iter().zip(texts).map(pair).collect();
         readings.ok_or_else(|| missing.to_string())
+    }
+
+    /// The bytes from one word to the next.
+    pub fn stride(&self) -> usize {
+        4 + self.padding
     }
 
     /// An object with the words as code. The symbols that mark data are stripped, so that the

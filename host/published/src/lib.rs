@@ -2,7 +2,7 @@
 //! and with M, qemu's execution of each integer instruction, and the decoding of the binutils
 //! disassembler; and capability programs of our own, with the ends that the papers give them.
 //!
-//! Each part takes the proved machine as an argument, runs it beside the second program, and
+//! Each part takes the proved machine, or the lister, as an argument, runs it beside the second program, and
 //! answers with its counts or with the first difference.
 
 #![forbid(unsafe_code)]
@@ -14,6 +14,7 @@ pub mod disassembler;
 pub mod halves;
 pub mod image;
 pub mod instructions;
+pub mod listing;
 pub mod programs;
 pub mod qemu;
 pub mod routines;

@@ -10,13 +10,16 @@ pub mod calls;
 pub mod capability;
 pub mod compressed;
 pub mod decode;
+pub mod encoding;
 pub mod fit;
+pub mod listing;
 pub mod machine;
 pub mod sheet;
 pub mod text;
 
 pub use calls::calls;
 pub use capability::{bounds, cut, Capability, Cut};
+pub use listing::{assemble, list};
 pub use machine::{run, step};
 pub use text::cutting_program;
 

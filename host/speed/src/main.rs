@@ -1,5 +1,6 @@
 //! Steps a second of the proved machine and of the second program on long programs, in one process,
-//! lookups of bounds by the proved routine and by plain ones, and map sheets read and written by both.
+//! lookups of bounds by the proved routine and by plain ones, map sheets read and written by both, and
+//! bytes a second of lister and assembler.
 //!
 //!   speed                      all programs on both, with their ratio
 //!   speed ENGINE PROGRAM STEPS one run and no times, for an instruction count by callgrind;
@@ -12,7 +13,12 @@
 //!   speed sheets ROUTINE WAY REGIONS BYTES
 //!                              one routine and no times; ROUTINE is proved, second or plain, WAY read or
 //!                              write, BYTES a number of millions
+//!   speed listing              listing and assembling by both, with their ratio
+//!   speed listing ENGINE FUNCTION KIND ROUNDS
+//!                              so many rounds and no times, and the bytes of one; FUNCTION is list or assemble,
+//!                              KIND mixed, long or short
 
+mod listing;
 mod lookup;
 mod programs;
 mod sheets;
@@ -84,6 +90,13 @@ fn asked(arguments: &[&str]) -> Option<()> {
             let (routine, way) = (sheets::routine(name)?, sheets::way(way)?);
             sheets::run(routine, way, regions.parse().ok()?, 1_000_000 * bytes);
         }
+        ["listing"] => listing::compare_all(),
+        ["listing", name, what, kind, rounds] => {
+            println!(
+                "{}",
+                listing::count(name, what, kind, rounds.parse().ok()?)?
+            );
+        }
         [name, program, millions] => run(engine(name)?, program, millions.parse().ok()?),
         _ => return None,
     }
@@ -94,6 +107,6 @@ fn main() {
     let arguments: Vec<String> = std::env::args().skip(1).collect();
     let arguments: Vec<&str> = arguments.iter().map(String::as_str).collect();
     asked(&arguments).expect(
-        "speed [[lookup ROUTINE KIND | sheets ROUTINE WAY REGIONS | ENGINE PROGRAM] MILLIONS]",
+        "speed [[lookup ROUTINE KIND | sheets ROUTINE WAY REGIONS | ENGINE PROGRAM] MILLIONS | listing [ENGINE FUNCTION KIND ROUNDS]]",
     );
 }

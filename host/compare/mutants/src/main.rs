@@ -9,6 +9,7 @@ use compare::cuts::{self, CutAnswer, Label};
 use compare::halves;
 use compare::images;
 use compare::instructions::table;
+use compare::listing::{self, Lister};
 use compare::lists::{self, List};
 use compare::machines;
 use compare::options::Options;
@@ -76,6 +77,11 @@ fn calls(list: &mut List) -> u32 {
     })
 }
 
+const LISTER: Lister = Lister {
+    list: mutants::listing::list,
+    assemble: mutants::listing::assemble,
+};
+
 fn machine(state: &mut State, call: Call) -> u64 {
     call.on(state, mutants::machine::step, mutants::machine::run)
 }
@@ -99,6 +105,9 @@ fn told_apart(comparison: &str, table: &Table, seed: u64, cases: u64) -> Option<
         "images" => images::compare(mutants::fit::fit, seed, cases.min(IMAGES_CASES))
             .err()
             .map(|found| found.case),
+        "listing" => listing::compare(LISTER, seed, listing::CASES)
+            .err()
+            .map(|found| found.case),
         "authority" => authority::search(machine, table, seed, cases.min(STARTS), None)
             .err()
             .map(|gain| gain.number),
@@ -112,7 +121,8 @@ fn told_apart(comparison: &str, table: &Table, seed: u64, cases: u64) -> Option<
 fn run(options: &Options) -> Result<String, String> {
     let table = table();
     let mut faults = Vec::new();
-    let right = ["cuts", "lists", "machine", "halves"].map(|comparison| (comparison, RIGHT_CASES));
+    let right = ["cuts", "lists", "machine", "halves", "listing"];
+    let right = right.map(|comparison| (comparison, RIGHT_CASES));
     let fewer = [
         ("authority", RIGHT_STARTS),
         ("sheets", RIGHT_SHEETS),
