@@ -144,8 +144,8 @@ pub fn verdict(choice: Choice) -> u64
     }
 }
 
-// The payload of the image that fits the board, read in place from whichever image that was, and
-// beside it the image's number, 1 or 2, or why there is none.
+// The payload of the image that fits the board, a part of that image itself and no copy; beside it
+// the image's number, 1 or 2, or why there is none.
 pub fn fit<'a>(board: &[u8], first: &'a [u8], second: &'a [u8], number: &mut u64) -> &'a [u8]
     ensures { λ r. ⌜ Handed (now (board .entry)) (now (first .entry)) (now (second .entry)) (now r) (now (number .exit)) ⌝ }
 {
