@@ -139,55 +139,58 @@ fn line(text: &str, address: usize) -> Option<(Class, String)> {
 }
 
 /// The class, the standard's name, and the operands in document 02's order.
-fn ordered<'a>(
-    name: &'a str,
-    operands: &[Operand],
-    address: usize,
-) -> Option<(Class, &'a str, Vec<i64>)> {
+fn ordered<'a>(name: &'a str, operands: &[Operand], address: usize) -> Option<Ordered<'a>> {
+    if let Some(other) = otherwise(name, operands) {
+        return Some(other);
+    }
     use Operand::{Number, Place, Register, Word};
     let distance = |target: i64| signed(target - address as i64, 32);
-    let csr = |name: &str| {
-        CSRS.iter()
-            .find(|(known, _)| *known == name)
-            .map(|(_, number)| *number)
-    };
-    let (class, numbers) = match (name, operands) {
-        ("fence.tso", []) => return Some((FenceTso, "fence", vec![3, 3])),
-        ("fence", &[Word(before), Word(after)]) => (Same, vec![set(before), set(after)]),
-        ("lui" | "auipc" | "c.lui", &[Register(rd), Number(upper)]) => {
-            (Same, vec![rd, signed(upper, 20)])
-        }
-        ("c.addi", &[Register(0), Number(0)]) => return Some((NoOp, "c.nop", vec![])),
-        ("c.addi", &[Register(0), Number(value)]) => return Some((NoOp, "c.nop", vec![value])),
-        ("c.slli64" | "c.srli64" | "c.srai64", &[Register(rd)]) => {
-            return Some((ShiftByZero, &name[..6], vec![rd, 0]))
-        }
-        ("c.addi4spn", &[Register(rd), Register(2), Number(value)]) => {
-            (StackPointer, vec![rd, value])
-        }
-        ("c.addi16sp", &[Register(2), Number(value)]) => (StackPointer, vec![value]),
-        ("c.lwsp" | "c.ldsp" | "c.swsp" | "c.sdsp", &[Register(other), Place(offset, 2)]) => {
-            (StackPointer, vec![other, offset])
-        }
-        ("c.j" | "c.jal", &[Number(target)]) => (Same, vec![distance(target)]),
+    let csr = |name: &str| CSRS.iter().find(|(known, _)| *known == name);
+    let numbers = match (name, operands) {
+        ("fence", &[Word(before), Word(after)]) => vec![set(before), set(after)],
+        ("lui" | "auipc" | "c.lui", &[Register(rd), Number(upper)]) => vec![rd, signed(upper, 20)],
+        ("c.j" | "c.jal", &[Number(target)]) => vec![distance(target)],
         ("c.beqz" | "c.bnez" | "jal", &[Register(first), Number(target)]) => {
-            (Same, vec![first, distance(target)])
+            vec![first, distance(target)]
         }
         (
             "beq" | "bne" | "blt" | "bge" | "bltu" | "bgeu",
             &[Register(rs1), Register(rs2), Number(target)],
-        ) => (Same, vec![rs1, rs2, distance(target)]),
+        ) => vec![rs1, rs2, distance(target)],
         ("sb" | "sh" | "sw" | "c.sw" | "c.sd", &[Register(rs2), Place(offset, rs1)]) => {
-            (Same, vec![rs1, rs2, offset])
+            vec![rs1, rs2, offset]
         }
-        (_, &[Register(rd), Place(offset, rs1)]) => (Same, vec![rd, rs1, offset]),
-        (_, &[Register(rd), Word(name), Register(rs1)]) => (Same, vec![rd, rs1, csr(name)?]),
-        (_, &[Register(rd), Word(name), Number(value)]) => (Same, vec![rd, csr(name)?, value]),
+        (_, &[Register(rd), Place(offset, rs1)]) => vec![rd, rs1, offset],
+        (_, &[Register(rd), Word(name), Register(rs1)]) => vec![rd, rs1, csr(name)?.1],
+        (_, &[Register(rd), Word(name), Number(value)]) => vec![rd, csr(name)?.1, value],
         // A CSR without a name is none of the bench.
         (_, [Register(_), Number(_), _]) => return None,
-        _ => (Same, operands.iter().map(plain).collect::<Option<_>>()?),
+        _ => operands.iter().map(plain).collect::<Option<_>>()?,
     };
-    Some((class, name, numbers))
+    Some((Same, name, numbers))
+}
+
+type Ordered<'a> = (Class, &'a str, Vec<i64>);
+
+/// What the standard or document 02 writes in another way than binutils.
+fn otherwise<'a>(name: &'a str, operands: &[Operand]) -> Option<Ordered<'a>> {
+    use Operand::{Number, Place, Register};
+    Some(match (name, operands) {
+        ("fence.tso", []) => (FenceTso, "fence", vec![3, 3]),
+        ("c.addi", &[Register(0), Number(0)]) => (NoOp, "c.nop", vec![]),
+        ("c.addi", &[Register(0), Number(value)]) => (NoOp, "c.nop", vec![value]),
+        ("c.slli64" | "c.srli64" | "c.srai64", &[Register(rd)]) => {
+            (ShiftByZero, &name[..6], vec![rd, 0])
+        }
+        ("c.addi4spn", &[Register(rd), Register(2), Number(value)]) => {
+            (StackPointer, name, vec![rd, value])
+        }
+        ("c.addi16sp", &[Register(2), Number(value)]) => (StackPointer, name, vec![value]),
+        ("c.lwsp" | "c.ldsp" | "c.swsp" | "c.sdsp", &[Register(other), Place(offset, 2)]) => {
+            (StackPointer, name, vec![other, offset])
+        }
+        _ => return None,
+    })
 }
 
 fn plain(operand: &Operand) -> Option<i64> {

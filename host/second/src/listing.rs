@@ -156,6 +156,7 @@ fn n(immediate: u32) -> i32 {
 }
 
 /// Writes the line of a long word that is an instruction.
+#[rustfmt::skip]
 fn long_line(out: &mut Vec<u8>, word: u32, instruction: Instruction) {
     use Instruction as I;
     let upper = word as i32 >> 12;
@@ -166,58 +167,21 @@ fn long_line(out: &mut Vec<u8>, word: u32, instruction: Instruction) {
         I::Auicgp { cd, .. } => say(out, "auicgp", &[r(cd), upper]),
         I::Cjal { cd, offset } => say(out, "cjal", &[r(cd), n(offset)]),
         I::Cjalr { cd, cs1, offset } => say(out, "cjalr", &[r(cd), r(cs1), n(offset)]),
-        I::Branch {
-            condition,
-            rs1,
-            rs2,
-            offset,
-        } => say(out, branch(condition), &[r(rs1), r(rs2), n(offset)]),
-        I::Load {
-            width,
-            rd,
-            cs1,
-            offset,
-        } => say(out, load(width), &[r(rd), r(cs1), n(offset)]),
+        I::Branch { condition, rs1, rs2, offset } => say(out, branch(condition), &[r(rs1), r(rs2), n(offset)]),
+        I::Load { width, rd, cs1, offset } => say(out, load(width), &[r(rd), r(cs1), n(offset)]),
         I::Clc { cd, cs1, offset } => say(out, "clc", &[r(cd), r(cs1), n(offset)]),
-        I::Store {
-            width,
-            rs2,
-            cs1,
-            offset,
-        } => say(out, store(width), &[r(cs1), r(rs2), n(offset)]),
+        I::Store { width, rs2, cs1, offset } => say(out, store(width), &[r(cs1), r(rs2), n(offset)]),
         I::Csc { cs2, cs1, offset } => say(out, "csc", &[r(cs1), r(cs2), n(offset)]),
-        I::Integer {
-            operation,
-            rd,
-            rs1,
-            operand,
-        } => match operand {
+        I::Integer { operation, rd, rs1, operand } => match operand {
             Operand::Register(rs2) => say(out, by_register(operation), &[r(rd), r(rs1), r(rs2)]),
             Operand::Immediate(value) => say(out, by_number(operation), &[r(rd), r(rs1), n(value)]),
         },
-        I::Csr {
-            operation,
-            rd,
-            operand,
-            ..
-        } => control(out, word, operation, rd, operand),
+        I::Csr { operation, rd, operand, .. } => control(out, word, operation, rd, operand),
         I::Query { query, rd, cs1 } => say(out, asking(query), &[r(rd), r(cs1)]),
-        I::Derive {
-            derivation,
-            cd,
-            cs1,
-            operand,
-        } => derive(out, derivation, [cd, cs1], operand),
-        I::Pair {
-            pairing,
-            cd,
-            cs1,
-            cs2,
-        } => say(out, pair(pairing), &[r(cd), r(cs1), r(cs2)]),
+        I::Derive { derivation, cd, cs1, operand } => derive(out, derivation, [cd, cs1], operand),
+        I::Pair { pairing, cd, cs1, cs2 } => say(out, pair(pairing), &[r(cd), r(cs1), r(cs2)]),
         // The special register's number stands where others have rs2.
-        I::CSpecialRw { cd, cs1, .. } => {
-            say(out, "cspecialrw", &[r(cd), r(cs1), n(word >> 20 & 31)])
-        }
+        I::CSpecialRw { cd, cs1, .. } => say(out, "cspecialrw", &[r(cd), r(cs1), n(word >> 20 & 31)]),
         I::Fence => say(out, "fence", &[n(first), n(second)]),
         I::Wfi => say(out, "wfi", &[]),
         I::Ecall => say(out, "ecall", &[]),
