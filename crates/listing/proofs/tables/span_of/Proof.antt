@@ -1,22 +1,18 @@
--- The table is the definition's list.
-use Rattle.listing.specs.Starts.{starts}
+-- Rows of long words, and then those of halves.
+use mathlib.Core.Path.{_≡_}
+use Prim.Native.Nat.{_+_, _-_}
+use native.Mathlib.Omega.{arith}
 use borrow.Author.Needs.{needs}
 use Rattle.listing.proofs.tables.span_of.Statement.{statement}
 use Rattle.listing.proofs.tables.span_of.Tie as tie
 
-returns : tie.Need-returns
-unfolding starts
-returns c = (c .before .wide .ensures, c .wide2 .ensures)
+returns-2 : tie.Need-returns-2
+returns-2 c =
+    let row = c .before .before .args .row in
+    let e : 85 + (row - 85) ≡ row = omega arith in
+    let n : 86 + (row - 85) ≡ row + 1 = omega arith in
+    let p = c .half-span .ensures in
+    (rw e at (p .0), rw n at (p .1))
 
 pub span-of-spec : {M : Type 1} → statement M
-span-of-spec =
-    tie.close
-    (tie.spec
-    (λ c. search needs)
-    (λ c. search needs)
-    (λ c κs. search needs)
-    (λ c. search needs)
-    (λ c. search needs)
-    (λ c. search needs)
-    (λ c κs. search needs)
-    returns)
+span-of-spec = tie.close (tie.spec (λ c κs. search needs) (λ c. c .long-span .ensures) (λ c κs. search needs) returns-2)
