@@ -21,6 +21,7 @@ use Rattle.jump_instructions.specs.Jumps.{jumpEffect}
 use Rattle.capability_instructions.specs.Derivation.{capabilityEffect}
 use Rattle.system_instructions.specs.System.{systemEffect}
 use Rattle.commit.specs.Commit.{applyEffect}
+use Rattle.execution.specs.declared.Turn.{Turn}
 
 -- what an instruction of some bytes does; a word that is none traps with the word
 unfoldable pub effectOf : (bytes : ℕ) → Instruction → (word : ℕ) → (regs : List ℕ) → Lent → Effect
@@ -63,12 +64,17 @@ effectIn f regs m = trapOr f (effectOf (lengthIn f) (instructionIn f) (wordIn f)
 abbrev pub seen : Board → (revoked : List ℕ) → State → Lent
 seen board revoked s = lent board (s .mem) (s .tags) revoked
 
--- what the next step fetches, what it does, and what it leaves
+-- what the next step fetches, and what it does
 abbrev pub fetchedIn : Board → State → Fetched
 fetchedIn board s = fetchOf (pccOf (s .regs)) (board .start) (s .mem)
 
 abbrev pub effectAt : Board → (revoked : List ℕ) → State → Effect
 effectAt board revoked s = effectIn (fetchedIn board s) (s .regs) (seen board revoked s)
 
+-- what the next step does, by value: how far PCC moves where it moves on, and the effect
+abbrev pub turnOf : Board → (revoked : List ℕ) → State → Turn
+turnOf board revoked s = record { bytes = lengthIn (fetchedIn board s); effect = effectAt board revoked s }
+
+-- what it leaves
 unfoldable pub stepOf : Board → (revoked : List ℕ) → State → State
-stepOf board revoked s = applyEffect (lengthIn (fetchedIn board s)) (effectAt board revoked s) s
+stepOf board revoked s = applyEffect (turnOf board revoked s .bytes) (turnOf board revoked s .effect) s

@@ -1,8 +1,7 @@
-// One step: fetch, decode, effect, commit.
+// What one step does, by value: fetch, decode, effect.
 ghost use mathlib.Core.Path.{_≡_};
 ghost use Rattle.state.specs.Lent.{lent, state};
-ghost use Rattle.commit.specs.Commit.{retires};
-ghost use Rattle.execution.specs.Step.{effectOf, instructionIn, wordIn, lengthIn, trapOr, effectIn, effectAt, stepOf};
+ghost use Rattle.execution.specs.Step.{effectOf, instructionIn, wordIn, lengthIn, trapOr, effectIn, turnOf};
 use fetch::Fetched;
 use instructions::Instruction;
 use short_forms::HALF_BYTES;
@@ -107,19 +106,19 @@ fn effect_in(
     trap_or(f, e)
 }
 
-// One step. Nothing is refused: what lies outside a buffer reads as 0 and is not written. Answers whether the instruction retires.
-pub fn take_step(
-    regs: &mut [u32],
-    board: Board,
-    mem: &mut [u8],
-    tags: &mut [u8],
-    revoked: &[u8],
-) -> bool
-    ensures { λ r. ⌜ (r ≡ retires (effectAt board (now (revoked .entry)) (state (now (regs .entry)) (now (mem .entry)) (now (tags .entry)))))
-        × (state (now (regs .exit)) (now (mem .exit)) (now (tags .exit))
-        ≡ stepOf board (now (revoked .entry)) (state (now (regs .entry)) (now (mem .entry)) (now (tags .entry)))) ⌝ }
+// What the next step does, by value: how far PCC moves where it moves on, and the effect.
+pub struct Turn {
+    pub bytes: u32,
+    pub effect: Effect,
+}
+
+// The next step. Nothing is refused: what lies outside a buffer reads as 0.
+pub fn turn_at(regs: &[u32], board: Board, mem: &[u8], tags: &[u8], revoked: &[u8]) -> Turn
+    ensures { λ r. ⌜ r ≡ turnOf board (now (revoked .entry)) (state (now (regs .entry)) (now (mem .entry)) (now (tags .entry))) ⌝ }
 {
     let f = fetch::fetch(state::pcc_of(regs), board.start, mem);
-    let e = effect_in(f, regs, board, mem, tags, revoked);
-    commit::commit_effect(regs, mem, tags, length_in(f), e)
+    Turn {
+        bytes: length_in(f),
+        effect: effect_in(f, regs, board, mem, tags, revoked),
+    }
 }

@@ -191,7 +191,7 @@ pub fn step(
     if no != 0 {
         return StepAnswer::Refused(no);
     }
-    // By the run's loop: with one caller a step is compiled into it.
+    // By the run's loop: what has one caller is compiled into it.
     let counts = take_steps(regs, board, mem, tags, revoked, 1);
     if counts.retired == 1 {
         StepAnswer::Retired
@@ -222,7 +222,10 @@ fn take_steps(
     let mut trapped: u32 = 0;
     let mut k: u32 = 0;
     while k < n {
-        let one = choices::one_if(execution::take_step(regs, board, mem, tags, revoked));
+        // Two calls, not one function of both: that would be too large to be compiled into the loop.
+        let turn = execution::turn_at(regs, board, mem, tags, revoked);
+        let effect = turn.effect;
+        let one = choices::one_if(commit::commit_effect(regs, mem, tags, turn.bytes, effect));
         retired += one;
         trapped += 1 - one;
         k += 1;

@@ -7,6 +7,7 @@ use native.Mathlib.Omega.{arith}
 use lib.ListN.{length}
 use Rattle.state.specs.Lent.{state}
 use Rattle.machine.specs.Run.{ran, iterate}
+use Rattle.execution.proofs.Laws.{turn-retires, turn-leaves}
 use Rattle.machine.proofs.Laws as laws
 use Rattle.machine.proofs.take_steps.Statement.{statement}
 use Rattle.machine.proofs.take_steps.Tie as tie
@@ -25,8 +26,11 @@ loop-holds c =
     let n = c .before .before .before .before .args .n in
     (omega arith, omega arith, omega arith, omega arith, omega arith, omega arith, let e : n - 0 ≡ n = omega arith in rw e)
 
-take-step-requires : tie.Need-take-step-requires Inv-loop μ-loop
-take-step-requires c κs = search needs
+turn-at-requires : tie.Need-turn-at-requires Inv-loop μ-loop
+turn-at-requires c κs = search needs
+
+commit-effect-requires : tie.Need-commit-effect-requires Inv-loop μ-loop
+commit-effect-requires c κs = search needs
 
 one-if-requires : tie.Need-one-if-requires Inv-loop μ-loop
 one-if-requires c κs = search needs
@@ -48,12 +52,15 @@ loop-less c = omega arith
 
 loop-again : tie.Need-loop-again Inv-loop μ-loop
 loop-again c =
-    let stepped = c .before .before .before .before .before .before .before in
-    let at-test = stepped .before .before .before .before in
-    let taken = stepped .take-step .ensures in
+    let committed = c .before .before .before .before .before .before .before in
+    let turned = committed .before .before .before .before in
+    let at-test = turned .before .before .before .before in
+    let taken = committed .commit-effect .ensures in
+    let retired = turn-retires _ _ _ _ (turned .turn-at .ensures) _ (taken .0) in
+    let left = turn-leaves _ _ _ _ (turned .turn-at .ensures) _ (taken .1) in
     let one = c .one-if .ensures in
-    let turn = laws.run-turn _ _ _ _ _ _ _ _ _ (at-test .loop-test .taken) (taken .1) (one .0 ∙ ap (λ b. cond b 1 0) (taken .0))
-    (one .1 ∙ ap (λ b. cond b 0 1) (taken .0)) in
+    let turn = laws.run-turn _ _ _ _ _ _ _ _ _ (at-test .loop-test .taken) left (one .0 ∙ ap (λ b. cond b 1 0) retired)
+    (one .1 ∙ ap (λ b. cond b 0 1) retired) in
     (omega arith, omega arith, omega arith, omega arith, omega arith, omega arith, turn ∙ at-test .before .loop .inv .6)
 
 same-length : tie.Need-same-length Inv-loop μ-loop
@@ -79,7 +86,8 @@ take-steps-spec =
     Inv-loop
     μ-loop
     loop-holds
-    take-step-requires
+    turn-at-requires
+    commit-effect-requires
     one-if-requires
     add-retired
     sub-trapped
