@@ -1,7 +1,7 @@
 -- A closed property of each capability of the register file holds of each after an effect whose capabilities have it. Assumes nothing.
 use mathlib.Core.Path.{_≡_, refl, _∙_}
 use mathlib.Core.List.{List}
-use Prim.Native.Nat.{ℕ, _+_, _*_, _%_, _≤_, _<_}
+use Prim.Native.Nat.{ℕ, _+_, _*_, _/_, _%_, _^_, _≤_, _<_}
 use native.Mathlib.Omega.{arith}
 use lib.Dec.{eqb}
 use lib.ListN.{set, length, length-set}
@@ -10,16 +10,18 @@ use borrow.Author.Tests.{eqb-true, eqb-false}
 use Rattle.words.proofs.Word.{by-test}
 use Rattle.capability.specs.Capability.{integer}
 use Rattle.capability.specs.declared.Capability.{Capability}
-use Rattle.instructions.specs.declared.Csr.the-variants.{Mstatus, Mcause, Mtval}
-use Rattle.state.specs.Layout.{capabilityWords, generalCount, capabilityCount, controlStart, pccIndex, mtccIndex, mepccIndex, scrIndex, csrIndex}
+use Rattle.instructions.specs.declared.Csr.the-variants.{Mstatus, Mcause, Mtval, Mshwm}
+use Rattle.state.specs.Layout.{capabilityWords, generalCount, capabilityCount, controlStart, pccIndex, mtccIndex, mepccIndex, scrIndex, csrIndex, timeIndex}
 use Rattle.state.specs.Addresses.{vectorAlignment, returnAlignment}
 use Rattle.state.specs.Registers.{capabilityAt, setCapability, writeRegister, pccOf}
-use Rattle.state.specs.Effects.{EachCapability}
+use Rattle.state.specs.Marks.{cleared, belowMark, marked}
+use Rattle.state.specs.Timer.{nextTime, ticked}
+use Rattle.state.specs.Effects.{Stored, nothing, bytes, whole, storedBy, EachCapability}
 use Rattle.state.specs.declared.Effect.{Effect}
 use Rattle.state.specs.declared.Effect.the-variants.{Advance, Write, Store, StoreCapability, Jump, WriteScr, WriteCsr, Trap}
 use Rattle.state.proofs.Laws.{cond-holds}
 use Rattle.system_instructions.proofs.Laws.{scr-in-file}
-use Rattle.commit.specs.Commit.{advanced, trapped, jumped, withScr, withCsr, registersAfter}
+use Rattle.commit.specs.Commit.{advanced, trapped, jumped, withScr, withCsr, registersAfter, markedBy}
 use Rattle.machine_laws.proofs.Kept.{csr-place}
 use Rattle.authority_laws.proofs.Operations.{move-from, legalized-from}
 use Rattle.authority_laws.proofs.Closed.{Closed, Files}
@@ -79,6 +81,21 @@ module _ (P : Capability → Type 0) where
   file-register l rd c p h =
       cond-holds (Files P) (eqb (rd % generalCount) 0) l (setCapability l (rd % generalCount) c) h (file-capability l (rd % generalCount) c (omega arith) p h)
 
+  -- the mark and time
+  file-moved : (a : ℕ) (l : List ℕ) → Files P l → Files P (marked a l)
+  unfolding marked
+  file-moved a l h = cond-holds (Files P) (belowMark l a) (set l (csrIndex Mshwm) (cleared a)) l (file-set l (csrIndex Mshwm) (cleared a) (omega arith) h) h
+
+  file-marked : (start : ℕ) (x : Stored) (l : List ℕ) → Files P l → Files P (markedBy start x l)
+  file-marked start nothing l h = h
+  file-marked start (bytes n i value) l h = file-moved ((start + i) % 2 ^ 32) l h
+  file-marked start (whole i value) l h = file-moved ((start + i) % 2 ^ 32) l h
+
+  file-ticked : (l : List ℕ) → Files P l → Files P (ticked l)
+  unfolding ticked
+  file-ticked l h =
+      file-set _ (timeIndex + 1) (nextTime l / 2 ^ 32) (omega arith) (file-set l timeIndex (nextTime l % 2 ^ 32) (omega arith) h)
+
   module _ (closed : Closed P) where
     -- PCC moves
     file-advanced : (n : ℕ) (l : List ℕ) → Files P l → Files P (advanced n l)
@@ -97,7 +114,7 @@ module _ (P : Capability → Type 0) where
         (file-capability l mepccIndex _ (omega arith) (closed .derived (legalized-from returnAlignment (pccOf l)) (h .file pccIndex (omega arith))) h))))
 
     -- a clause for each effect
-    pub files-after : (n : ℕ) (e : Effect) (l : List ℕ) → EachCapability P e → Files P l → Files P (registersAfter n e l)
+    files-after : (n : ℕ) (e : Effect) (l : List ℕ) → EachCapability P e → Files P l → Files P (registersAfter n e l)
     unfolding jumped withScr withCsr
     files-after n Advance l p h = file-advanced n l h
     files-after n (Write rd value) l p h = file-advanced n _ (file-register l rd value p h)
@@ -110,3 +127,8 @@ module _ (P : Capability → Type 0) where
     files-after n (WriteCsr rd old csr value) l p h =
         file-advanced n _ (file-set _ (csrIndex csr) value (csr-place csr) (file-register l rd (integer old) (closed .untagged (integer old) refl) h))
     files-after n (Trap cause value) l p h = file-trapped l cause value h
+
+    -- and the step recorded
+    pub files-left : (start n : ℕ) (e : Effect) (l : List ℕ) → EachCapability P e → Files P l
+        → Files P (ticked (markedBy start (storedBy e) (registersAfter n e l)))
+    files-left start n e l p h = file-ticked _ (file-marked start (storedBy e) _ (files-after n e l p h))

@@ -34,7 +34,7 @@ use Rattle.authority_laws.specs.Gain.{Stands, in-register, in-granule, H
 use Rattle.authority_laws.specs.Gain.{Reached, at-start, by-step, by-run, by-c-step, by-c-run, AuthorityClaim}
 use Rattle.authority_laws.proofs.Closed.{Closed, Everywhere}
 use Rattle.authority_laws.proofs.Effects.{effect-carried}
-use Rattle.authority_laws.proofs.Registers.{files-after}
+use Rattle.authority_laws.proofs.Registers.{files-left}
 use Rattle.authority_laws.proofs.Memory.{each-stored, granules-after}
 
 -- ---- a closed property
@@ -51,7 +51,7 @@ step-keeps P closed board revoked s good t h =
     fetched-holds (EachCapability P) board revoked s (λ n v. tt)
     (effect-carried P closed (s .regs) fits (h .registers) (seen board revoked s) start (h .memory) (lengthAt board s) (decodeOf word) (standingAt board s)) in
     record {
-      registers = files-after P closed (lengthIn (fetchedIn board s)) e (s .regs) carried (h .registers);
+      registers = files-left P closed (board .start) (lengthIn (fetchedIn board s)) e (s .regs) carried (h .registers);
       memory =
           granules-after s (stepOf board revoked s) P closed (lengths-stay board revoked s .same-memory) (h .memory) (storedBy e)
           (store-changes-only board revoked s (of-good board revoked s good 1 (omega arith))) (next-within board revoked s start)

@@ -1,14 +1,17 @@
 -- No effect changes the length of a buffer. Assumes nothing.
 use mathlib.Core.Path.{_≡_, refl, _∙_}
 use mathlib.Core.List.{List}
-use Prim.Native.Nat.{ℕ, _+_, _/_, _%_}
+use Prim.Native.Nat.{ℕ, _+_, _/_, _%_, _^_}
 use lib.Dec.{eqb, leb}
-use lib.ListN.{length, length-set}
+use lib.ListN.{set, length, length-set}
 use Rattle.words.specs.Words.{setBytes, putBit}
 use Rattle.words.proofs.Bytes.{length-setBytes}
 use Rattle.words.proofs.Bits.{length-putBit}
 use Rattle.capability.specs.declared.Capability.{Capability}
-use Rattle.state.specs.Layout.{generalCount}
+use Rattle.instructions.specs.declared.Csr.the-variants.{Mshwm}
+use Rattle.state.specs.Layout.{generalCount, csrIndex}
+use Rattle.state.specs.Marks.{cleared, belowMark, marked}
+use Rattle.state.specs.Timer.{ticked}
 use Rattle.state.specs.Registers.{setCapability, writeRegister}
 use Rattle.state.specs.Lent.{State}
 use Rattle.state.specs.Memory.{granuleBytes}
@@ -16,7 +19,7 @@ use Rattle.state.specs.Effects.{Stored, nothing, bytes, whole, storedBy}
 use Rattle.state.specs.declared.Effect.{Effect}
 use Rattle.state.specs.declared.Effect.the-variants.{Advance, Write, Store, StoreCapability, Jump, WriteScr, WriteCsr, Trap}
 use Rattle.state.proofs.Laws.{cond-holds}
-use Rattle.commit.specs.Commit.{advanced, trapped, jumped, withScr, withCsr, registersAfter, stored, retagged, storedCapability, memoryAfter, tagsAfter}
+use Rattle.commit.specs.Commit.{advanced, trapped, jumped, withScr, withCsr, registersAfter, markedBy, stored, retagged, storedCapability, memoryAfter, tagsAfter}
 use Rattle.commit.specs.Commit.{applyEffect}
 
 abbrev Long : (n : ℕ) → List ℕ → Type 0
@@ -35,7 +38,7 @@ advanced-long : (n : ℕ) (l : List ℕ) → length (advanced n l) ≡ length l
 unfolding advanced
 advanced-long n l = capability-long l _ _
 
-registers-long : (n : ℕ) (e : Effect) (regs : List ℕ) → length (registersAfter n e regs) ≡ length regs
+pub registers-long : (n : ℕ) (e : Effect) (regs : List ℕ) → length (registersAfter n e regs) ≡ length regs
 unfolding jumped withScr withCsr trapped
 registers-long n Advance regs = advanced-long n regs
 registers-long n (Write rd value) regs = simp (advanced-long, register-long)
@@ -45,6 +48,19 @@ registers-long n (Jump rd link target mstatus) regs = simp (length-set, capabili
 registers-long n (WriteScr rd old scr value) regs = simp (advanced-long, capability-long, register-long)
 registers-long n (WriteCsr rd old csr value) regs = simp (advanced-long, length-set, register-long)
 registers-long n (Trap cause value) regs = simp (length-set, capability-long)
+
+marked-long : (a : ℕ) (l : List ℕ) → length (marked a l) ≡ length l
+unfolding marked
+marked-long a l = cond-holds (Long (length l)) (belowMark l a) (set l (csrIndex Mshwm) (cleared a)) l (simp length-set) refl
+
+mark-long : (start : ℕ) (x : Stored) (l : List ℕ) → length (markedBy start x l) ≡ length l
+mark-long start nothing l = refl
+mark-long start (bytes n i value) l = marked-long ((start + i) % 2 ^ 32) l
+mark-long start (whole i value) l = marked-long ((start + i) % 2 ^ 32) l
+
+ticked-long : (l : List ℕ) → length (ticked l) ≡ length l
+unfolding ticked
+ticked-long l = simp length-set
 
 memory-long : (x : Stored) (mem : List ℕ) → length (memoryAfter x mem) ≡ length mem
 unfolding stored storedCapability
@@ -66,17 +82,20 @@ tags-long nothing mem tags = refl
 tags-long (bytes n i value) mem tags = retagged-long mem tags n i 0
 tags-long (whole i value) mem tags = retagged-long mem tags granuleBytes i (value .tag)
 
+pub written-long : (start n : ℕ) (e : Effect) (regs : List ℕ) → length (markedBy start (storedBy e) (registersAfter n e regs)) ≡ length regs
+written-long start n e regs = mark-long start (storedBy e) _ ∙ registers-long n e regs
+
 -- no buffer changes its length
 pub record SameLengths (before after : State) : Type 0 where
   pub same-registers : length (after .regs) ≡ length (before .regs)
   pub same-memory : length (after .mem) ≡ length (before .mem)
   pub same-tags : length (after .tags) ≡ length (before .tags)
 
-pub applied-long : (n : ℕ) (e : Effect) (s : State) → SameLengths s (applyEffect n e s)
+pub applied-long : (start n : ℕ) (e : Effect) (s : State) → SameLengths s (applyEffect start n e s)
 unfolding applyEffect
-applied-long n e s =
+applied-long start n e s =
     record {
-      same-registers = registers-long n e (s .regs);
+      same-registers = ticked-long _ ∙ written-long start n e (s .regs);
       same-memory = memory-long (storedBy e) (s .mem);
       same-tags = tags-long (storedBy e) (s .mem) (s .tags);
     }

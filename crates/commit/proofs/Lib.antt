@@ -3,4 +3,5 @@ pub mod Registers
 pub mod Lengths
 pub mod Bytes
 pub mod Memory
+pub mod Records
 pub mod Next

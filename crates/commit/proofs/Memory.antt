@@ -97,7 +97,7 @@ after-store (whole i value) s regs l w g = (
   capability-metadata (s .mem) i value (w .inside),
 )
 
-pub applied-memory : (n : ℕ) (e : Effect) (s : State) → length (s .mem) ≡ 64 * length (s .tags) → StoresWithin (length (s .mem)) e → GoodEffect e
-    → MemoryAfter (storedBy e) s (applyEffect n e s)
+pub applied-memory : (start n : ℕ) (e : Effect) (s : State) → length (s .mem) ≡ 64 * length (s .tags) → StoresWithin (length (s .mem)) e → GoodEffect e
+    → MemoryAfter (storedBy e) s (applyEffect start n e s)
 unfolding applyEffect
-applied-memory n e s l w g = after-store (storedBy e) s _ l w (stored-good e g)
+applied-memory start n e s l w g = after-store (storedBy e) s _ l w (stored-good e g)

@@ -2,7 +2,7 @@
 use mathlib.Core.Path.{_≡_, refl, sym, subst}
 use mathlib.Core.Bool.{Bool, true, false, cond}
 use mathlib.Core.List.{List}
-use Prim.Native.Nat.{ℕ, _+_, _*_, _%_, _^_, _≤_, _<_}
+use Prim.Native.Nat.{ℕ, _+_, _*_, _/_, _%_, _^_, _≤_, _<_}
 use native.Mathlib.Omega.{arith}
 use lib.Dec.{eqb, ltb}
 use lib.ListN.{getD, set, length}
@@ -11,14 +11,17 @@ use borrow.Author.Tests.{eqb-true, eqb-false, ltb-true, ltb-false}
 use Rattle.words.proofs.Word.{by-test}
 use Rattle.capability.specs.Capability.{integer, moveOf}
 use Rattle.capability.specs.declared.Capability.{Capability}
-use Rattle.instructions.specs.declared.Csr.the-variants.{Mstatus, Mcause, Mtval}
-use Rattle.state.specs.Layout.{capabilityWords, generalCount, pccIndex, mtccIndex, mepccIndex, csrIndex, scrIndex}
+use Rattle.instructions.specs.declared.Csr.the-variants.{Mstatus, Mcause, Mtval, Mshwm}
+use Rattle.state.specs.Layout.{capabilityWords, generalCount, pccIndex, mtccIndex, mepccIndex, csrIndex, scrIndex, timeIndex}
 use Rattle.state.specs.Registers.{capabilityAt, pccOf, mstatusOf, setCapability, writeRegister}
 use Rattle.state.specs.Addresses.{nextAddress, vectorAlignment, returnAlignment, legalized}
 use Rattle.state.specs.Status.{trapStatus}
+use Rattle.state.specs.Marks.{cleared, belowMark, marked}
+use Rattle.state.specs.Timer.{nextTime, ticked}
+use Rattle.state.specs.Effects.{Stored, nothing, bytes, whole, storedBy}
 use Rattle.state.specs.declared.Effect.{Effect}
 use Rattle.state.specs.declared.Effect.the-variants.{Advance, Write, Store, StoreCapability, Jump, WriteScr, WriteCsr, Trap}
-use Rattle.commit.specs.Commit.{advanced, trapped, jumped, withScr, withCsr, registersAfter}
+use Rattle.commit.specs.Commit.{advanced, trapped, jumped, withScr, withCsr, registersAfter, markedBy}
 
 -- a rule says of a word's place and value whether it may stand there; each word of a list is so
 pub record Each (P : ℕ → ℕ → Type 0) (l : List ℕ) : Type 0 where
@@ -40,6 +43,10 @@ pub record Rule (P : ℕ → ℕ → Type 0) : Type 0 where
   pub saved : (c : Capability) → Holds P pccIndex c → Holds P mepccIndex (legalized returnAlignment c)
   pub entered : (c : Capability) → Holds P mtccIndex c → Holds P pccIndex (legalized vectorAlignment c)
   pub status : (m : ℕ) → P (csrIndex Mstatus) m → P (csrIndex Mstatus) (trapStatus m)
+
+-- any word may stand where the mark, its base and the timer's words do
+abbrev pub Recorded : (ℕ → ℕ → Type 0) → Type 0
+Recorded P = (i v : ℕ) → csrIndex Mshwm ≤ i → v < 2 ^ 32 → P i v
 
 -- what an effect writes keeps the rule
 abbrev pub Keeps : (ℕ → ℕ → Type 0) → Effect → Type 0
@@ -104,17 +111,42 @@ module _ (P : ℕ → ℕ → Type 0) where
         (each-capability _ pccIndex _ (rule .entered (capabilityAt l mtccIndex) (read l mtccIndex e))
         (each-capability l mepccIndex _ (rule .saved (pccOf l) (read l pccIndex e)) e))))
 
-    -- after an effect that keeps the rule each word is so again
-    pub each-applied : (n : ℕ) (f : Effect) (regs : List ℕ) → Keeps P f → Each P regs → Each P (registersAfter n f regs)
+    -- after what an effect writes, if it keeps the rule, each word is so again
+    pub each-after : (n : ℕ) (f : Effect) (regs : List ℕ) → Keeps P f → Each P regs → Each P (registersAfter n f regs)
     unfolding jumped withScr withCsr
-    each-applied n Advance regs h e = each-advanced n regs e
-    each-applied n (Write rd value) regs h e = each-advanced n _ (each-register regs rd value h e)
-    each-applied n (Store kind i value) regs h e = each-advanced n regs e
-    each-applied n (StoreCapability i value) regs h e = each-advanced n regs e
-    each-applied n (Jump rd link target mstatus) regs h e =
+    each-after n Advance regs h e = each-advanced n regs e
+    each-after n (Write rd value) regs h e = each-advanced n _ (each-register regs rd value h e)
+    each-after n (Store kind i value) regs h e = each-advanced n regs e
+    each-after n (StoreCapability i value) regs h e = each-advanced n regs e
+    each-after n (Jump rd link target mstatus) regs h e =
         each-set _ (csrIndex Mstatus) mstatus (h .2) (each-capability _ pccIndex target (h .1) (each-register regs rd link (h .0) e))
-    each-applied n (WriteScr rd old scr value) regs h e =
+    each-after n (WriteScr rd old scr value) regs h e =
         each-advanced n _ (each-capability _ (scrIndex scr) value (h .1) (each-register regs rd old (h .0) e))
-    each-applied n (WriteCsr rd old csr value) regs h e =
+    each-after n (WriteCsr rd old csr value) regs h e =
         each-advanced n _ (each-set _ (csrIndex csr) value (h .1) (each-register regs rd (integer old) (h .0) e))
-    each-applied n (Trap cause value) regs h e = each-trapped regs cause value (h .0) (h .1) e
+    each-after n (Trap cause value) regs h e = each-trapped regs cause value (h .0) (h .1) e
+
+    module _ (recorded : Recorded P) where
+      each-moved : (a : ℕ) (l : List ℕ) → a < 2 ^ 32 → Each P l → Each P (marked a l)
+      unfolding marked cleared
+      each-moved a l b e = go (belowMark l a)
+        where
+          go : (t : Bool) → Each P (cond t (set l (csrIndex Mshwm) (cleared a)) l)
+          go true = each-set l (csrIndex Mshwm) (cleared a) (recorded (csrIndex Mshwm) (cleared a) (omega arith) (omega arith)) e
+          go false = e
+
+      each-marked : (start : ℕ) (x : Stored) (l : List ℕ) → Each P l → Each P (markedBy start x l)
+      each-marked start nothing l e = e
+      each-marked start (bytes n i value) l e = each-moved ((start + i) % 2 ^ 32) l (omega arith) e
+      each-marked start (whole i value) l e = each-moved ((start + i) % 2 ^ 32) l (omega arith) e
+
+      each-ticked : (l : List ℕ) → Each P l → Each P (ticked l)
+      unfolding ticked
+      each-ticked l e =
+          each-set _ (timeIndex + 1) (nextTime l / 2 ^ 32) (recorded (timeIndex + 1) (nextTime l / 2 ^ 32) (omega arith) (omega arith))
+          (each-set l timeIndex (nextTime l % 2 ^ 32) (recorded timeIndex (nextTime l % 2 ^ 32) (omega arith) (omega arith)) e)
+
+      -- and after the step is recorded
+      pub each-applied : (start n : ℕ) (f : Effect) (regs : List ℕ) → Keeps P f → Each P regs
+          → Each P (ticked (markedBy start (storedBy f) (registersAfter n f regs)))
+      each-applied start n f regs h e = each-ticked _ (each-marked start (storedBy f) _ (each-after n f regs h e))

@@ -1,7 +1,7 @@
--- What an effect leaves in the lent buffers. Document 01, "What is lent" and "Traps"; CHERIoT report, 7.7 and 7.11. Assumes nothing.
+-- What an effect leaves in the lent buffers. Document 01, "What is lent" and "Traps"; document 02, 6; CHERIoT report, 7.7 and 7.11. Assumes nothing.
 use mathlib.Core.Bool.{Bool, true, false, cond}
 use mathlib.Core.List.{List}
-use Prim.Native.Nat.{ℕ, _+_, _/_}
+use Prim.Native.Nat.{ℕ, _+_, _/_, _%_, _^_}
 use lib.Dec.{leb}
 use lib.ListN.{set, length}
 use Rattle.words.specs.Words.{setBytes, putBit}
@@ -14,6 +14,8 @@ use Rattle.state.specs.Layout.{pccIndex, mtccIndex, mepccIndex, csrIndex, scrIn
 use Rattle.state.specs.Registers.{capabilityAt, setCapability, writeRegister, pccOf, mstatusOf}
 use Rattle.state.specs.Addresses.{nextAddress, vectorAlignment, returnAlignment, legalized}
 use Rattle.state.specs.Status.{trapStatus}
+use Rattle.state.specs.Marks.{marked}
+use Rattle.state.specs.Timer.{ticked}
 use Rattle.state.specs.Lent.{State, state}
 use Rattle.state.specs.Memory.{granuleBytes}
 use Rattle.state.specs.Effects.{Stored, nothing, bytes, whole, storedBy}
@@ -87,9 +89,20 @@ tagsAfter (whole i value) mem tags = retagged mem tags granuleBytes i (value .ta
 
 -- ---- all of it
 
--- what the effect of an instruction of some bytes leaves
-unfoldable pub applyEffect : (bytes : ℕ) → Effect → State → State
-applyEffect n e s = state (registersAfter n e (s .regs)) (memoryAfter (storedBy e) (s .mem)) (tagsAfter (storedBy e) (s .mem) (s .tags))
+-- the mark, which a store moves by its lowest address; what has trapped has stored nothing (document 02, 6)
+abbrev pub markedBy : (start : ℕ) → Stored → (regs : List ℕ) → List ℕ
+markedBy start nothing regs = regs
+markedBy start (bytes n i value) regs = marked ((start + i) % 2 ^ 32) regs
+markedBy start (whole i value) regs = marked ((start + i) % 2 ^ 32) regs
+
+-- what the effect of an instruction of some bytes writes, in a memory from a start on
+abbrev pub writtenBy : (start bytes : ℕ) → Effect → State → State
+writtenBy start n e s =
+    state (markedBy start (storedBy e) (registersAfter n e (s .regs))) (memoryAfter (storedBy e) (s .mem)) (tagsAfter (storedBy e) (s .mem) (s .tags))
+
+-- and what it leaves: time goes on in every step, in one that traps too
+unfoldable pub applyEffect : (start bytes : ℕ) → Effect → State → State
+applyEffect start n e s = state (ticked (writtenBy start n e s .regs)) (writtenBy start n e s .mem) (writtenBy start n e s .tags)
 
 -- an instruction retires, or it trapped
 unfoldable pub retires : Effect → Bool

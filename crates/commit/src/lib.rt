@@ -5,7 +5,8 @@ ghost use Rattle.words.specs.Words.{setBytes};
 ghost use Rattle.state.specs.Layout.{csrIndex};
 ghost use Rattle.state.specs.Memory.{storeWidth, granuleBytes};
 ghost use Rattle.state.specs.Lent.{state};
-ghost use Rattle.commit.specs.Commit.{advanced, trapped, jumped, withScr, withCsr, stored, retagged, storedCapability, applyEffect, retires};
+ghost use Rattle.commit.specs.Commit.{advanced, trapped, jumped, withScr, withCsr, stored, retagged, storedCapability, writtenBy, applyEffect};
+ghost use Rattle.commit.specs.Commit.{retires};
 use capability::Capability;
 use instructions::Csr;
 use instructions::Scr;
@@ -110,16 +111,17 @@ pub fn store_capability(mem: &mut [u8], tags: &mut [u8], at: u32, c: Capability)
     }
 }
 
-// The effect of an instruction of some bytes on the lent buffers. Answers whether the instruction retires.
-pub fn commit_effect(
+// All but time: the effect of an instruction of some bytes, and the mark, which a store may move. Answers whether the instruction retires.
+fn write_effect(
     regs: &mut [u32],
+    start: u32,
     mem: &mut [u8],
     tags: &mut [u8],
     bytes: u32,
     e: Effect,
 ) -> bool
     ensures { λ r. ⌜ (r ≡ retires e) × (state (now (regs .exit)) (now (mem .exit)) (now (tags .exit))
-        ≡ applyEffect bytes e (state (now (regs .entry)) (now (mem .entry)) (now (tags .entry)))) ⌝ }
+        ≡ writtenBy start bytes e (state (now (regs .entry)) (now (mem .entry)) (now (tags .entry)))) ⌝ }
 {
     match e {
         Effect::Advance => {
@@ -134,11 +136,13 @@ pub fn commit_effect(
         Effect::Store { kind, at, value } => {
             store(mem, tags, kind, at, value);
             advance(regs, bytes);
+            state::move_mark(regs, wrapping_add_u32(start, at));
             true
         }
         Effect::StoreCapability { at, value } => {
             store_capability(mem, tags, at, value);
             advance(regs, bytes);
+            state::move_mark(regs, wrapping_add_u32(start, at));
             true
         }
         Effect::Jump {
@@ -173,4 +177,21 @@ pub fn commit_effect(
             false
         }
     }
+}
+
+// The effect of an instruction of some bytes on the lent buffers, memory from a start on. Answers whether the instruction retires.
+pub fn commit_effect(
+    regs: &mut [u32],
+    start: u32,
+    mem: &mut [u8],
+    tags: &mut [u8],
+    bytes: u32,
+    e: Effect,
+) -> bool
+    ensures { λ r. ⌜ (r ≡ retires e) × (state (now (regs .exit)) (now (mem .exit)) (now (tags .exit))
+        ≡ applyEffect start bytes e (state (now (regs .entry)) (now (mem .entry)) (now (tags .entry)))) ⌝ }
+{
+    let retired = write_effect(regs, start, mem, tags, bytes, e);
+    state::tick(regs);
+    retired
 }

@@ -13,6 +13,6 @@ module _ (board : Board) (revoked : List ℕ) (s : State) (t : Turn) (turned : t
   pub turn-retires : (b : Bool) → b ≡ retires (t .effect) → b ≡ retires (effectAt board revoked s)
   turn-retires b h = h ∙ ap (λ x. retires (x .effect)) turned
 
-  pub turn-leaves : (after : State) → after ≡ applyEffect (t .bytes) (t .effect) s → after ≡ stepOf board revoked s
+  pub turn-leaves : (after : State) → after ≡ applyEffect (board .start) (t .bytes) (t .effect) s → after ≡ stepOf board revoked s
   unfolding stepOf
-  turn-leaves after h = h ∙ ap (λ x. applyEffect (x .bytes) (x .effect) s) turned
+  turn-leaves after h = h ∙ ap (λ x. applyEffect (board .start) (x .bytes) (x .effect) s) turned

@@ -1,4 +1,5 @@
--- One step: fetch, decode, effect, commit; nothing is refused. Document 01, "Traps"; document 02, 3; CHERIoT report, 7.5. Assumes nothing.
+-- One step: interrupt or fetch, decode, effect, commit; nothing is refused. Document 01, "Traps"; document 02, 3 and 6; CHERIoT report, 7.5. Assumes nothing.
+use mathlib.Core.Bool.{cond}
 use mathlib.Core.List.{List}
 use Prim.Native.Nat.{ℕ}
 use Rattle.instructions.specs.Decode.{decodeOf}
@@ -8,6 +9,7 @@ use Rattle.short_forms.specs.Long.{longForm}
 use Rattle.short_forms.specs.Standing.{halfBytes, longBytes}
 use Rattle.state.specs.Registers.{pccOf}
 use Rattle.state.specs.Lent.{Lent, lent, State}
+use Rattle.state.specs.Timer.{timerInterrupt, interrupted}
 use Rattle.state.specs.Checks.{illegalInstruction}
 use Rattle.state.specs.declared.Board.{Board}
 use Rattle.state.specs.declared.Effect.{Effect}
@@ -64,9 +66,12 @@ effectIn f regs m = trapOr f (effectOf (lengthIn f) (instructionIn f) (wordIn f)
 abbrev pub seen : Board → (revoked : List ℕ) → State → Lent
 seen board revoked s = lent board (s .mem) (s .tags) revoked
 
--- what the next step fetches, and what it does
+-- what the next step meets: the timer's interrupt before anything of a fetch, else what it fetches; and what it does
+unfoldable pub metOf : Board → (regs mem : List ℕ) → Fetched
+metOf board regs mem = cond (interrupted regs) (Fault timerInterrupt 0) (fetchOf (pccOf regs) (board .start) mem)
+
 abbrev pub fetchedIn : Board → State → Fetched
-fetchedIn board s = fetchOf (pccOf (s .regs)) (board .start) (s .mem)
+fetchedIn board s = metOf board (s .regs) (s .mem)
 
 abbrev pub effectAt : Board → (revoked : List ℕ) → State → Effect
 effectAt board revoked s = effectIn (fetchedIn board s) (s .regs) (seen board revoked s)
@@ -77,4 +82,4 @@ turnOf board revoked s = record { bytes = lengthIn (fetchedIn board s); effect =
 
 -- what it leaves
 unfoldable pub stepOf : Board → (revoked : List ℕ) → State → State
-stepOf board revoked s = applyEffect (turnOf board revoked s .bytes) (turnOf board revoked s .effect) s
+stepOf board revoked s = applyEffect (board .start) (turnOf board revoked s .bytes) (turnOf board revoked s .effect) s

@@ -1,7 +1,7 @@
-// What one step does, by value: fetch, decode, effect.
+// What one step does, by value: interrupt or fetch, decode, effect.
 ghost use mathlib.Core.Path.{_≡_};
 ghost use Rattle.state.specs.Lent.{lent, state};
-ghost use Rattle.execution.specs.Step.{effectOf, instructionIn, wordIn, lengthIn, trapOr, effectIn, turnOf};
+ghost use Rattle.execution.specs.Step.{effectOf, instructionIn, wordIn, lengthIn, trapOr, effectIn, metOf, turnOf};
 use fetch::Fetched;
 use instructions::Instruction;
 use short_forms::HALF_BYTES;
@@ -9,6 +9,7 @@ use short_forms::LONG_BYTES;
 use state::Board;
 use state::Effect;
 use state::ILLEGAL_INSTRUCTION;
+use state::TIMER_INTERRUPT;
 
 // What an instruction of some bytes does.
 fn execute(
@@ -106,6 +107,19 @@ fn effect_in(
     trap_or(f, e)
 }
 
+// What the next step meets: the timer's interrupt, or what it fetches.
+fn met_at(regs: &[u32], board: Board, mem: &[u8]) -> Fetched
+    ensures { λ r. ⌜ r ≡ metOf board (now (regs .entry)) (now (mem .entry)) ⌝ }
+{
+    if state::interrupt_due(regs) {
+        return Fetched::Fault {
+            cause: TIMER_INTERRUPT,
+            value: 0,
+        };
+    }
+    fetch::fetch(state::pcc_of(regs), board.start, mem)
+}
+
 // What the next step does, by value: how far PCC moves where it moves on, and the effect.
 pub struct Turn {
     pub bytes: u32,
@@ -116,7 +130,7 @@ pub struct Turn {
 pub fn turn_at(regs: &[u32], board: Board, mem: &[u8], tags: &[u8], revoked: &[u8]) -> Turn
     ensures { λ r. ⌜ r ≡ turnOf board (now (revoked .entry)) (state (now (regs .entry)) (now (mem .entry)) (now (tags .entry))) ⌝ }
 {
-    let f = fetch::fetch(state::pcc_of(regs), board.start, mem);
+    let f = met_at(regs, board, mem);
     Turn {
         bytes: length_in(f),
         effect: effect_in(f, regs, board, mem, tags, revoked),

@@ -16,7 +16,7 @@ use Rattle.instructions.specs.Decode.{auipccOf, auicgpOf, jalOf, branchOf, jalr
 use Rattle.instructions.specs.Decode.{sourceDestOf, combineOf, twoSourceOf, capabilityOf, decodeOf}
 use Rattle.instructions.specs.declared.Alu.{Alu}
 use Rattle.instructions.specs.declared.Csr.{Csr}
-use Rattle.instructions.specs.declared.Csr.the-variants.{Mstatus, Mcause, Mtval}
+use Rattle.instructions.specs.declared.Csr.the-variants.{Mstatus, Mcause, Mtval, Mshwm, Mshwmb}
 use Rattle.instructions.specs.declared.IntegerInstruction.the-variants.{OpImm, Op}
 use Rattle.instructions.specs.declared.Instruction.{Instruction}
 use Rattle.instructions.specs.declared.Instruction.the-variants.{Integer, Illegal}
@@ -285,7 +285,9 @@ module _ (w : ℕ) (h : w < 2 ^ 32) where
       (tested (Back w) (upper12 w) 0x300 _ _ (λ e. csrs Mstatus o e) (λ n.
       (tested (Back w) (upper12 w) 0x342 _ _ (λ e. csrs Mcause o e) (λ n.
       (tested (Back w) (upper12 w) 0x343 _ _ (λ e. csrs Mtval o e) (λ n.
-      (refl)))))))))
+      (tested (Back w) (upper12 w) 0xBC1 _ _ (λ e. csrs Mshwm o e) (λ n.
+      (tested (Back w) (upper12 w) 0xBC2 _ _ (λ e. csrs Mshwmb o e) (λ n.
+      (refl)))))))))))))
 
   -- FENCE: what does not matter is 0
   fence : opcode w ≡ 0x0f → restored w (instructionShape w (fenceOf (funct3 w))) ≡ chosen w

@@ -22,7 +22,7 @@ use Rattle.instructions.specs.declared.StoreKind.the-variants.{Sb, Sh, Sw}
 use Rattle.instructions.specs.declared.CsrKind.{CsrKind}
 use Rattle.instructions.specs.declared.CsrKind.the-variants.{Csrrw, Csrrs, Csrrc}
 use Rattle.instructions.specs.declared.Csr.{Csr}
-use Rattle.instructions.specs.declared.Csr.the-variants.{Mstatus, Mcause, Mtval}
+use Rattle.instructions.specs.declared.Csr.the-variants.{Mstatus, Mcause, Mtval, Mshwm, Mshwmb}
 use Rattle.instructions.specs.declared.Scr.{Scr}
 use Rattle.instructions.specs.declared.Scr.the-variants.{Mtcc, Mtdc, Mscratchc, Mepcc}
 use Rattle.instructions.specs.declared.Inspection.{Inspection}
@@ -72,6 +72,8 @@ csr-fits : (x : Csr) → csrNumber x < 2 ^ 32
 csr-fits Mstatus = omega arith
 csr-fits Mcause = omega arith
 csr-fits Mtval = omega arith
+csr-fits Mshwm = omega arith
+csr-fits Mshwmb = omega arith
 
 scr-fits : (x : Scr) → scrNumber x < 2 ^ 32
 scr-fits Mtcc = omega arith

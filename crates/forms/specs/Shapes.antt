@@ -18,7 +18,7 @@ use Rattle.instructions.specs.declared.StoreKind.the-variants.{Sb, Sh, Sw}
 use Rattle.instructions.specs.declared.CsrKind.{CsrKind}
 use Rattle.instructions.specs.declared.CsrKind.the-variants.{Csrrw, Csrrs, Csrrc}
 use Rattle.instructions.specs.declared.Csr.{Csr}
-use Rattle.instructions.specs.declared.Csr.the-variants.{Mstatus, Mcause, Mtval}
+use Rattle.instructions.specs.declared.Csr.the-variants.{Mstatus, Mcause, Mtval, Mshwm, Mshwmb}
 use Rattle.instructions.specs.declared.Scr.{Scr}
 use Rattle.instructions.specs.declared.Scr.the-variants.{Mtcc, Mtdc, Mscratchc, Mepcc}
 use Rattle.instructions.specs.declared.Inspection.{Inspection}
@@ -136,6 +136,8 @@ abbrev pub csrNumber : Csr → ℕ
 csrNumber Mstatus = 0x300
 csrNumber Mcause = 0x342
 csrNumber Mtval = 0x343
+csrNumber Mshwm = 0xBC1
+csrNumber Mshwmb = 0xBC2
 
 abbrev pub scrNumber : Scr → ℕ
 scrNumber Mtcc = 28

@@ -132,6 +132,8 @@ pub(crate) fn csr_number(x: Csr) -> u32
         Csr::Mstatus => return 0x300,
         Csr::Mcause => return 0x342,
         Csr::Mtval => return 0x343,
+        Csr::Mshwm => return 0xBC1,
+        Csr::Mshwmb => return 0xBC2,
     }
 }
 

@@ -112,7 +112,7 @@ module _ (csr : Csr) (rd rs1 : ℕ) (h : rs1 < 2 ^ 5) where
 
 system : (w f3 number rd rs1 : ℕ) → rs1 < 2 ^ 5 → InRange (systemOf w f3 number rd rs1)
 unfolding systemOf
-system w f3 number rd rs1 h = search (either, whole, csr-in-range) depth 6
+system w f3 number rd rs1 h = search (either, whole, csr-in-range) depth 8
 
 -- an even number extended from some bits is even
 pub even-extended : (x m : ℕ) → Even x → Even (signExtend x (m + 1))

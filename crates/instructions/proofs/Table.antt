@@ -15,7 +15,7 @@ use Rattle.instructions.specs.declared.BranchKind.the-variants.{Beq, Bne
 use Rattle.instructions.specs.declared.LoadKind.the-variants.{Lb, Lh, Lw, Lbu, Lhu}
 use Rattle.instructions.specs.declared.StoreKind.the-variants.{Sb, Sh, Sw}
 use Rattle.instructions.specs.declared.CsrKind.the-variants.{Csrrw, Csrrs, Csrrc}
-use Rattle.instructions.specs.declared.Csr.the-variants.{Mstatus, Mcause, Mtval}
+use Rattle.instructions.specs.declared.Csr.the-variants.{Mstatus, Mcause, Mtval, Mshwm, Mshwmb}
 use Rattle.instructions.specs.declared.Scr.the-variants.{Mtcc, Mtdc, Mscratchc, Mepcc}
 use Rattle.instructions.specs.declared.Inspection.the-variants.{GetPerm, GetType, GetBase, GetLen, GetTag, RoundLength, AlignmentMask, GetAddr, GetHigh}
 use Rattle.instructions.specs.declared.Inspection.the-variants.{GetTop}
@@ -142,6 +142,9 @@ table =
     (0x342fe573 is System (CsrImmediate Csrrs Mcause 10 31)) ∷
     (0x3435b573 is System (CsrRegister Csrrc Mtval 10 11)) ∷
     (0x343ff573 is System (CsrImmediate Csrrc Mtval 10 31)) ∷
+    (0xbc1025f3 is System (CsrRegister Csrrs Mshwm 11 0)) ∷
+    (0xbc261073 is System (CsrRegister Csrrw Mshwmb 0 12)) ∷
+    (0xbc3025f3 is Illegal) ∷
     -- illegal: a register above 15 in each place that is one
     (0x00000813 is Illegal) ∷
     (0x00080013 is Illegal) ∷

@@ -14,7 +14,7 @@ use Rattle.instructions.specs.declared.StoreKind.the-variants.{Sb, Sh, S
 use Rattle.instructions.specs.declared.CsrKind.{CsrKind}
 use Rattle.instructions.specs.declared.CsrKind.the-variants.{Csrrw, Csrrs, Csrrc}
 use Rattle.instructions.specs.declared.Csr.{Csr}
-use Rattle.instructions.specs.declared.Csr.the-variants.{Mstatus, Mcause, Mtval}
+use Rattle.instructions.specs.declared.Csr.the-variants.{Mstatus, Mcause, Mtval, Mshwm, Mshwmb}
 use Rattle.instructions.specs.declared.Scr.the-variants.{Mtcc, Mtdc, Mscratchc, Mepcc}
 use Rattle.instructions.specs.declared.Inspection.the-variants.{GetPerm, GetType, GetBase, GetLen, GetTag, RoundLength, AlignmentMask, GetAddr, GetHigh}
 use Rattle.instructions.specs.declared.Inspection.the-variants.{GetTop}
@@ -174,14 +174,16 @@ wholeOf w =
     (cond (eqb w 0x30200073) (Jump Mret)
     Illegal)))
 
--- standard, SYSTEM; the CSRs that there are: document 01, In and out
+-- standard, SYSTEM; the CSRs that there are: document 01, In and out; document 02, 6
 unfoldable pub systemOf : ℕ → ℕ → ℕ → ℕ → ℕ → Instruction
 systemOf w f3 number rd rs1 =
     cond (eqb f3 0) (wholeOf w)
     (cond (eqb number 0x300) (csrOf f3 Mstatus rd rs1)
     (cond (eqb number 0x342) (csrOf f3 Mcause rd rs1)
     (cond (eqb number 0x343) (csrOf f3 Mtval rd rs1)
-    Illegal)))
+    (cond (eqb number 0xBC1) (csrOf f3 Mshwm rd rs1)
+    (cond (eqb number 0xBC2) (csrOf f3 Mshwmb rd rs1)
+    Illegal)))))
 
 -- CSpecialRW: report, 8.1.5 and chapter 9
 unfoldable pub specialOf : ℕ → ℕ → ℕ → Instruction

@@ -102,6 +102,8 @@ pub enum Csr {
     Mstatus,
     Mcause,
     Mtval,
+    Mshwm,
+    Mshwmb,
 }
 
 // Special capability registers, numbers 28, 29, 30, 31.

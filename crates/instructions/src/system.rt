@@ -24,6 +24,10 @@ pub const MCAUSE: u32 = 0x342;
 
 pub const MTVAL: u32 = 0x343;
 
+pub const MSHWM: u32 = 0xBC1;
+
+pub const MSHWMB: u32 = 0xBC2;
+
 // MISC-MEM: FENCE, whatever its other fields.
 pub(crate) fn decode_fence(f3: u32) -> Instruction
     ensures { λ r. ⌜ r ≡ fenceOf f3 ⌝ }
@@ -102,6 +106,8 @@ pub(crate) fn decode_system(w: u32, f3: u32, number: u32, rd: u32, rs1: u32) -> 
             MSTATUS => return decode_csr(f3, Csr::Mstatus, rd, rs1),
             MCAUSE => return decode_csr(f3, Csr::Mcause, rd, rs1),
             MTVAL => return decode_csr(f3, Csr::Mtval, rd, rs1),
+            MSHWM => return decode_csr(f3, Csr::Mshwm, rd, rs1),
+            MSHWMB => return decode_csr(f3, Csr::Mshwmb, rd, rs1),
             _ => return Instruction::Illegal,
         },
     }

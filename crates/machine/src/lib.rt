@@ -225,7 +225,14 @@ fn take_steps(
         // Two calls, not one function of both: that would be too large to be compiled into the loop.
         let turn = execution::turn_at(regs, board, mem, tags, revoked);
         let effect = turn.effect;
-        let one = choices::one_if(commit::commit_effect(regs, mem, tags, turn.bytes, effect));
+        let one = choices::one_if(commit::commit_effect(
+            regs,
+            board.start,
+            mem,
+            tags,
+            turn.bytes,
+            effect,
+        ));
         retired += one;
         trapped += 1 - one;
         k += 1;

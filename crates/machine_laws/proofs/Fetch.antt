@@ -13,7 +13,8 @@ use Rattle.state.specs.declared.Board.{Board}
 use Rattle.state.specs.Effects.{StoresWithin, GoodTags, GoodEffect}
 use Rattle.state.specs.declared.Effect.{Effect}
 use Rattle.state.specs.declared.Effect.the-variants.{Trap}
-use Rattle.state.proofs.Laws.{storeless-within}
+use Rattle.state.specs.Timer.{timerInterrupt, interrupted}
+use Rattle.state.proofs.Laws.{cond-holds, storeless-within}
 use Rattle.integer_instructions.specs.Integer.{integerEffect}
 use Rattle.jump_instructions.specs.Jumps.{jumpEffect}
 use Rattle.capability_instructions.specs.Derivation.{capabilityEffect}
@@ -23,8 +24,11 @@ use Rattle.memory_instructions.proofs.Laws.{memory-within, memory-good}
 use Rattle.jump_instructions.proofs.Laws.{jump-storeless, jump-good}
 use Rattle.capability_instructions.proofs.Laws.{capability-storeless, capability-good}
 use Rattle.system_instructions.proofs.Laws.{system-storeless, system-good}
+use Rattle.fetch.specs.Fetch.{fetchOf}
+use Rattle.fetch.specs.declared.Fetched.{Fetched}
+use Rattle.fetch.specs.declared.Fetched.the-variants.{Fault}
 use Rattle.fetch.proofs.Laws.{fetch-holds}
-use Rattle.execution.specs.Step.{effectOf, instructionIn, wordIn, lengthIn, trapOr, effectIn, seen, effectAt}
+use Rattle.execution.specs.Step.{effectOf, instructionIn, wordIn, lengthIn, trapOr, effectIn, seen, metOf, effectAt}
 use Rattle.machine_laws.specs.Steps.{lengthAt, standingAt, wordAt}
 
 -- what the instruction at PCC does, once it is fetched
@@ -34,10 +38,11 @@ fetchedEffect board revoked s = effectOf (lengthAt board s) (decodeOf (wordAt bo
 -- what holds of that and of every trap holds of the next step's effect
 pub fetched-holds : (P : Effect → Type 0) (board : Board) (revoked : List ℕ) (s : State) → ((n v : ℕ) → P (Trap n v)) → P (fetchedEffect board revoked s)
     → P (effectAt board revoked s)
-unfolding effectIn trapOr lengthIn instructionIn wordIn
+unfolding metOf effectIn trapOr lengthIn instructionIn wordIn
 fetched-holds P board revoked s t h =
-    fetch-holds (pccOf (s .regs)) (board .start) (s .mem) (λ f. P (effectIn f (s .regs) (seen board revoked s))) (λ n v a b. t n v) (λ r l. rw l at h)
-    (λ r l. rw l at h)
+    let Q : Fetched → Type 0 = λ f. P (effectIn f (s .regs) (seen board revoked s)) in
+    cond-holds Q (interrupted (s .regs)) (Fault timerInterrupt 0) (fetchOf (pccOf (s .regs)) (board .start) (s .mem)) (t timerInterrupt 0)
+    (fetch-holds (pccOf (s .regs)) (board .start) (s .mem) Q (λ n v a b. t n v) (λ r l. rw l at h) (λ r l. rw l at h))
 
 -- every store of an instruction lies in one granule of memory
 effect-within : (n : ℕ) (i : Instruction) (word : ℕ) (regs : List ℕ) (m : Lent) → m .board .start % granuleBytes ≡ 0

@@ -24,7 +24,11 @@ use Rattle.state.specs.Addresses.{vectorAlignment, returnAlignment, legalized}
 use Rattle.state.specs.Registers.{pccOf, pcOf}
 use Rattle.short_forms.specs.Standing.{halfBytes, longBytes}
 use Rattle.short_forms.specs.Long.{longForm}
+use Rattle.fetch.specs.Fetch.{fetchOf}
+use Rattle.fetch.specs.declared.Fetched.{Fetched}
+use Rattle.fetch.specs.declared.Fetched.the-variants.{Fault}
 use Rattle.fetch.proofs.Laws.{fetch-holds}
+use Rattle.state.specs.Timer.{timerInterrupt, interrupted}
 use Rattle.state.specs.Lent.{Lent, State}
 use Rattle.state.specs.Effects.{GoodTags}
 use Rattle.state.specs.Fits.{FitsRegisters, FitsEffect}
@@ -37,7 +41,7 @@ use Rattle.memory_instructions.proofs.Fits.{memory-fits}
 use Rattle.jump_instructions.proofs.Fits.{jump-fits}
 use Rattle.capability_instructions.proofs.Fits.{capability-fits}
 use Rattle.system_instructions.proofs.Fits.{system-fits}
-use Rattle.execution.specs.Step.{effectOf, instructionIn, wordIn, lengthIn, trapOr, effectIn, seen, fetchedIn, effectAt, stepOf}
+use Rattle.execution.specs.Step.{effectOf, instructionIn, wordIn, lengthIn, trapOr, effectIn, seen, metOf, fetchedIn, effectAt, stepOf}
 use Rattle.machine.specs.Refusals.{refusalOf}
 use Rattle.machine.specs.Run.{stepRefusal, stepAfter, Ran, ran, oneMore, iterate, ranFrom, runAfter}
 use Rattle.machine_laws.specs.Fits.{InType}
@@ -61,15 +65,17 @@ module _ (regs : List ℕ) (m : Lent) (h : FitsRegisters regs) (b : Bytes (m .me
 
 -- every capability that a step writes is good, and every word is a word
 pub next-fits : (board : Board) (revoked : List ℕ) (s : State) → FitsRegisters (s .regs) → Bytes (s .mem) → FitsEffect (effectAt board revoked s)
-unfolding effectIn trapOr lengthIn instructionIn wordIn
+unfolding metOf effectIn trapOr lengthIn instructionIn wordIn
 next-fits board revoked s h b =
     let m = seen board revoked s in
     let at = pcOf (s .regs) - board .start in
-    fetch-holds (pccOf (s .regs)) (board .start) (s .mem) (λ f. FitsEffect (effectIn f (s .regs) m))
+    let Q : Fetched → Type 0 = λ f. FitsEffect (effectIn f (s .regs) m) in
+    cond-holds Q (interrupted (s .regs)) (Fault timerInterrupt 0) (fetchOf (pccOf (s .regs)) (board .start) (s .mem)) (tt, (omega arith, omega arith))
+    (fetch-holds (pccOf (s .regs)) (board .start) (s .mem) Q
     (λ n v a k. (tt, (a, k (pcc-fits (s .regs) h .address-fits))))
     (λ r l. effect-fits (s .regs) m h b longBytes (decodeOf (leBytes longBytes (s .mem) at)) _ (decoded-in-range _) (leBytes-lt longBytes (s .mem) at b))
     (λ r l. effect-fits (s .regs) m h b halfBytes (decodeOf (longForm (leBytes halfBytes (s .mem) at))) _ (decoded-in-range _)
-    (omega (arith, leBytes-lt halfBytes (s .mem) at b)))
+    (omega (arith, leBytes-lt halfBytes (s .mem) at b))))
 
 -- ---- the register file
 
@@ -119,7 +125,7 @@ fit-kept (Trap cause value) h =
 pub words-stay : (board : Board) (revoked : List ℕ) (s : State) → FitsRegisters (s .regs) → Bytes (s .mem) → FitsRegisters (stepOf board revoked s .regs)
 unfolding stepOf applyEffect
 words-stay board revoked s h b =
-    let e = each-applied Fit fit-rule (lengthIn (fetchedIn board s)) (effectAt board revoked s) (s .regs)
+    let e = each-applied Fit fit-rule (λ i v l w. fit-above i v (omega arith) w) (board .start) (lengthIn (fetchedIn board s)) (effectAt board revoked s) (s .regs)
     (fit-kept (effectAt board revoked s) (next-fits board revoked s h b))
     (record { word = λ i. (h .words i, λ k l q. rw q (h .tags k l)) }) in
     record { words = λ i. e .word i .0; tags = λ k l. e .word (k * capabilityWords + 2) .1 k l refl }

@@ -26,6 +26,9 @@ use Rattle.integer_instructions.specs.Integer.{integerEffect}
 use Rattle.memory_instructions.specs.Access.{loadAt, loadEffect, addressOf, memoryEffect}
 use Rattle.capability_instructions.specs.Derivation.{combined, capabilityEffect}
 use Rattle.system_instructions.specs.System.{csrEffect, systemEffect}
+use Rattle.state.specs.Timer.{ticked}
+use Rattle.commit.proofs.Records.{ticked-below}
+use Rattle.system_instructions.proofs.Laws.{csr-holds}
 use Rattle.commit.specs.Commit.{advanced, withCsr, applyEffect, retires}
 use Rattle.execution.specs.Step.{effectAt, effectOf, fetchedIn, lengthIn, seen, stepOf}
 use Rattle.machine.specs.Run.{stepRefusal}
@@ -66,8 +69,9 @@ effect-integer n i rd word regs m by-inspection = (refl, plain _)
 effect-integer n i rd word regs m by-difference = (refl, plain _)
 effect-integer n i rd word regs m by-subset = (refl, plain _)
 effect-integer n i rd word regs m by-equality = (refl, plain _)
-effect-integer n i rd word regs m by-csr = checked-holds (ToInteger rd) _ _ _ (λ n v. tt) refl
-effect-integer n i rd word regs m by-csr-immediate = checked-holds (ToInteger rd) _ _ _ (λ n v. tt) refl
+effect-integer n i rd word regs m by-csr = checked-holds (ToInteger rd) _ _ _ (λ n v. tt) (csr-holds (ToInteger rd) _ _ rd _ _ refl (refl, plain _))
+effect-integer n i rd word regs m by-csr-immediate =
+    checked-holds (ToInteger rd) _ _ _ (λ n v. tt) (csr-holds (ToInteger rd) _ _ rd _ _ refl (refl, plain _))
 
 -- ---- what the register then holds
 
@@ -107,21 +111,26 @@ csr-cleared l csr r v h k =
       getD-set-other l (csrIndex csr) (r * capabilityWords + 2) v 0 (λ e. absurd (omega arith)) ∙ k .1,
     )
 
-applied : (n rd : ℕ) (e : Effect) (s : State) → ToInteger rd e → retires e ≡ true → length (s .regs) ≡ registerWords → Cleared 0 (s .regs)
-    → Cleared (rd % generalCount) (applyEffect n e s .regs)
+ticked-cleared : (l : List ℕ) (r : ℕ) → r < generalCount → Cleared r l → Cleared r (ticked l)
+ticked-cleared l r h k =
+    (ticked-below l (r * capabilityWords + 1) (omega arith) ∙ k .0, ticked-below l (r * capabilityWords + 2) (omega arith) ∙ k .1)
+
+applied : (start n rd : ℕ) (e : Effect) (s : State) → ToInteger rd e → retires e ≡ true → length (s .regs) ≡ registerWords → Cleared 0 (s .regs)
+    → Cleared (rd % generalCount) (applyEffect start n e s .regs)
 unfolding retires applyEffect withCsr
-applied n rd Effect.Advance s i h l z = absurd i
-applied n rd (Effect.Write r value) s i h l z =
-    rw (sym (i .0)) (advanced-cleared n (writeRegister (s .regs) r value) (r % generalCount) (omega arith) (write-cleared (s .regs) r value l z (i .1)))
-applied n rd (Effect.Store kind j value) s i h l z = absurd i
-applied n rd (Effect.StoreCapability j value) s i h l z = absurd i
-applied n rd (Effect.Jump r link target mstatus) s i h l z = absurd i
-applied n rd (Effect.WriteScr r old scr value) s i h l z = absurd i
-applied n rd (Effect.WriteCsr r old csr value) s i h l z =
-    rw (sym i) (advanced-cleared n (set (writeRegister (s .regs) r (integer old)) (csrIndex csr) value) (r % generalCount) (omega arith)
+applied start n rd Effect.Advance s i h l z = absurd i
+applied start n rd (Effect.Write r value) s i h l z =
+    rw (sym (i .0)) (ticked-cleared _ (r % generalCount) (omega arith)
+    (advanced-cleared n (writeRegister (s .regs) r value) (r % generalCount) (omega arith) (write-cleared (s .regs) r value l z (i .1))))
+applied start n rd (Effect.Store kind j value) s i h l z = absurd i
+applied start n rd (Effect.StoreCapability j value) s i h l z = absurd i
+applied start n rd (Effect.Jump r link target mstatus) s i h l z = absurd i
+applied start n rd (Effect.WriteScr r old scr value) s i h l z = absurd i
+applied start n rd (Effect.WriteCsr r old csr value) s i h l z =
+    rw (sym i) (ticked-cleared _ (r % generalCount) (omega arith) (advanced-cleared n (set (writeRegister (s .regs) r (integer old)) (csrIndex csr) value) (r % generalCount) (omega arith)
     (csr-cleared (writeRegister (s .regs) r (integer old)) csr (r % generalCount) value (omega arith)
-    (write-cleared (s .regs) r (integer old) l z (plain old))))
-applied n rd (Effect.Trap cause value) s i h l z = absurd (true≢false (sym h))
+    (write-cleared (s .regs) r (integer old) l z (plain old)))))
+applied start n rd (Effect.Trap cause value) s i h l z = absurd (true≢false (sym h))
 
 -- an integer result leaves no metadata and no tag
 pub integer-results : (board : Board) (revoked : List ℕ) (s : State) → stepRefusal board revoked s ≡ 0
@@ -132,6 +141,6 @@ integer-results board revoked s good rd i h =
     let g = good-of board revoked s good in
     let e = fetched-holds (ToInteger rd) board revoked s (λ n v. tt)
     (effect-integer (lengthAt board s) (decodeOf (wordAt board s)) rd (standingAt board s) (s .regs) (seen board revoked s) i) in
-    let k = applied (lengthIn (fetchedIn board s)) rd (effectAt board revoked s) s e h (g .registers)
+    let k = applied (board .start) (lengthIn (fetchedIn board s)) rd (effectAt board revoked s) s e h (g .registers)
     (g .words .c0-words 1 (omega arith), g .words .c0-words 2 (omega arith)) in
     record { no-metadata = k .0; no-tag = k .1 }

@@ -8,7 +8,7 @@ use Rattle.capability.specs.Capability.{integer, moveOf}
 use Rattle.capability.specs.declared.Capability.{Capability}
 use Rattle.capability.proofs.Laws.{move-kept}
 use Rattle.instructions.specs.declared.Csr.{Csr}
-use Rattle.instructions.specs.declared.Csr.the-variants.{Mstatus, Mcause, Mtval}
+use Rattle.instructions.specs.declared.Csr.the-variants.{Mstatus, Mcause, Mtval, Mshwm, Mshwmb}
 use Rattle.instructions.specs.declared.Scr.{Scr}
 use Rattle.instructions.specs.declared.Scr.the-variants.{Mtcc, Mtdc, Mscratchc, Mepcc}
 use Rattle.state.specs.Layout.{capabilityWords, generalCount, capabilityCount, controlStart, pccIndex, mtccIndex, mepccIndex, csrIndex, scrIndex}
@@ -38,6 +38,8 @@ pub csr-place : (csr : Csr) → controlStart ≤ csrIndex csr
 csr-place Mstatus = omega arith
 csr-place Mcause = omega arith
 csr-place Mtval = omega arith
+csr-place Mshwm = omega arith
+csr-place Mshwmb = omega arith
 
 -- ---- c0
 
@@ -77,7 +79,7 @@ null-kept (Trap cause value) = (λ b. absurd (omega arith), λ b. absurd (omega 
 pub c0-stays : (board : Board) (revoked : List ℕ) (s : State) → ZeroRegister (s .regs) → ZeroRegister (stepOf board revoked s .regs)
 unfolding stepOf applyEffect
 c0-stays board revoked s h =
-    each-applied Null null-rule (lengthIn (fetchedIn board s)) (effectAt board revoked s) (s .regs) (null-kept (effectAt board revoked s))
+    each-applied Null null-rule (λ i v l w b. absurd (omega arith)) (board .start) (lengthIn (fetchedIn board s)) (effectAt board revoked s) (s .regs) (null-kept (effectAt board revoked s))
     (record { word = h }) .word
 
 -- ---- tag words
@@ -122,7 +124,7 @@ tag-kept (Trap cause value) h = (λ k b e. absurd (omega arith), λ k b e. absur
 pub tags-stay : (board : Board) (revoked : List ℕ) (s : State) → GoodTags (s .regs) → GoodTags (stepOf board revoked s .regs)
 unfolding stepOf applyEffect
 tags-stay board revoked s h =
-    let e = each-applied Tag tag-rule (lengthIn (fetchedIn board s)) (effectAt board revoked s) (s .regs) (tag-kept (effectAt board revoked s)
+    let e = each-applied Tag tag-rule (λ i v l w k b q. absurd (omega arith)) (board .start) (lengthIn (fetchedIn board s)) (effectAt board revoked s) (s .regs) (tag-kept (effectAt board revoked s)
     (next-good board revoked s h))
     (record { word = λ i k b q. rw q (h k b) }) in
     λ k b. e .word (k * capabilityWords + 2) k b refl
@@ -131,7 +133,7 @@ tags-stay board revoked s h =
 
 pub lengths-stay : (board : Board) (revoked : List ℕ) (s : State) → SameLengths s (stepOf board revoked s)
 unfolding stepOf
-lengths-stay board revoked s = applied-long (lengthIn (fetchedIn board s)) (effectAt board revoked s) s
+lengths-stay board revoked s = applied-long (board .start) (lengthIn (fetchedIn board s)) (effectAt board revoked s) s
 
 -- ---- all of it
 

@@ -3,7 +3,7 @@
 use mathlib.Core.Path.{_≡_, refl, sym, ap, _∙_}
 use mathlib.Core.Bool.{Bool, true, false, cond, true≢false}
 use mathlib.Core.List.{List, [], _∷_}
-use Prim.Native.Nat.{ℕ, zero, suc, _+_, _*_, _≤_}
+use Prim.Native.Nat.{ℕ, _+_, _*_, _%_, _^_, _≤_, _<_}
 use native.Mathlib.Omega.{arith}
 use lib.Dec.{eqb, leb}
 use lib.ListN.{getD}
@@ -17,18 +17,19 @@ use Rattle.commit.specs.Commit.{retires}
 use Rattle.execution.specs.Step.{effectAt}
 use Rattle.state.specs.declared.Board.{Board}
 use Rattle.machine.specs.Refusals.{refusalOf, mostSteps}
-use Rattle.machine.specs.Run.{stepRefusal, retiredOf, trappedOf, stepTrapped, stepAnswer, stepAfter, StepPromise, runAnswer, runAfter, RunPromise, stepNumber}
+use Rattle.machine.specs.Run.{stepRefusal, retiredOf, trappedOf, stepTrapped, stepAnswer, stepAfter, StepPromise, runAnswer, runAfter, RunPromise, stepNumber, ran, ranFrom}
 use Rattle.machine.specs.Run.{stepRetired, runNumber, runRetired, runTrapped}
 use Rattle.machine.specs.declared.StepAnswer.{StepAnswer}
 use Rattle.machine.specs.declared.StepAnswer.the-variants.{Retired, Trapped, Refused}
 use Rattle.machine.specs.declared.RunAnswer.{RunAnswer}
 use Rattle.machine.specs.declared.RunAnswer.the-variants as RunAnswer
-use Rattle.machine_laws.specs.Cases.{Case, boardIn, before, top-of-memory, untagged-load, environment-call}
+use Rattle.machine_laws.specs.Cases.{Case, boardIn, put, before, top-of-memory, untagged-load, environment-call}
 use Rattle.machine_laws.specs.Steps.{stepsAfter, retiredIn, trappedIn}
-use Rattle.machine_laws.proofs.Refusals.{refused-step, refused-alike, refused-run, too-many}
+use Rattle.machine_laws.proofs.Refusals.{refused-step, refused-alike, refused-run, too-many, good-of}
 use Rattle.machine_laws.proofs.Runs.{answers-counted, run-after, run-answer, run-of-none}
 use Rattle.machine_laws.proofs.Worked.{Worked, word-at, top-worked, load-worked, call-worked}
-use Rattle.machine_laws.proofs.Later.{later-pcc}
+use Rattle.state.specs.Timer.{timeOf}
+use Rattle.machine_laws.proofs.Timer.{time-after}
 
 -- ---- a machine that refuses all calls
 
@@ -125,7 +126,7 @@ unfolding top-of-memory
 pcc-after after a p = ap (λ (l : List ℕ). getD l (pccIndex * 3) 0) (p .registers-are) ∙ word-at (top-of-memory .after) 0 _ (top-worked .words-are)
 
 pcc-before : pccIn (before top-of-memory) ≡ 0xFFFFFFFC
-unfolding top-of-memory before setCapability
+unfolding top-of-memory before put setCapability
 pcc-before = refl
 
 pub unchanging-step-shut-out : (a : StepAnswer) → StepFrom top-of-memory (before top-of-memory) a → ⊥
@@ -215,26 +216,21 @@ module _ (board : Board) (revoked : List ℕ) (from after : State) where
     pub counts-sum : retired + trapped ≡ n
     counts-sum = omega (arith, counts-are .0, counts-are .1, answers-counted board revoked n from ran-good)
 
--- where a run of n steps from the first worked case's start leaves PCC: at 0 only after one step
-abbrev ranTo : (n : ℕ) → State
-ranTo n = runAfter n (boardIn top-of-memory) (top-of-memory .revoked ∷ []) (before top-of-memory)
+    -- and time tells them
+    ran-time : timeOf (from .regs) < 2 ^ 64 → timeOf (after .regs) ≡ (timeOf (from .regs) + n) % 2 ^ 64
+    unfolding runAfter
+    ran-time fits =
+        let left : runAfter n board revoked from ≡ ranFrom n board revoked from .at = rw not-refused in
+        ap timeOf (p .registers-are) ∙ (ap (λ (s : State). timeOf (s .regs)) left
+        ∙ time-after board revoked n (ran from 0 0) (good-of board revoked from ran-good .registers) fits)
 
-pcc-of-one : (n : ℕ) → pccIn (ranTo n) ≡ 0 → n ≡ 1
-pcc-of-one zero h = absurd (omega (arith, h, ap pccIn (run-of-none _ _ (before top-of-memory) top-good .0), pcc-before))
-pcc-of-one (suc zero) h = refl
-pcc-of-one (suc (suc m)) h =
-    by-test (leb (suc (suc m)) mostSteps)
-    (λ t. absurd (omega (arith, h, ap pccIn (run-after _ _ (suc (suc m)) (before top-of-memory) top-good (leb-true (suc (suc m)) mostSteps t)), later-pcc m)))
-    (λ t. absurd (omega (arith, h, ap pccIn (past t), pcc-before)))
-  where
-    past : leb (suc (suc m)) mostSteps ≡ false → ranTo (suc (suc m)) ≡ before top-of-memory
-    past t =
-        let r = too-many (boardIn top-of-memory) (top-of-memory .revoked ∷ []) (before top-of-memory) top-good (suc (suc m))
-        (leb-false (suc (suc m)) mostSteps t) in
-        refused-run (boardIn top-of-memory) (top-of-memory .revoked ∷ []) (before top-of-memory) (suc (suc m)) (λ z. omega (arith, r, z))
-
--- there is a start state from which no other number of steps leaves what one step leaves
-pub more-steps-shut-out : (n : ℕ) (after : State) (a b : RunAnswer) → RunFrom 1 top-of-memory after a → RunFrom n top-of-memory after b → n ≡ 1
-more-steps-shut-out n after a b p q =
-    let one = pcc-after after _ (run-of-one _ _ (before top-of-memory) after a p) in
-    pcc-of-one n (sym (ap (λ (l : List ℕ). getD l (pccIndex * 3) 0) (q .registers-are)) ∙ one)
+-- of every start state: no other number of steps leaves what n steps leave
+pub more-steps-shut-out : (board : Board) (revoked : List ℕ) (from after : State) → timeOf (from .regs) < 2 ^ 64
+    → (n m retired trapped retired' trapped' : ℕ) → RunPromise n board revoked from after (RunAnswer.Ran retired trapped)
+    → RunPromise m board revoked from after (RunAnswer.Ran retired' trapped') → m ≡ n
+more-steps-shut-out board revoked from after fits n m retired trapped retired' trapped' p q =
+    let x = ran-time board revoked from after n retired trapped p fits in
+    let y = ran-time board revoked from after m retired' trapped' q fits in
+    let a = ran-few board revoked from after n retired trapped p in
+    let b = ran-few board revoked from after m retired' trapped' q in
+    omega (arith, x, y, a, b, fits)

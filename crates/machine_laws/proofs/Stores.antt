@@ -45,7 +45,7 @@ pub store-changes-only : (board : Board) (revoked : List ℕ) (s : State) → st
 unfolding stepOf
 store-changes-only board revoked s h =
     let g = good-of board revoked s h in
-    applied-memory (lengthIn (fetchedIn board s)) (effectAt board revoked s) s (omega (arith, g .bits .tag-bytes, g .memory .blocks))
+    applied-memory (board .start) (lengthIn (fetchedIn board s)) (effectAt board revoked s) s (omega (arith, g .bits .tag-bytes, g .memory .blocks))
     (next-within board revoked s (g .memory .start-aligned)) (next-good board revoked s (g .words .tag-words))
 
 -- ---- where a tag comes from

@@ -1,5 +1,5 @@
 -- A trap changes no memory, no tag and no general register. Document 01, "Traps". Assumes nothing.
-use mathlib.Core.Path.{_≡_, refl}
+use mathlib.Core.Path.{_≡_, refl, _∙_}
 use mathlib.Core.Bool.{false, true≢false}
 use mathlib.Core.List.{List}
 use Prim.Native.Nat.{ℕ, _*_, _≤_, _<_}
@@ -16,6 +16,7 @@ use Rattle.state.specs.Lent.{State}
 use Rattle.commit.specs.Commit.{advanced, applyEffect, retires, trapped}
 use Rattle.execution.specs.Step.{lengthIn, fetchedIn, effectAt, stepOf}
 use Rattle.commit.specs.Touched.{SameMemory}
+use Rattle.commit.proofs.Records.{ticked-below}
 use Rattle.commit.proofs.Registers.{Holds, Rule, each-advanced, each-trapped}
 
 -- the words of c0 to c15 are those of a register file
@@ -51,19 +52,22 @@ pub record OnlySpecial (before after : State) : Type 0 where
   pub memory-stays : SameMemory before after
   pub registers-stay : (i : ℕ) → i < pccIndex * capabilityWords → getD (after .regs) i 0 ≡ getD (before .regs) i 0
 
-trap-applied : (n : ℕ) (e : Effect) (s : State) → retires e ≡ false → OnlySpecial s (applyEffect n e s)
+trap-applied : (start n : ℕ) (e : Effect) (s : State) → retires e ≡ false → OnlySpecial s (applyEffect start n e s)
 unfolding retires applyEffect
-trap-applied n Advance s h = absurd (true≢false h)
-trap-applied n (Write rd value) s h = absurd (true≢false h)
-trap-applied n (Store kind i value) s h = absurd (true≢false h)
-trap-applied n (StoreCapability i value) s h = absurd (true≢false h)
-trap-applied n (Jump rd link target mstatus) s h = absurd (true≢false h)
-trap-applied n (WriteScr rd old scr value) s h = absurd (true≢false h)
-trap-applied n (WriteCsr rd old csr value) s h = absurd (true≢false h)
-trap-applied n (Trap cause value) s h =
-    record { memory-stays = record { same-bytes = refl; same-tags = refl }; registers-stay = trapped-same (s .regs) cause value }
+trap-applied start n Advance s h = absurd (true≢false h)
+trap-applied start n (Write rd value) s h = absurd (true≢false h)
+trap-applied start n (Store kind i value) s h = absurd (true≢false h)
+trap-applied start n (StoreCapability i value) s h = absurd (true≢false h)
+trap-applied start n (Jump rd link target mstatus) s h = absurd (true≢false h)
+trap-applied start n (WriteScr rd old scr value) s h = absurd (true≢false h)
+trap-applied start n (WriteCsr rd old csr value) s h = absurd (true≢false h)
+trap-applied start n (Trap cause value) s h =
+    record {
+      memory-stays = record { same-bytes = refl; same-tags = refl };
+      registers-stay = λ i b. ticked-below (trapped (s .regs) cause value) i (omega arith) ∙ trapped-same (s .regs) cause value i b;
+    }
 
 -- a step that does not retire leaves memory, tags and all three words of c0 to c15 as they are
 pub trap-changes-little : (board : Board) (revoked : List ℕ) (s : State) → retires (effectAt board revoked s) ≡ false → OnlySpecial s (stepOf board revoked s)
 unfolding stepOf
-trap-changes-little board revoked s h = trap-applied (lengthIn (fetchedIn board s)) (effectAt board revoked s) s h
+trap-changes-little board revoked s h = trap-applied (board .start) (lengthIn (fetchedIn board s)) (effectAt board revoked s) s h

@@ -1,5 +1,5 @@
 -- Single steps, with the answer, the registers and the tag byte that they leave, in one table with one statement. Document 01, "Cases" and "Tempting
--- mistakes"; document 02, 3. Memory is 64 bytes, one tag byte.
+-- mistakes"; document 02, 3, 4 and 6. Memory is 64 bytes, one tag byte.
 -- Assumes nothing.
 use mathlib.Core.Bool.{Bool, true, _&&_}
 use mathlib.Core.List.{List, [], _∷_}
@@ -9,8 +9,8 @@ use lib.ListN.{getD, set, replicate}
 use Rattle.words.specs.Words.{set32}
 use Rattle.capability.specs.Capability.{capability, integer}
 use Rattle.capability.specs.declared.Capability.{Capability}
-use Rattle.state.specs.Layout.{capabilityWords, registerWords, pccIndex, mtccIndex, mepccIndex, csrIndex}
-use Rattle.instructions.specs.declared.Csr.the-variants.{Mstatus, Mcause, Mtval}
+use Rattle.state.specs.Layout.{capabilityWords, registerWords, pccIndex, mtccIndex, mepccIndex, csrIndex, timeIndex, compareIndex}
+use Rattle.instructions.specs.declared.Csr.the-variants.{Mstatus, Mcause, Mtval, Mshwm, Mshwmb}
 use Rattle.state.specs.declared.Board.{Board}
 use Rattle.state.specs.Registers.{setCapability}
 use Rattle.state.specs.Lent.{State, state}
@@ -29,12 +29,14 @@ p is v = record { place = p; value = v }
 abbrev pub register : (i : ℕ) → Capability → List Word → List Word
 register i c ws = (i * capabilityWords is c .address) ∷ (i * capabilityWords + 1 is c .metadata) ∷ (i * capabilityWords + 2 is c .tag) ∷ ws
 
--- a machine before a step, MTCC at the handler and its other words and bytes 0, and what the step leaves
+-- a machine before a step, MTCC at the handler, its other words and bytes 0 but for those given, and what the step leaves
 pub record Case : Type 0 where
   pub start : ℕ
   pub pcc : Capability
   pub c1 : Capability
   pub mstatus : ℕ
+  -- further words of the register file at the start
+  pub given : List Word
   -- the bytes at place 8
   pub held : Capability
   pub tags : ℕ
@@ -61,10 +63,16 @@ handler = execute 0x20000020
 abbrev pub boardIn : Case → Board
 boardIn c = record { start = c .start; window = record { start = 0; size = 64 } }
 
+-- a register file with further words
+unfoldable pub put : List Word → (regs : List ℕ) → List ℕ
+put [] regs = regs
+put (w ∷ ws) regs = put ws (set regs (w .place) (w .value))
+
 unfoldable pub before : Case → State
 before c =
     state
-    (setCapability (setCapability (setCapability (set (replicate registerWords 0) (csrIndex Mstatus) (c .mstatus)) 1 (c .c1)) pccIndex (c .pcc))
+    (setCapability
+    (setCapability (setCapability (put (c .given) (set (replicate registerWords 0) (csrIndex Mstatus) (c .mstatus))) 1 (c .c1)) pccIndex (c .pcc))
     mtccIndex handler)
     (set32 (set32 (set32 (replicate 64 0) 8 (c .held .address)) 12 (c .held .metadata)) (c .pcc .address - c .start) (c .instruction))
     (c .tags ∷ [])
@@ -85,6 +93,10 @@ unfoldable pub all : List Case → Bool
 all [] = true
 all (c ∷ cs) = holds c && all cs
 
+-- compare out of time's reach
+abbrev later : List Word
+later = (compareIndex + 1 is 1) ∷ []
+
 -- an instruction in a memory at 0x20000000, interrupts enabled; and at its start
 abbrev standing : (pcc c1 held : Capability) → (tags revoked instruction retired : ℕ) → List Word → (tagsAfter : ℕ) → Case
 standing pcc c1 held tags revoked instruction retired after tagsAfter =
@@ -93,6 +105,7 @@ standing pcc c1 held tags revoked instruction retired after tagsAfter =
       pcc = pcc;
       c1 = c1;
       mstatus = 8;
+      given = later;
       held = held;
       tags = tags;
       revoked = revoked;
@@ -104,6 +117,34 @@ standing pcc c1 held tags revoked instruction retired after tagsAfter =
 
 abbrev plain : (c1 held : Capability) → (tags revoked instruction retired : ℕ) → List Word → (tagsAfter : ℕ) → Case
 plain = standing (execute 0x20000000)
+
+-- an instruction in a memory at 0x20000000, with other words given
+abbrev timed : (pcc c1 : Capability) → (mstatus : ℕ) → (given : List Word) → (instruction retired : ℕ) → List Word → Case
+timed pcc c1 mstatus given instruction retired after =
+    record {
+      start = 0x20000000;
+      pcc = pcc;
+      c1 = c1;
+      mstatus = mstatus;
+      given = given;
+      held = integer 0;
+      tags = 0;
+      revoked = 0;
+      instruction = instruction;
+      retired = retired;
+      after = after;
+      tagsAfter = 0;
+    }
+
+-- time and compare, and the mark pair
+abbrev time-at : (low high : ℕ) → List Word → List Word
+time-at low high ws = (timeIndex is low) ∷ (timeIndex + 1 is high) ∷ ws
+
+abbrev compare-at : (low high : ℕ) → List Word → List Word
+compare-at low high ws = (compareIndex is low) ∷ (compareIndex + 1 is high) ∷ ws
+
+abbrev pair-at : (mark base : ℕ) → List Word → List Word
+pair-at mark base ws = (csrIndex Mshwm is mark) ∷ (csrIndex Mshwmb is base) ∷ ws
 
 -- the words of a trap: MEPCC, PCC at the handler, MPIE := MIE and MIE := 0, mcause and mtval
 abbrev trap : (mepcc : Capability) → (cause value : ℕ) → List Word
@@ -118,6 +159,7 @@ top-of-memory =
       pcc = capability 0xFFFFFFFC 0x5E100100 1;
       c1 = integer 0;
       mstatus = 0;
+      given = [];
       held = integer 0;
       tags = 0;
       revoked = 0;
@@ -185,4 +227,23 @@ cases =
     -- CLC c2, 8(c1) of a token in a revoked granule: U0 spares it, and one without is revoked (document 02, 4)
     ∷ plain (data-at 0x20000000) (token 0x48002210 1) 2 4 0x0080B103 1 (register 2 (token 0x48002210 1) []) 2
     ∷ plain (data-at 0x20000000) (token 0x40002210 1) 2 4 0x0080B103 1 (register 2 (token 0x40002210 0) []) 2
+    -- the timer's interrupt, before a fetch that would fail: time at compare; one below it; and with MIE clear (document 02, 6)
+    ∷ timed (integer 0x20000000) (integer 0) 8 (time-at 7 1 (compare-at 7 1 [])) 0x00000013 0
+    (time-at 8 1 (trap (integer 0x20000000) 0x80000007 0))
+    ∷ timed (execute 0x20000000) (integer 0) 8 (time-at 0xFFFFFFFF 0 (compare-at 0 1 [])) 0x00000013 1 (time-at 0 1 (register pccIndex (execute 0x20000004) []))
+    ∷ timed (execute 0x20000000) (integer 0) 0 (time-at 7 1 (compare-at 7 1 [])) 0x00000013 1 (time-at 8 1 (register pccIndex (execute 0x20000004) []))
+    -- time wraps, in a step that traps too
+    ∷ timed (execute 0x20000000) (integer 0) 0 (time-at 0xFFFFFFFF 0xFFFFFFFF []) 0x00000073 0 (time-at 0 0 [])
+    -- SW c0, 52(c1): below the mark by its low bits alone; at the mark; at the base; and below the base
+    ∷ timed (execute 0x20000000) (data-at 0x20000000) 0 (pair-at 0x20000035 0x20000000 []) 0x0200AA23 1 (pair-at 0x20000030 0x20000000 [])
+    ∷ timed (execute 0x20000000) (data-at 0x20000000) 0 (pair-at 0x20000034 0x20000000 []) 0x0200AA23 1 (pair-at 0x20000034 0x20000000 [])
+    ∷ timed (execute 0x20000000) (data-at 0x20000000) 0 (pair-at 0x20000040 0x20000034 []) 0x0200AA23 1 (pair-at 0x20000030 0x20000034 [])
+    ∷ timed (execute 0x20000000) (data-at 0x20000000) 0 (pair-at 0x20000040 0x20000035 []) 0x0200AA23 1 (pair-at 0x20000040 0x20000035 [])
+    -- the same store through an untagged c1 traps and moves nothing
+    ∷ timed (execute 0x20000000) (integer 0x20000000) 0 (pair-at 0x20000040 0x20000000 []) 0x0200AA23 0 (pair-at 0x20000040 0x20000000 [])
+    -- CSRRS c2, mshwm, c0 writes nothing; CSRRS c2, mshwm, c3 with 0 in c3, and CSRRW c2, mshwmb, c1, write without the low four bits
+    ∷ timed (execute 0x20000000) (integer 0) 0 (pair-at 0x2000003F 0x20000007 []) 0xBC102173 1 (register 2 (integer 0x2000003F) (pair-at 0x2000003F 0x20000007 []))
+    ∷ timed (execute 0x20000000) (integer 0) 0 (pair-at 0x2000003F 0x20000007 []) 0xBC11A173 1 (register 2 (integer 0x2000003F) (pair-at 0x20000030 0x20000007 []))
+    ∷ timed (execute 0x20000000) (integer 0x1234567F) 0 (pair-at 0x2000003F 0x20000007 []) 0xBC209173 1
+    (register 2 (integer 0x20000007) (pair-at 0x2000003F 0x12345670 []))
     ∷ []

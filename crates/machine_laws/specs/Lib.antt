@@ -6,3 +6,4 @@ pub mod Integers
 pub mod Cases
 pub mod Fits
 pub mod Short
+pub mod Timer

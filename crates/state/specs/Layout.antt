@@ -1,7 +1,7 @@
--- The register file: where each word stands. Document 01, "What is lent". Every place follows from four counts. Assumes nothing.
+-- The register file: where each word stands. Document 01, "What is lent"; document 02, 6. Every place follows from these counts. Assumes nothing.
 use Prim.Native.Nat.{ℕ, _+_, _*_}
 use Rattle.instructions.specs.declared.Csr.{Csr}
-use Rattle.instructions.specs.declared.Csr.the-variants.{Mstatus, Mcause, Mtval}
+use Rattle.instructions.specs.declared.Csr.the-variants.{Mstatus, Mcause, Mtval, Mshwm, Mshwmb}
 use Rattle.instructions.specs.declared.Scr.{Scr}
 use Rattle.instructions.specs.declared.Scr.the-variants.{Mtcc, Mtdc, Mscratchc, Mepcc}
 
@@ -19,16 +19,20 @@ specialCount = 5
 abbrev pub capabilityCount : ℕ
 capabilityCount = generalCount + specialCount
 
--- mstatus, mcause, mtval
+-- mstatus, mcause, mtval, then the mark pair, mshwm and mshwmb
 abbrev pub controlCount : ℕ
-controlCount = 3
+controlCount = 5
+
+-- time and compare, each in two words, the low one first
+abbrev pub timerCount : ℕ
+timerCount = 4
 
 -- the first word above the capabilities, and how many words there are
 abbrev pub controlStart : ℕ
 controlStart = capabilityCount * capabilityWords
 
 abbrev pub registerWords : ℕ
-registerWords = controlStart + controlCount
+registerWords = controlStart + controlCount + timerCount
 
 -- the places of PCC and the special registers among the capabilities
 abbrev pub pccIndex : ℕ
@@ -64,3 +68,12 @@ abbrev pub csrIndex : Csr → ℕ
 csrIndex Mstatus = controlStart
 csrIndex Mcause = controlStart + 1
 csrIndex Mtval = controlStart + 2
+csrIndex Mshwm = controlStart + 3
+csrIndex Mshwmb = controlStart + 4
+
+-- the places of the timer's low words; no instruction names one
+abbrev pub timeIndex : ℕ
+timeIndex = controlStart + controlCount
+
+abbrev pub compareIndex : ℕ
+compareIndex = timeIndex + 2

@@ -2,6 +2,8 @@ pub mod Layout
 pub mod Registers
 pub mod Addresses
 pub mod Status
+pub mod Marks
+pub mod Timer
 pub mod Lent
 pub mod Memory
 pub mod Checks

@@ -42,5 +42,7 @@ pub fn csr_index(csr: Csr) -> usize
         Csr::Mstatus => CONTROL_START,
         Csr::Mcause => CONTROL_START + 1,
         Csr::Mtval => CONTROL_START + 2,
+        Csr::Mshwm => CONTROL_START + 3,
+        Csr::Mshwmb => CONTROL_START + 4,
     }
 }

@@ -2,9 +2,11 @@
 mod addresses;
 mod checks;
 mod layout;
+mod marks;
 mod memory;
 mod registers;
 mod status;
+mod timer;
 
 pub use addresses::return_address;
 pub use addresses::vector;
@@ -21,6 +23,8 @@ use instructions::StoreKind;
 pub use layout::csr_index;
 pub use layout::scr_index;
 pub use layout::scr_number;
+pub use marks::clear_low;
+pub use marks::move_mark;
 pub use memory::capability_in;
 pub use memory::load_width;
 pub use memory::place_of;
@@ -39,19 +43,28 @@ pub use status::return_status;
 pub use status::trap_status;
 pub use status::with_mie;
 pub use status::written_status;
+pub use timer::interrupt_due;
+pub use timer::tick;
 
-// The words of a capability in the register file, how many capabilities and control words it holds, and so how many words it has.
+// The words of a capability in the register file, how many capabilities, control words and words of the timer it holds, and so how many words it has.
 pub const CAPABILITY_WORDS: usize = 3;
 
 pub const GENERAL_COUNT: u32 = 16;
 
 pub const CAPABILITY_COUNT: usize = 21;
 
-pub const CONTROL_COUNT: usize = 3;
+pub const CONTROL_COUNT: usize = 5;
+
+pub const TIMER_COUNT: usize = 4;
 
 pub const CONTROL_START: usize = CAPABILITY_COUNT * CAPABILITY_WORDS;
 
-pub const REGISTER_WORDS: usize = CONTROL_START + CONTROL_COUNT;
+pub const REGISTER_WORDS: usize = CONTROL_START + CONTROL_COUNT + TIMER_COUNT;
+
+// The places of time's and compare's low words.
+pub const TIME_INDEX: usize = CONTROL_START + CONTROL_COUNT;
+
+pub const COMPARE_INDEX: usize = TIME_INDEX + 2;
 
 // The places of PCC and the special registers among the capabilities.
 pub const PCC_INDEX: u32 = GENERAL_COUNT;
@@ -99,6 +112,8 @@ pub const STORE_FAULT: u32 = 7;
 pub const ENVIRONMENT_CALL: u32 = 11;
 
 pub const CAPABILITY_FAULT: u32 = 28;
+
+pub const TIMER_INTERRUPT: u32 = 0x8000_0007;
 
 // The causes of capability traps, 0 for none, and PCC's number in mtval.
 pub const NO_CAUSE: u32 = 0;

@@ -1,6 +1,7 @@
 // What FENCE, WFI, ECALL, EBREAK, the CSR instructions and CSpecialRW do.
 ghost use mathlib.Core.Path.{_≡_};
-ghost use Rattle.system_instructions.specs.System.{csrAsked, csrWritten, csrEffect, scrValue, specialWrite, specialEffect, systemEffect};
+ghost use Rattle.system_instructions.specs.System.{csrAsked, csrWritten, csrWrites, csrWrite, csrEffect, scrValue, specialWrite};
+ghost use Rattle.system_instructions.specs.System.{specialEffect, systemEffect};
 use capability::Capability;
 use instructions::Csr;
 use instructions::CsrKind;
@@ -31,11 +32,43 @@ fn csr_written(csr: Csr, old: u32, asked: u32) -> u32
         Csr::Mstatus => state::written_status(old, asked),
         Csr::Mcause => asked,
         Csr::Mtval => asked,
+        Csr::Mshwm => state::clear_low(asked),
+        Csr::Mshwmb => state::clear_low(asked),
     }
 }
 
-fn csr_effect(kind: CsrKind, csr: Csr, rd: u32, operand: u32, regs: &[u32]) -> Effect
-    ensures { λ r. ⌜ r ≡ csrEffect kind csr rd operand (now (regs .entry)) ⌝ }
+// Whether there is a write at all, by the register or the immediate that is named.
+fn csr_writes(kind: CsrKind, named: u32) -> bool
+    ensures { λ r. ⌜ r ≡ csrWrites kind named ⌝ }
+{
+    match kind {
+        CsrKind::Csrrw => true,
+        CsrKind::Csrrs => named != 0,
+        CsrKind::Csrrc => named != 0,
+    }
+}
+
+// The read, and the write where there is one.
+fn csr_write(writes: bool, csr: Csr, rd: u32, old: u32, value: u32) -> Effect
+    ensures { λ r. ⌜ r ≡ csrWrite writes csr rd old value ⌝ }
+{
+    if writes {
+        Effect::WriteCsr {
+            rd,
+            old,
+            csr,
+            value,
+        }
+    } else {
+        Effect::Write {
+            rd,
+            value: capability::integer(old),
+        }
+    }
+}
+
+fn csr_effect(kind: CsrKind, csr: Csr, rd: u32, named: u32, operand: u32, regs: &[u32]) -> Effect
+    ensures { λ r. ⌜ r ≡ csrEffect kind csr rd named operand (now (regs .entry)) ⌝ }
 {
     let old = state::csr_at(regs, csr);
     let value = csr_written(csr, old, csr_asked(kind, old, operand));
@@ -43,12 +76,7 @@ fn csr_effect(kind: CsrKind, csr: Csr, rd: u32, operand: u32, regs: &[u32]) -> E
     state::checked_effect(
         PCC_REGISTER,
         access,
-        Effect::WriteCsr {
-            rd,
-            old,
-            csr,
-            value,
-        },
+        csr_write(csr_writes(kind, named), csr, rd, old, value),
     )
 }
 
@@ -109,14 +137,21 @@ pub fn system_effect(i: SystemInstruction, regs: &[u32]) -> Effect
             value: 0,
         },
         SystemInstruction::CsrRegister { kind, csr, rd, rs1 } => {
-            csr_effect(kind, csr, rd, state::integer_at(regs, rs1), regs)
+            csr_effect(
+                kind,
+                csr,
+                rd,
+                rs1 % GENERAL_COUNT,
+                state::integer_at(regs, rs1),
+                regs,
+            )
         }
         SystemInstruction::CsrImmediate {
             kind,
             csr,
             rd,
             value,
-        } => csr_effect(kind, csr, rd, value, regs),
+        } => csr_effect(kind, csr, rd, value, value, regs),
         SystemInstruction::SpecialRw { scr, rd, rs1 } => special(scr, rd, rs1, regs),
     }
 }

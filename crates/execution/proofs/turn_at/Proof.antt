@@ -5,14 +5,12 @@ use Rattle.execution.proofs.turn_at.Tie as tie
 
 returns : tie.Need-returns
 returns c =
-    let fetch = c .before .before in
-    simp (c .effect-in .ensures, c .before .length-in .ensures, fetch .fetch .ensures, fetch .before .pcc-of .ensures)
+    simp (c .effect-in .ensures, c .before .length-in .ensures, c .before .before .met-at .ensures)
 
 pub turn-at-spec : {M : Type 1} → statement M
 turn-at-spec =
     tie.close
     (tie.spec
-    (λ c κs. search needs)
     (λ c κs. search needs)
     (λ c κs. search needs)
     (λ c κs. search needs)

@@ -6,20 +6,25 @@ use Rattle.system_instructions.proofs.csr_effect.Tie as tie
 returns : tie.Need-returns
 unfolding csrEffect
 returns c =
-    let c3 = c .before .before .before in
+    let access = c .before .before .before in
+    let written = access .before .before in
     simp (
       c .checked-effect .ensures,
-      c .before .system-access .ensures,
-      c .before .before .pcc-of .ensures,
-      c3 .csr-written .ensures,
-      c3 .before .csr-asked .ensures,
-      c3 .before .before .csr-at .ensures,
+      c .before .csr-write .ensures,
+      c .before .before .csr-writes .ensures,
+      access .system-access .ensures,
+      access .before .pcc-of .ensures,
+      written .csr-written .ensures,
+      written .before .csr-asked .ensures,
+      written .before .before .csr-at .ensures,
     )
 
 pub csr-effect-spec : {M : Type 1} → statement M
 csr-effect-spec =
     tie.close
     (tie.spec
+    (λ c κs. search needs)
+    (λ c κs. search needs)
     (λ c κs. search needs)
     (λ c κs. search needs)
     (λ c κs. search needs)

@@ -15,6 +15,14 @@ returns-3 : tie.Need-returns-3
 unfolding csrWritten
 returns-3 c = simp (c .enum-told3 .given .1)
 
+returns-4 : tie.Need-returns-4
+unfolding csrWritten
+returns-4 c = simp (c .clear-low .ensures, c .before .enum-told4 .given .1)
+
+returns-5 : tie.Need-returns-5
+unfolding csrWritten
+returns-5 c = simp (c .clear-low2 .ensures, c .before .enum-told5 .given .1)
+
 pub csr-written-spec : {M : Type 1} → statement M
 csr-written-spec =
     tie.close
@@ -23,6 +31,12 @@ csr-written-spec =
     (λ c κs. search needs)
     (λ c. search needs)
     (λ c. search needs)
+    (λ c. search needs)
+    (λ c κs. search needs)
+    (λ c. search needs)
+    (λ c κs. search needs)
     returns
     returns-2
-    returns-3)
+    returns-3
+    returns-4
+    returns-5)

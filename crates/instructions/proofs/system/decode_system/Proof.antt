@@ -31,10 +31,24 @@ returns-4 c =
     let at-funct3 = c .before .before in
     rw (ne-eqb (at-funct3 .before .args .f3) 0 (at-funct3 .match .rest .1), c .before .match2 .keys3) (c .decode-csr3 .ensures)
 
--- illegal
+-- Mshwm
 returns-5 : tie.Need-returns-5
 unfolding systemOf
-returns-5 c = search tests
+returns-5 c =
+    let at-funct3 = c .before .before in
+    rw (ne-eqb (at-funct3 .before .args .f3) 0 (at-funct3 .match .rest .1), c .before .match2 .keys4) (c .decode-csr4 .ensures)
+
+-- Mshwmb
+returns-6 : tie.Need-returns-6
+unfolding systemOf
+returns-6 c =
+    let at-funct3 = c .before .before in
+    rw (ne-eqb (at-funct3 .before .args .f3) 0 (at-funct3 .match .rest .1), c .before .match2 .keys5) (c .decode-csr5 .ensures)
+
+-- illegal
+returns-7 : tie.Need-returns-7
+unfolding systemOf
+returns-7 c = search tests
 
 pub decode-system-spec : {M : Type 1} → statement M
 decode-system-spec =
@@ -48,4 +62,8 @@ decode-system-spec =
     returns-3
     (λ c κs. tt)
     returns-4
-    returns-5)
+    (λ c κs. tt)
+    returns-5
+    (λ c κs. tt)
+    returns-6
+    returns-7)
