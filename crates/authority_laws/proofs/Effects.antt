@@ -47,7 +47,7 @@ use Rattle.memory_instructions.specs.Access.{loadAt, loadEffect, storeAt, store
 use Rattle.memory_instructions.specs.Access.{storeCapabilityAt, storeCapabilityEffect, addressOf, memoryEffect}
 use Rattle.capability_instructions.specs.Derivation.{combined, globalPointer, capabilityEffect}
 use Rattle.system_instructions.specs.System.{csrEffect, scrValue, specialWrite, specialEffect, systemEffect}
-use Rattle.system_instructions.proofs.Laws.{scr-in-file}
+use Rattle.system_instructions.proofs.Laws.{scr-in-file, csr-holds}
 use Rattle.execution.specs.Step.{effectOf}
 use Rattle.authority_laws.proofs.Operations.{From, from-both, keep-from, type-from, seal-from, unseal-from, narrow-from, loaded-from, move-from}
 use Rattle.authority_laws.proofs.Operations.{legalized-from, set-bounds-from, set-bounds-exact-from}
@@ -157,8 +157,8 @@ module _ (P : Capability → Type 0) (closed : Closed P) where
     system-carried System.Wfi = tt
     system-carried System.Ecall = tt
     system-carried System.Ebreak = tt
-    system-carried (System.CsrRegister kind csr rd rs1) = passes _ _ _ tt
-    system-carried (System.CsrImmediate kind csr rd value) = passes _ _ _ tt
+    system-carried (System.CsrRegister kind csr rd rs1) = passes _ _ _ (csr-holds (EachCapability P) _ csr rd _ _ tt (number _))
+    system-carried (System.CsrImmediate kind csr rd value) = passes _ _ _ (csr-holds (EachCapability P) _ csr rd _ _ tt (number _))
     system-carried (System.SpecialRw scr rd rs1) =
         passes _ _ _
         (special-carried scr rd rs1 _ _ (scr-carried scr (capabilityAt regs (scrIndex scr)) (holds .file (scrIndex scr) (scr-in-file scr)))

@@ -18,6 +18,8 @@ use Rattle.state.specs.Lent.{State, state}
 use Rattle.state.specs.Memory.{capabilityIn}
 use Rattle.state.specs.Checks.{environmentCall}
 use Rattle.state.specs.declared.Effect.the-variants.{Write}
+use Rattle.state.specs.Marks.{cleared, belowMark, marked}
+use Rattle.state.specs.Timer.{timeOf, ticked}
 use Rattle.commit.specs.Commit.{advanced, trapped, stored, applyEffect}
 use Rattle.authority_laws.specs.Gain.{in-register, in-granule, Held, NoGain}
 use Rattle.authority_laws.specs.Worked.{code, room, kept, noHandler, noSealed, noStored, worked}
@@ -44,11 +46,11 @@ module _ (a : State) (c : Capability) (held : Held a c) (past : T (ltb top (high
 
 -- a value that is written to c2
 abbrev written : Capability → State
-written c = applyEffect longBytes (Write 2 c) worked
+written c = applyEffect 0x20000000 longBytes (Write 2 c) worked
 
 module _ (c : Capability) (set : c .tag ≡ 1) where
   held-in-c2 : Held (written c) c
-  unfolding worked applyEffect writeRegister advanced setCapability capabilityAt
+  unfolding worked applyEffect ticked timeOf belowMark marked cleared writeRegister advanced setCapability capabilityAt
   held-in-c2 = record { stands = in-register 2 (omega arith) refl; is-tagged = set }
 
 -- a move that keeps the tag though the bounds change: c1 to 0x20000200

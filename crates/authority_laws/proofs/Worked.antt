@@ -22,9 +22,11 @@ use Rattle.state.specs.Checks.{checked, accessCause}
 use Rattle.memory_instructions.specs.Access.{revokedValue, filtered, loadCapabilityAt, loadCapabilityEffect}
 use Rattle.memory_instructions.specs.Access.{storeCapabilityCheck, storeCapabilityAt, storeCapabilityEffect, memoryEffect}
 use Rattle.capability_instructions.specs.Derivation.{equalExact, capabilityEffect}
+use Rattle.state.specs.Marks.{cleared, belowMark, marked}
+use Rattle.state.specs.Timer.{timeOf, compareOf, interrupted, ticked}
 use Rattle.commit.specs.Commit.{advanced, retagged, storedCapability, applyEffect, retires}
 use Rattle.fetch.specs.Fetch.{secondOf, standsOf, fetchedAt, fetchOf}
-use Rattle.execution.specs.Step.{effectOf, instructionIn, wordIn, lengthIn, trapOr, effectIn, stepOf}
+use Rattle.execution.specs.Step.{metOf, effectOf, instructionIn, wordIn, lengthIn, trapOr, effectIn, stepOf}
 use Rattle.machine.specs.Refusals.{goodMemory, goodWindow, goodTags, goodZero, goodWords, goodBits, refusalOf}
 use Rattle.machine.specs.Run.{oneMore, iterate, runAfter}
 use Rattle.authority_laws.specs.Gain.{in-register, in-granule, Held, Start, Derived}
@@ -63,7 +65,8 @@ record Computed : Type 0 where
   size-is : length (ended .mem) ≡ 64
 
 computed : Computed
-unfolding worked runAfter iterate oneMore refusalOf goodMemory goodTags goodZero goodWords goodWindow goodBits stepOf effectIn trapOr lengthIn
+unfolding worked runAfter iterate oneMore refusalOf goodMemory goodTags goodZero goodWords goodWindow goodBits stepOf metOf interrupted timeOf compareOf
+    ticked cleared belowMark marked effectIn trapOr lengthIn
     instructionIn wordIn fetchOf fetchedAt standsOf secondOf effectOf applyEffect retires setCapability writeRegister advanced retagged
     storedCapability revokedValue filtered loadCapabilityAt loadCapabilityEffect storeCapabilityCheck storeCapabilityAt storeCapabilityEffect
     memoryEffect capabilityEffect checked accessCause placeOf capabilityIn revocationAt capabilityAt integerAt loadOf storeOf capabilityOf decodeOf
