@@ -19,6 +19,11 @@ pub const TIME: usize = 68;
 pub const COMPARE: usize = 70;
 pub const WORDS: usize = 72;
 
+/// The bit of mstatus that enables interrupts.
+pub const MIE: u32 = 1 << 3;
+/// mcause of the machine timer interrupt.
+pub const TIMER_INTERRUPT: u32 = 0x8000_0007;
+
 /// The names of the capabilities from PCC on.
 pub const SPECIAL: [&str; 5] = ["PCC", "MTCC", "MTDC", "MScratchC", "MEPCC"];
 /// The names of the words from mstatus on.
@@ -28,10 +33,10 @@ pub const CONTROL: [&str; WORDS - MSTATUS] = [
     "mtval",
     "mshwm",
     "mshwmb",
-    "time low",
-    "time high",
-    "compare low",
-    "compare high",
+    "time_low",
+    "time_high",
+    "compare_low",
+    "compare_high",
 ];
 
 // The metadata of the roots; each has type 0 and the whole address space for bounds.
@@ -100,8 +105,8 @@ mod tests {
             (MTVAL, "mtval"),
             (MSHWM, "mshwm"),
             (MSHWMB, "mshwmb"),
-            (TIME, "time low"),
-            (COMPARE + 1, "compare high"),
+            (TIME, "time_low"),
+            (COMPARE + 1, "compare_high"),
             (WORDS, "word 72"),
         ];
         for (index, name) in named {
