@@ -46,16 +46,18 @@ pub fn stack(state: &State, stack: Option<Stack>) -> String {
         return String::new();
     };
     let Used { mark, base, .. } = used;
+    let above = format!("{} above its base {base:08x}", count(used.left, "byte"));
+    let above = match used.from_start {
+        true => String::new(),
+        false => format!(", {above}"),
+    };
     match used.bytes {
-        Some((0, size)) => format!("Stack: none of {} used.\n", count(size, "byte")),
+        Some((0, size)) => format!("Stack: none of {} used{above}.\n", count(size, "byte")),
         Some((bytes, size)) => {
             let (bytes, size) = (grouped(bytes), count(size, "byte"));
-            format!("Stack: {bytes} of {size} used, down to {mark:08x}.\n")
+            format!("Stack: {bytes} of {size} used, down to {mark:08x}{above}.\n")
         }
-        None => {
-            let left = count(used.left, "byte");
-            format!("Stack: used down to {mark:08x}, {left} above its base {base:08x}.\n")
-        }
+        None => format!("Stack: used down to {mark:08x}{above}.\n"),
     }
 }
 

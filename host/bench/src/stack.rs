@@ -70,6 +70,8 @@ pub struct Used {
     pub left: u64,
     /// The bytes that were used and those of the stack, if its end is known and the mark is its own.
     pub bytes: Option<(u64, u64)>,
+    /// Whether the base is the stack's start.
+    pub from_start: bool,
 }
 
 impl Used {
@@ -82,6 +84,7 @@ impl Used {
             base,
             left: mark.saturating_sub(base).into(),
             bytes,
+            from_start: stack.is_some_and(|stack| stack.start == base),
         })
     }
 }
@@ -111,6 +114,8 @@ mod tests {
         assert_eq!(left(0x2000_0800), Some((896, None)));
         assert_eq!(left(0x2000_0400), Some((0, None)));
         assert_eq!(used(Some(stack), 0, 0), None);
+        let from_start = |base| used(Some(stack), 0x2000_0500, base).unwrap().from_start;
+        assert_eq!([0x2000_0480, 0x2000_0490].map(from_start), [true, false]);
     }
 
     #[test]

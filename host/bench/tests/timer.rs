@@ -264,7 +264,7 @@ fn a_mark_without_a_known_stack_is_told_by_its_base() {
     )
     .unwrap();
     let mapped = ["run", "--state", "start", "--map", "map"];
-    let said = "Stack: 96 of 128 bytes used, down to 20000040.";
+    let said = "Stack: 96 of 128 bytes used, down to 20000040, 31 bytes above its base 20000021.";
     let answer = bench_in(&directory, &mapped);
     assert!(
         answer.out.lines().any(|line| line == said),
