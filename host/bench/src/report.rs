@@ -46,10 +46,9 @@ pub fn stack(state: &State, stack: Option<Stack>) -> String {
         return String::new();
     };
     let Used { mark, base, .. } = used;
-    let above = format!("{} above its base {base:08x}", count(used.left, "byte"));
-    let above = match used.from_start {
+    let above = match used.from_start && used.bytes.is_some() {
         true => String::new(),
-        false => format!(", {above}"),
+        false => format!(", {} above its base {base:08x}", count(used.left, "byte")),
     };
     match used.bytes {
         Some((0, size)) => format!("Stack: none of {} used{above}.\n", count(size, "byte")),

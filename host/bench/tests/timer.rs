@@ -257,7 +257,17 @@ fn a_mark_without_a_known_stack_is_told_by_its_base() {
         [&value["state"]["mshwm"], &value["state"]["mshwmb"]],
         [&json!(START + 0x40), &json!(START + 0x21)]
     );
-    // A saved state keeps its own mark, whatever the map says; the map says where the stack ends.
+}
+
+#[test]
+fn a_saved_state_keeps_its_own_mark() {
+    let directory = directory("timer_own_mark");
+    let mut state = with_code(&[store(2, 0x44), EBREAK]);
+    state.set(2, Capability::tagged(START, MEMORY_ROOT));
+    state.regs[MSHWM] = START + 0x83;
+    state.regs[MSHWMB] = START + 0x21;
+    write(&directory, &state);
+    // The map says where the stack ends.
     std::fs::write(
         directory.join("map"),
         "region\tstack\t20000020\t00000080\trw\n",

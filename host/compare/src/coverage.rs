@@ -324,27 +324,42 @@ impl Coverage {
             self.misread += u64::from(misread);
             return;
         };
-        if let Aim::Store(_) = table.rows[index].aim {
-            let places = mark::places(before, word, retired);
-            for (count, place) in self.stores[index].iter_mut().zip(places) {
-                *count += u64::from(place);
-            }
+        self.count_mark(&table.rows[index], index, before, (word, retired));
+        if retired {
+            self.count_retired(&table.rows[index], index, word, [before, after]);
+        } else {
+            self.rows[index][column] += 1;
         }
+    }
+
+    /// Counts where a store lies by the mark, and what a CSR instruction writes to the mark or its base.
+    fn count_mark(&mut self, row: &Row, index: usize, before: &State, step: (u32, bool)) {
+        let (word, retired) = step;
+        match row.aim {
+            Aim::Store(_) => {
+                let places = mark::places(before, word, retired);
+                for (count, place) in self.stores[index].iter_mut().zip(places) {
+                    *count += u64::from(place);
+                }
+            }
+            Aim::Mark if retired => {
+                if let Some(source) = mark::source(before, row.form, word) {
+                    self.sources[index][source] += 1;
+                }
+            }
+            _ => {}
+        }
+    }
+
+    /// Counts a word that retired.
+    fn count_retired(&mut self, row: &Row, index: usize, word: u32, states: [&State; 2]) {
+        let [before, after] = states;
         let counts = &mut self.rows[index];
-        if !retired {
-            counts[column] += 1;
-            return;
-        }
         counts[Outcome::Retired.column()] += 1;
-        if table.rows[index].aim == Aim::Mark {
-            if let Some(source) = mark::source(before, table.rows[index].form, word) {
-                self.sources[index][source] += 1;
-            }
-        }
         if let Some(pair) = pair_of_extremes(before, word) {
             self.pairs[index][pair] += 1;
         }
-        if table.rows[index].aim == Aim::Load(8) {
+        if row.aim == Aim::Load(8) {
             if let Some(question) = filter::question(before, word) {
                 self.filter[question] += 1;
             }
@@ -352,7 +367,7 @@ impl Coverage {
                 self.places[place] += 1;
             }
         }
-        if let Some(more) = retired_how(&table.rows[index], word, before, after) {
+        if let Some(more) = retired_how(row, word, before, after) {
             counts[more.column()] += 1;
         }
     }
