@@ -34,7 +34,7 @@ cat <<'TEXT'
 
 The same image without its label has to be run to find out. On the large board it runs to its end.
 TEXT
-board large | sed -n 1,3p
+board large | sed -n 1,4p
 large=${PIPESTATUS[0]}
 
 cat <<'TEXT'

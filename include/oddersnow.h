@@ -59,8 +59,9 @@ uint32_t oddersnow_calls(uint32_t address, uint32_t metadata, uint32_t tag,
 
 /* One step of the machine, and a run of `steps` steps. What is lent:
  *
- *   regs     66 words: the capabilities c0 to c15, PCC, MTCC, MTDC, MScratchC and MEPCC, each as address,
- *            metadata and tag (0 or 1), then mstatus, mcause and mtval
+ *   regs     72 words: the capabilities c0 to c15, PCC, MTCC, MTDC, MScratchC and MEPCC, each as address,
+ *            metadata and tag (0 or 1), then mstatus, mcause, mtval, mshwm and mshwmb (the stack's high-water
+ *            mark and its base), then time and compare, each as its low word and its high word
  *   start    the address of mem[0], a multiple of 8
  *   mem      64 to 1,048,576 bytes, a multiple of 64, ending at 2^32 at the most
  *   tags     mem_len / 64 bytes: bit i % 8 of byte i / 8 is the tag of the 8 bytes from mem[8 * i] on
@@ -71,12 +72,15 @@ uint32_t oddersnow_calls(uint32_t address, uint32_t metadata, uint32_t tag,
  * The answer is number * 2^48 + trapped * 2^24 + retired, with the counts of the steps that trapped and of
  * those that retired; oddersnow_number and the two below take it apart. The number is
  *
- *   1  regs_len is not 66                   4  a tag word is above 1, or c0 is not all zero
+ *   1  regs_len is not 72                   4  a tag word is above 1, or c0 is not all zero
  *   2  start, mem_len or the window breaks  5  a run asks for more than 1,000,000 steps
  *      its limits
  *   3  tags_len is not mem_len / 64, or revoked_len is not window_size / 64
  *
  * and the lowest wins. Where it is not 0, nothing is changed and both counts are 0.
+ *
+ * Time is one more after each step, whatever the step did, and 0 after 2^64 - 1. Where MIE is set and time is at least
+ * compare, a step is the timer interrupt and nothing else: a trapped step with mcause 0x80000007 and mtval 0.
  */
 uint64_t oddersnow_step(uint32_t *regs, size_t regs_len, uint32_t start,
                         uint8_t *mem, size_t mem_len, uint8_t *tags, size_t tags_len,

@@ -28,7 +28,7 @@ static uint32_t tag_after_move(uint32_t to)
 static void last_instruction(void)
 {
     uint32_t kinds[3] = {2, 1, 2}, values[3] = {0xFFFFF000, 0x1000, 0xFFFFFFFC}, out[9];
-    uint32_t regs[66] = {0}, before[66];
+    uint32_t regs[72] = {0}, before[72];
     uint8_t mem[64] = {0}, tags[1] = {0}, revoked[1] = {0};
     check("the PCC of the last page", oddersnow_calls(0, 0x5E3E0000, 1, kinds, 3, values, 3, out, 9) == 0 && out[8] == 1);
     check("its low bound", oddersnow_bounds_low(out[6], out[7]) == 0xFFFFF000);
@@ -36,9 +36,11 @@ static void last_instruction(void)
     memcpy(&regs[48], &out[6], 12);
     mem[60] = 0x13; /* ADDI x0, x0, 0 */
     memcpy(before, regs, sizeof regs);
-    check("a no-op at 0xFFFFFFFC retires", oddersnow_step(regs, 66, 0xFFFFFFC0, mem, 64, tags, 1, 0, 64, revoked, 1) == 1);
+    check("a no-op at 0xFFFFFFFC retires", oddersnow_step(regs, 72, 0xFFFFFFC0, mem, 64, tags, 1, 0, 64, revoked, 1) == 1);
     check("the next PCC is untagged at 0", regs[48] == 0 && regs[49] == before[49] && regs[50] == 0);
     memcpy(&regs[48], &before[48], 12);
+    check("time is one more", regs[68] == 1);
+    regs[68] = 0;
     check("and nothing else changed", memcmp(regs, before, sizeof regs) == 0);
 }
 

@@ -56,6 +56,16 @@ pub struct Run {
     /// map's region heap, else all of memory]
     #[arg(long, value_names = ["START", "SIZE"], num_args = 2, value_parser = word, conflicts_with = "state")]
     pub window: Option<Vec<u32>>,
+    /// The stack that the mark is set for, by its first address and its bytes [default: the map's region
+    /// stack, else none]
+    #[arg(long, value_names = ["START", "SIZE"], num_args = 2, value_parser = word, conflicts_with = "state")]
+    pub stack: Option<Vec<u32>>,
+    /// The time at the start, which goes on by one a step [default: 0, or the saved state's]
+    #[arg(long, value_name = "NUMBER", value_parser = number)]
+    pub time: Option<u64>,
+    /// The time from which on the timer interrupts where MIE is set [default: 2^64 - 1, or the saved state's]
+    #[arg(long, value_name = "NUMBER", value_parser = number)]
+    pub compare: Option<u64>,
     /// The address of the first instruction, even [default: the image's, else memory's start]
     #[arg(long, value_parser = even, conflicts_with = "state")]
     pub entry: Option<u32>,

@@ -10,6 +10,7 @@ use crate::capability_text::{length, region, rights, type_words};
 use crate::names::Names;
 use crate::proved::{self, Refusal};
 use crate::sheet::Bad;
+use crate::stack::Stack;
 use crate::trap::Trap;
 use crate::{complain, file, json, report, state_file, Status};
 use lent::{Capability, State};
@@ -80,6 +81,7 @@ fn read_state(path: &Path) -> Result<State, String> {
 
 fn explained(asked: &Explain) -> Result<Status, String> {
     let map = asked.map.as_deref().map(crate::sheet::read).transpose()?;
+    let stack = map.as_ref().and_then(Stack::of_map);
     let names = map.map_or(Names::default(), |map| Names(map.names()));
     let mut state = read_state(&asked.state)?;
     if let Err(refusal) = proved::run(&mut state, 0) {
@@ -87,12 +89,15 @@ fn explained(asked: &Explain) -> Result<Status, String> {
     }
     let trap = Trap::recorded(&state);
     if asked.json {
-        say_json(&json::explained(&state, trap.as_ref(), &names))?;
+        let mut value = json::explained(&state, trap.as_ref(), &names);
+        value["stack"] = json::stack(&state, stack);
+        say_json(&value)?;
     } else {
         let last = trap.map_or("No trap is recorded.\n".into(), |trap| {
             report::trap(&trap, &state, &names)
         });
-        say(&format!("{last}\n{}", report::registers(&state)))?;
+        let used = report::stack(&state, stack);
+        say(&format!("{used}{last}\n{}", report::registers(&state)))?;
     }
     Ok(Status::Ran)
 }

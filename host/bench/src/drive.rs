@@ -5,14 +5,14 @@
 mod tests;
 
 use crate::proved::{self, Counts, Refusal, MOST_STEPS};
-use lent::State;
+use lent::{State, COMPARE, MIE, MSTATUS, TIME};
 
 /// Why a run ended.
 #[derive(Clone, PartialEq, Eq, Debug)]
 pub enum End {
     /// All the steps were made.
     Steps,
-    /// The program jumps to itself: every further step retires and changes nothing.
+    /// The program jumps to itself: every further step that was asked for retires and changes time alone.
     Still,
     /// A step trapped; this is the state before it.
     Trap(Box<State>),
@@ -45,9 +45,9 @@ pub fn run(state: &mut State, plan: Plan) -> Result<Outcome, Refusal> {
         let before = state.clone();
         let made = proved::run(state, steps)?;
         let wanted = (plan.watch)(&before, state, made);
-        if stops(state, made, plan.through_traps)? {
+        if stops(state, made, plan.through_traps, left - steps)? {
             *state = before;
-            return first_stop(state, steps, plan.through_traps, counts);
+            return first_stop(state, (steps, left), plan.through_traps, counts);
         }
         counts = sum(counts, made);
         left = if wanted { left - steps } else { 0 };
@@ -59,24 +59,33 @@ pub fn run(state: &mut State, plan: Plan) -> Result<Outcome, Refusal> {
     })
 }
 
-/// Whether a run stops at the latest after steps with these counts, which left this state. What
-/// stops a run stops every longer one, so that the first such step can be searched for by halves.
-fn stops(state: &State, made: Counts, through_traps: bool) -> Result<bool, Refusal> {
-    Ok((made.trapped > 0 && !through_traps) || is_still(state)?)
+/// Whether a run stops at the latest after steps with these counts, which left this state and so many
+/// steps to make. What stops a run stops every longer one, so that the first such step can be searched for by
+/// halves.
+fn stops(state: &State, made: Counts, through_traps: bool, left: u64) -> Result<bool, Refusal> {
+    Ok((made.trapped > 0 && !through_traps) || is_still(state, left)?)
 }
 
-/// Whether a step retires and changes nothing; then no further step changes anything either.
-fn is_still(state: &State) -> Result<bool, Refusal> {
+/// Whether a step retires and changes time alone; then no further step changes anything else either, unless
+/// the timer interrupts among those that are left.
+fn is_still(state: &State, left: u64) -> Result<bool, Refusal> {
     let mut next = state.clone();
     let made = proved::run(&mut next, 1)?;
-    Ok(made.retired == 1 && next == *state)
+    next.set_long(TIME, state.long(TIME));
+    Ok(made.retired == 1 && next == *state && !interrupts_within(state, left))
 }
 
-/// Makes the steps up to and with the first one that stops the run, which is among the next
-/// `steps`.
+/// Whether the timer interrupts one of the next steps, if nothing but time changes.
+fn interrupts_within(state: &State, steps: u64) -> bool {
+    let last = u128::from(state.long(TIME)) + u128::from(steps);
+    state.register(MSTATUS) & MIE != 0 && last > state.long(COMPARE).into()
+}
+
+/// Makes the steps up to and with the first one that stops the run, which is among the next `steps` of those
+/// that are `left`.
 fn first_stop(
     state: &mut State,
-    mut steps: u64,
+    (mut steps, mut left): (u64, u64),
     through_traps: bool,
     mut counts: Counts,
 ) -> Result<Outcome, Refusal> {
@@ -84,12 +93,13 @@ fn first_stop(
         let half = steps / 2;
         let mut trial = state.clone();
         let made = proved::run(&mut trial, half)?;
-        if stops(&trial, made, through_traps)? {
+        if stops(&trial, made, through_traps, left - half)? {
             steps = half;
         } else {
             *state = trial;
             counts = sum(counts, made);
             steps -= half;
+            left -= half;
         }
     }
     let before = Box::new(state.clone());

@@ -10,9 +10,11 @@ use crate::names::Names;
 use crate::proved::sheets::{Record, NEITHER};
 use crate::proved::{bounds, instruction, Region};
 use crate::sheet::{letters, Bad};
+use crate::stack::{Stack, Used};
 use crate::trap::{Action, Asked, Authority, Trap};
 use lent::{
-    instruction_bytes, place_name, Capability, State, CAPABILITIES, MCAUSE, MSTATUS, MTVAL,
+    instruction_bytes, place_name, Capability, State, CAPABILITIES, COMPARE, MCAUSE, MSHWM, MSHWMB,
+    MSTATUS, MTVAL, TIME,
 };
 use serde_json::{json, Value};
 use std::path::Path;
@@ -84,6 +86,20 @@ pub fn differing(pairs: &[Pair]) -> Value {
         json!({ "name": name, "first": first, "second": second })
     };
     json!({ "differ": pairs.iter().map(pair).collect::<Vec<Value>>() })
+}
+
+/// How deep the stack went: null where no mark was set; `used` and `size` are null where its end is not known.
+pub fn stack(state: &State, stack: Option<Stack>) -> Value {
+    Used::of(state, stack).map_or(Value::Null, |used| {
+        let (bytes, size) = used.bytes.unzip();
+        json!({
+            "mark": used.mark,
+            "base": used.base,
+            "left": used.left,
+            "used": bytes,
+            "size": size,
+        })
+    })
 }
 
 /// An image that does not fit the board that it was to run on.
@@ -166,6 +182,10 @@ fn state(state: &State) -> Value {
         "mstatus": state.register(MSTATUS),
         "mcause": state.register(MCAUSE),
         "mtval": state.register(MTVAL),
+        "mshwm": state.register(MSHWM),
+        "mshwmb": state.register(MSHWMB),
+        "time": state.long(TIME),
+        "compare": state.long(COMPARE),
         "start": state.start,
         "size": state.mem.len(),
         "window": { "start": state.window.start, "size": state.window.size },

@@ -19,6 +19,7 @@ mod save;
 #[cfg(test)]
 mod sequence;
 mod sheet;
+mod stack;
 mod state_file;
 mod trace;
 mod trap;

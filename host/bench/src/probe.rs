@@ -8,8 +8,8 @@ mod tests;
 use crate::proved;
 use crate::request::Request;
 use lent::{
-    instruction_bytes, Capability, Revocation, State, EXECUTABLE_ROOT, MCAUSE, MEMORY_ROOT, MTVAL,
-    PCC,
+    instruction_bytes, Capability, Revocation, State, EXECUTABLE_ROOT, MCAUSE, MEMORY_ROOT,
+    MSTATUS, MTVAL, PCC,
 };
 
 // The field of a long word that a probe puts in place.
@@ -115,9 +115,10 @@ pub fn register_jump(word: u32, address: u32) -> Option<u32> {
     target(scratch(0, word, register, authority))
 }
 
-/// The target of the branch or CJAL that `state` is at, with PCC widened to the root.
+/// The target of the branch or CJAL that `state` is at, with PCC widened to the root, and without interrupts.
 pub fn relative_jump(state: &State, pcc: Capability) -> Option<u32> {
     let mut state = state.clone();
+    state.regs[MSTATUS] = 0;
     state.set(PCC, Capability::tagged(pcc.address, EXECUTABLE_ROOT));
     target(state)
 }

@@ -28,7 +28,7 @@ impl Refusal {
     /// The reason (document 01, "Answers").
     pub fn reason(self) -> &'static str {
         match self.0 {
-            1 => "the register file is not 66 words",
+            1 => "the register file is not 72 words",
             2 => {
                 "the memory's start or size breaks the limits: the size is 64 to 1,048,576 bytes \
                  and a multiple of 64, the start a multiple of 8, and the end at most 2^32; or the \

@@ -8,9 +8,10 @@ use crate::memory_rows::{rows, Row, ROW};
 use crate::names::Names;
 use crate::proved::{bounds, instruction};
 use crate::request::digits;
+use crate::stack::{Stack, Used};
 use crate::trap::{Action, Asked, Authority, Trap};
 use lent::{place_name, Capability, State, CAPABILITIES, GRANULE};
-use lent::{MCAUSE, MSTATUS, MTVAL, PCC};
+use lent::{COMPARE, MCAUSE, MIE, MSHWM, MSHWMB, MSTATUS, MTVAL, PCC, TIME};
 use std::fmt::Write;
 
 /// The counts of a run, and how it ended.
@@ -20,10 +21,43 @@ pub fn counts(state: &State, outcome: &Outcome) -> String {
     let at = state.capability(PCC).address;
     let end = match outcome.end {
         End::Steps => format!("All steps asked for were made; the next is at {at:08x}."),
-        End::Still => format!("The program ended: it jumps to itself at {at:08x}."),
+        End::Still => format!(
+            "The program ended: it jumps to itself at {at:08x}.{}",
+            waiting(state)
+        ),
         End::Trap(_) => "Stopped at the trap.".into(),
     };
     format!("{retired} retired, {trapped} trapped. {end}\n")
+}
+
+/// What a program that stands still may wait for: a compare that is set, where interrupts are enabled.
+fn waiting(state: &State) -> String {
+    let (time, compare) = (state.long(TIME), state.long(COMPARE));
+    if state.register(MSTATUS) & MIE == 0 || compare == u64::MAX {
+        return String::new();
+    }
+    let steps = count(compare.saturating_sub(time), "step");
+    format!(" The timer would interrupt it in {steps}, which is more than were left.")
+}
+
+/// How deep the stack went; nothing where no mark was set.
+pub fn stack(state: &State, stack: Option<Stack>) -> String {
+    let Some(used) = Used::of(state, stack) else {
+        return String::new();
+    };
+    let Used { mark, base, .. } = used;
+    let above = match used.from_start && used.bytes.is_some() {
+        true => String::new(),
+        false => format!(", {} above its base {base:08x}", count(used.left, "byte")),
+    };
+    match used.bytes {
+        Some((0, size)) => format!("Stack: none of {} used{above}.\n", count(size, "byte")),
+        Some((bytes, size)) => {
+            let (bytes, size) = (grouped(bytes), count(size, "byte"));
+            format!("Stack: {bytes} of {size} used, down to {mark:08x}{above}.\n")
+        }
+        None => format!("Stack: used down to {mark:08x}{above}.\n"),
+    }
 }
 
 /// A trap: where, the word, its instruction, the cause, what was asked beside its bounds, and what lies there.
@@ -36,7 +70,11 @@ pub fn trap(trap: &Trap, state: &State, names: &Names) -> String {
     }
     let _ = writeln!(text, "Trap: {}.\n", trap.cause);
     let place = names.place(trap.pcc.address);
-    let word = trap.word.map_or("not fetched".into(), word_shown);
+    let unfetched = match trap.is_interrupt() {
+        true => "before the word there",
+        false => "not fetched",
+    };
+    let word = trap.word.map_or(unfetched.into(), word_shown);
     let _ = writeln!(text, "  at       {:08x}, {word}{place}", trap.pcc.address);
     if let Some(asked) = trap.asked {
         text.push_str(&asked_line(asked, trap, names));
@@ -44,10 +82,15 @@ pub fn trap(trap: &Trap, state: &State, names: &Names) -> String {
     if let Some(authority) = &trap.authority {
         text.push_str(&authority_lines(authority, trap.asked));
     }
+    if trap.is_interrupt() {
+        let (time, compare) = (state.long(TIME), state.long(COMPARE));
+        let _ = writeln!(text, "  timer    compare {compare}, time now {time}");
+    }
     let _ = writeln!(
         text,
         "  machine  mcause {}, mtval {:08x}",
-        trap.mcause, trap.mtval
+        trap.mcause_shown(),
+        trap.mtval
     );
     if let Some(asked) = trap.asked {
         text.push_str(&memory_there(asked, state));
@@ -189,6 +232,12 @@ pub fn registers(state: &State) -> String {
     let _ = writeln!(
         text,
         "  mstatus {status:08x}, mcause {cause:08x}, mtval {value:08x}"
+    );
+    let (mark, base) = (state.register(MSHWM), state.register(MSHWMB));
+    let (time, compare) = (state.long(TIME), state.long(COMPARE));
+    let _ = writeln!(
+        text,
+        "  mshwm {mark:08x}, mshwmb {base:08x}, time {time}, compare {compare}"
     );
     text
 }

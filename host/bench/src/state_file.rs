@@ -1,23 +1,25 @@
-//! State files, version 2: text that holds all that a run is lent, with a check word at its end.
+//! State files, version 3: text that holds all that a run is lent, with a check word at its end.
 //! The format is docs/STATE.md's. A file is read only if writing what was read gives the same
-//! bytes; one of version 1 too, which has no window: the bits are of all of memory.
+//! bytes; one of version 2 too, which has no stack mark and no timer, and one of version 1, which also has no
+//! window: the bits are of all of memory.
 
 #[cfg(test)]
 mod tests;
 
 use crate::digits::{pairs, word};
 use crate::file;
-use lent::{place_name, State, Window, CAPABILITIES, CONTROL, MSTATUS, WORDS};
+use lent::{place_name, State, Window, CAPABILITIES, CONTROL, MSHWM, MSTATUS, WORDS};
 use std::fmt::Write;
 
 /// The first line, before the version.
 const FORMAT: &str = "oddersnow state";
 
 /// The versions that are read.
-#[derive(Clone, Copy, PartialEq, Eq, Debug)]
+#[derive(Clone, Copy, PartialEq, Eq, PartialOrd, Debug)]
 enum Version {
     One,
     Two,
+    Three,
 }
 
 impl Version {
@@ -25,8 +27,17 @@ impl Version {
         let number = match self {
             Version::One => 1,
             Version::Two => 2,
+            Version::Three => 3,
         };
         format!("{FORMAT} {number}")
+    }
+
+    /// The words of a register file that the machine of that version took. Those that were not there yet are 0.
+    fn words(self) -> usize {
+        match self {
+            Version::One | Version::Two => MSHWM,
+            Version::Three => WORDS,
+        }
     }
 }
 /// Bytes on a line.
@@ -37,12 +48,12 @@ const MOST: usize = 1 << 24;
 
 /// The text of a state.
 pub fn write(state: &State) -> String {
-    write_as(Version::Two, state)
+    write_as(Version::Three, state)
 }
 
 fn write_as(version: Version, state: &State) -> String {
     let mut text = format!("{}\nstart {:08x}\n", version.header(), state.start);
-    if version == Version::Two {
+    if version >= Version::Two {
         let Window { start, size } = state.window;
         let _ = writeln!(text, "window {start:08x} {size:08x}");
     }
@@ -50,7 +61,7 @@ fn write_as(version: Version, state: &State) -> String {
     let mut place = 0;
     while place < state.regs.len() {
         let end = (place + row_words(place)).min(state.regs.len());
-        text.push_str(&row_name(place));
+        text.push_str(&row_name(version, place));
         for word in &state.regs[place..end] {
             let _ = write!(text, " {word:08x}");
         }
@@ -74,10 +85,10 @@ fn row_words(place: usize) -> usize {
     }
 }
 
-fn row_name(place: usize) -> String {
+fn row_name(version: Version, place: usize) -> String {
     match place {
         0..MSTATUS => place_name(place / 3),
-        MSTATUS..WORDS => CONTROL[place - MSTATUS].into(),
+        _ if place < version.words() => CONTROL[place - MSTATUS].into(),
         _ => format!("word{place}"),
     }
 }
@@ -106,20 +117,25 @@ fn checksum(bytes: &[u8]) -> u32 {
 /// The state of a file's bytes, or what is wrong with them.
 pub fn read(bytes: &[u8]) -> Result<State, String> {
     let text = file::text(bytes)?;
-    let mut versions = [Version::Two, Version::One].into_iter();
+    let mut versions = [Version::Three, Version::Two, Version::One].into_iter();
     let version = versions.find(|version| text.lines().next() == Some(&version.header()));
     let Some(version) = version else {
-        let (old, new) = (Version::One.header(), Version::Two.header());
-        return Err(format!("line 1 is neither \"{new}\" nor \"{old}\""));
+        let (old, new) = (Version::One.header(), Version::Three.header());
+        return Err(format!(
+            "line 1 is not \"{new}\", nor an older one down to \"{old}\""
+        ));
     };
     check(text)?;
     let mut lines = Lines { text, number: 0 };
-    let state = lines.state(version).map_err(|()| {
+    let mut state = lines.state(version).map_err(|()| {
         let number = lines.number;
         format!("line {number} is not the line of a state file that belongs there")
     })?;
     let again = write_as(version, &state);
     if again == text {
+        if state.regs.len() == version.words() {
+            state.regs.resize(WORDS, 0);
+        }
         return Ok(state);
     }
     let differing = again.lines().zip(text.lines()).take_while(|(a, b)| a == b);
@@ -159,9 +175,9 @@ impl<'a> Lines<'a> {
         let start = word(self.after("start")?).ok_or(())?;
         let window = match version {
             Version::One => None,
-            Version::Two => Some(self.window()?),
+            Version::Two | Version::Three => Some(self.window()?),
         };
-        let regs = self.registers()?;
+        let regs = self.registers(version)?;
         let mem = self.bytes("memory")?;
         let tags = self.bytes("tags")?;
         let revoked = self.bytes("revoked")?;
@@ -203,11 +219,11 @@ impl<'a> Lines<'a> {
         count.filter(|count| *count <= MOST).ok_or(())
     }
 
-    fn registers(&mut self) -> Result<Vec<u32>, ()> {
+    fn registers(&mut self, version: Version) -> Result<Vec<u32>, ()> {
         let count = self.count("registers")?;
         let mut words = Vec::new();
         while words.len() < count {
-            let row = self.after(&row_name(words.len()))?;
+            let row = self.after(&row_name(version, words.len()))?;
             let expected = row_words(words.len()).min(count - words.len());
             let read: Option<Vec<u32>> = row.split(' ').map(word).collect();
             words.extend(read.filter(|read| read.len() == expected).ok_or(())?);

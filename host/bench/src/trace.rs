@@ -6,7 +6,9 @@ use crate::probe;
 use crate::proved::{bounds, instruction, Counts};
 use crate::request::{destination, digits, Request};
 use crate::trap::Trap;
-use lent::{instruction_bytes, place_name, Capability, State, CAPABILITIES, CONTROL, MSTATUS, PCC};
+use lent::{
+    instruction_bytes, place_name, Capability, State, CAPABILITIES, CONTROL, MSTATUS, PCC, TIME,
+};
 
 /// The letters that nearly every instruction has room in: those of `cincaddrimm 15 15 -2048`.
 const SAID: usize = 23;
@@ -16,7 +18,11 @@ pub fn line(number: u64, before: &State, after: &State, made: Counts) -> String 
     let pcc = before.capability(PCC);
     let (word, changes) = if made.trapped > 0 {
         let trap = Trap::of_step(before, after);
-        (trap.word, vec![format!("trap: {}", trap.cause)])
+        let said = match trap.is_interrupt() {
+            true => trap.cause,
+            false => format!("trap: {}", trap.cause),
+        };
+        (trap.word, vec![said])
     } else {
         let word = before.instruction(pcc.address);
         let mut changes = changes(before, after, word.unwrap_or(0));
@@ -34,7 +40,7 @@ pub fn line(number: u64, before: &State, after: &State, made: Counts) -> String 
 }
 
 /// What a step by a word that retired changed: registers, memory, and PCC where it is not the next in
-/// order.
+/// order. Time goes on in every step and is not said.
 fn changes(before: &State, after: &State, word: u32) -> Vec<String> {
     let mut changes = Vec::new();
     for place in (0..PCC).chain(PCC + 1..CAPABILITIES) {
@@ -43,7 +49,7 @@ fn changes(before: &State, after: &State, word: u32) -> Vec<String> {
             changes.push(format!("{} := {}", place_name(place), shown(new)));
         }
     }
-    for (place, name) in (MSTATUS..).zip(CONTROL) {
+    for (place, name) in (MSTATUS..TIME).zip(CONTROL) {
         if before.register(place) != after.register(place) {
             changes.push(format!("{name} := {:08x}", after.register(place)));
         }

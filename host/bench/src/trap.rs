@@ -11,6 +11,7 @@ use crate::proved::{bounds, Region};
 use crate::request::Request;
 use lent::{
     instruction_bytes, place_name, Capability, Revocation, State, MCAUSE, MEPCC, MTCC, MTVAL, PCC,
+    TIMER_INTERRUPT,
 };
 
 /// The name of PCC in mtval; a special register n is named by this plus n (the CHERIoT report,
@@ -111,7 +112,7 @@ impl Trap {
         let (mcause, mtval) = (after.register(MCAUSE), after.register(MTVAL));
         let action = action(after, pcc, mcause, mtval);
         let word = after.instruction(pcc.address);
-        let word = word.filter(|_| action != Action::Fetch);
+        let word = word.filter(|_| action != Action::Fetch && mcause != TIMER_INTERRUPT);
         let authority = authority(after, pcc, mcause, mtval, action, word);
         let mut trap = Trap {
             pcc,
@@ -129,6 +130,19 @@ impl Trap {
             trap.cause = format!("jump at an offset by {sentry}, which is a sentry");
         }
         trap
+    }
+
+    /// Whether it is the timer interrupt, which comes before the fetch.
+    pub fn is_interrupt(&self) -> bool {
+        self.mcause == TIMER_INTERRUPT
+    }
+
+    /// mcause as the papers write it: a small number, or the digits of an interrupt.
+    pub fn mcause_shown(&self) -> String {
+        match self.is_interrupt() {
+            true => format!("{:08x}", self.mcause),
+            false => self.mcause.to_string(),
+        }
     }
 
     /// The sentry that a jump was refused by. It is sealed, but so it would be without the offset,
@@ -259,6 +273,7 @@ fn cause(mcause: u32, mtval: u32, action: Action) -> String {
         7 => "store outside memory".into(),
         11 => "environment call (ECALL)".into(),
         CAPABILITY_CHECK => checked_cause(mtval / 32, mtval % 32, action.noun()),
+        TIMER_INTERRUPT => "timer interrupt".into(),
         _ => format!("mcause {mcause}, which this machine does not give"),
     }
 }

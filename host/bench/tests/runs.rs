@@ -116,7 +116,7 @@ fn damaged_states_are_refused() {
     for (name, damaged) in [
         ("a digit", text.replacen("5e3e0000", "5e3e0001", 1)),
         ("cut short", text[..200].into()),
-        ("another version", text.replacen("state 2", "state 3", 1)),
+        ("another version", text.replacen("state 3", "state 4", 1)),
         ("empty", String::new()),
     ] {
         std::fs::write(directory.join("start"), damaged).unwrap();

@@ -6,7 +6,7 @@ mod common;
 use common::state::{old_text, text, with_code, START};
 use common::words::{i, EBREAK};
 use common::{bench_in, directory};
-use lent::{Capability, State, Window, MEMORY_ROOT};
+use lent::{Capability, State, Window, COMPARE, MEMORY_ROOT};
 use serde_json::json;
 use std::path::Path;
 
@@ -134,6 +134,7 @@ fn json_has_the_window_and_what_the_bits_said() {
 fn an_old_state_file_is_read_with_the_bits_of_all_of_memory() {
     let directory = directory("windows_old");
     let mut state = with_code(&[0x13]);
+    state.set_long(COMPARE, 0);
     state.revoke(START + 8);
     std::fs::write(directory.join("start"), old_text(&state)).unwrap();
     let same = ["run", "--state", "start", "--steps", "0", "--save", "end"];

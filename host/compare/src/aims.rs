@@ -6,11 +6,12 @@ use crate::capabilities::{
     Rights,
 };
 use crate::cuts::request;
+use crate::mark;
 use crate::operands::{any, encode, Operands};
 use crate::random::Random;
 use crate::rows::{Aim, Form, Outcome, Row, EXTREMES};
 use crate::state::{as_second, lend};
-use lent::{State, PCC};
+use lent::{State, MSHWM, MSHWMB, PCC};
 use second::capability::{bounds, has, move_address, narrow, set_bounds, EX};
 use second::Capability;
 
@@ -106,6 +107,7 @@ impl Scene<'_> {
             Aim::Equal => self.aim_equal(),
             Aim::Compare => self.aim_compare(),
             Aim::Extremes => self.aim_extremes(),
+            Aim::Mark => self.aim_mark(),
         }
         if self.random.one_in(2) && row.can(Outcome::Taken) {
             match row.form {
@@ -215,6 +217,27 @@ impl Scene<'_> {
         let rights = self.random.pick(all);
         let address = self.accessed(size);
         self.authorise(rights, address, size);
+        if !self.random.one_in(4) {
+            mark::around(self.random, address, self.state);
+        }
+    }
+
+    /// Old words with low bits most of the time; 0 by register 0, by another one, or another number.
+    fn aim_mark(&mut self) {
+        for place in [MSHWM, MSHWMB] {
+            self.state.regs[place] |= self.random.below(16);
+        }
+        match self.random.below(3) {
+            0 => {
+                self.operands.rs1 = 0;
+                self.operands.immediate = 0;
+            }
+            1 => self.set_first(integer(0)),
+            _ => {
+                let value = integer(self.random.number());
+                self.set_first(value);
+            }
+        }
     }
 
     /// A jump target: mostly an instruction in memory.

@@ -6,12 +6,14 @@ use crate::aims;
 use crate::capabilities::{
     anything, around, beyond, register, root, sealed, tight, wide, Layout, Rights,
 };
+use crate::mark;
 use crate::operands::near_miss;
 use crate::programs;
 use crate::random::Random;
 use crate::refusals;
-use crate::rows::Table;
+use crate::rows::{Aim, Row, Table};
 use crate::state::{lend, Call, Case};
+use crate::timer;
 use lent::{instruction_bytes, State, Window, CAPABILITIES, MOST_MEMORY, WORDS};
 use lent::{MCAUSE, MEPCC, MSCRATCHC, MSTATUS, MTCC, MTDC, MTVAL, PCC};
 use second::capability::{move_address, narrow, SR};
@@ -185,6 +187,8 @@ pub fn fill_registers(random: &mut Random, layout: Layout, state: &mut State) {
     };
     state.regs[MCAUSE] = random.number();
     state.regs[MTVAL] = random.number();
+    mark::fill(random, layout, state);
+    timer::fill(random, state);
 }
 
 /// One step of an instruction; sometimes a word that is none, sometimes a run of a few steps.
@@ -206,6 +210,16 @@ fn single(table: &Table, random: &mut Random, case: &mut Case) {
         1 => Call::Run(random.below(4)),
         _ => Call::Step,
     };
+    let times = if changes_enabling(row) { 4 } else { 32 };
+    if random.one_in(times) {
+        timer::one_before(random, state);
+        case.call = Call::Run(random.pick([2, 2, 3]));
+    }
+}
+
+/// Whether a row can set or clear MIE without a trap.
+fn changes_enabling(row: &Row) -> bool {
+    row.name == "MRET" || row.name.ends_with("mstatus") || row.aim == Aim::JumpRegister
 }
 
 /// Writes an instruction, a short one in two bytes; of a long one at memory's end the first half.

@@ -1,15 +1,19 @@
 //! What the machine comparison reached, counted for every cell that the papers make reachable:
 //! each instruction with each thing it can do, products and quotients of each pair of extremes,
 //! each question of the load filter, each failed fetch of a first half and of a second, words of both lengths that are no
-//! instruction, each refusal alone and with each later one, and runs.
+//! instruction, each refusal alone and with each later one, times by compare, interrupts before each failed
+//! fetch, stores by the stack mark, CSR writes of it, and runs.
 
 use crate::filter::{self, PLACES, QUESTIONS};
 use crate::instructions::{BOUNDS, EXECUTE, FETCH_ACCESS, FETCH_MISALIGNED, ILLEGAL, SEAL, TAG};
 use crate::machines::second;
+use crate::mark::{self, CSR_SOURCES, STORE_PLACES};
 use crate::refusals::{memory_allowed, reasons, window_faults, WINDOW_FAULTS};
 use crate::rows::{Aim, Outcome, Row, Table, COLUMNS, EXTREMES};
 use crate::state::{as_second, Call, Case};
+use crate::timer::{Times, TURNS};
 use lent::{instruction_bytes, Answer, State, MCAUSE, MTVAL, PCC};
+use lent::{COMPARE, MIE, MSHWM, MSTATUS, TIME, TIMER_INTERRUPT};
 use second::capability::{has, in_bounds, is_sealed, EX};
 use std::fmt::Write;
 
@@ -37,14 +41,20 @@ const WITH: [&str; 6] = [
 ];
 
 /// Kinds of runs.
-const RUNS: [&str; 6] = [
+const RUNS: [&str; 8] = [
     "runs of 0 steps",
     "runs of 1 to 199 steps",
     "runs of 200 to 20,000 steps",
     "runs of 1,000,000 steps",
     "runs that retired over 1,000 steps",
     "followed runs that executed a word they had written",
+    "followed runs that were interrupted after a step that was not",
+    "followed runs in which a store lowered the mark",
 ];
+
+/// Register files that are too short or too long by few words: those of before the mark and the timer, and
+/// those with a word less or more than now.
+const LENGTHS: [usize; 3] = [66, 71, 73];
 
 /// The counts.
 pub struct Coverage {
@@ -65,12 +75,23 @@ pub struct Coverage {
     /// Windows that break one limit, with nothing else or with each other reason.
     windows: [[u64; WITH.len()]; WINDOW_FAULTS.len()],
     runs: [u64; RUNS.len()],
+    lengths: [u64; LENGTHS.len()],
+    /// Steps by their time, and what an interrupt came before: a failed fetch, by column, or an instruction.
+    times: Times,
+    interrupts: [u64; COLUMNS],
+    /// Runs of two steps whose first changes MIE one step before compare.
+    turns: [u64; TURNS.len()],
+    /// Of each row, where its stores lay by the mark, and what its CSR instructions wrote to the pair.
+    stores: Vec<[u64; STORE_PLACES]>,
+    sources: Vec<[u64; CSR_SOURCES]>,
     retired: u64,
     trapped: u64,
     /// Answers that are not the lowest reason there is to refuse.
     misrefused: u64,
     /// Words that are no instruction and did not trap as illegal.
     misread: u64,
+    /// Steps that were interrupted and should not have been, or should have been and were not.
+    misinterrupted: u64,
 }
 
 /// What a fetch finds.
@@ -149,10 +170,17 @@ impl Coverage {
             refused_also: [[0; 6]; 6],
             windows: [[0; WITH.len()]; WINDOW_FAULTS.len()],
             runs: [0; RUNS.len()],
+            lengths: [0; LENGTHS.len()],
+            times: Times::default(),
+            interrupts: [0; COLUMNS],
+            turns: [0; TURNS.len()],
+            stores: vec![[0; STORE_PLACES]; table.rows.len()],
+            sources: vec![[0; CSR_SOURCES]; table.rows.len()],
             retired: 0,
             trapped: 0,
             misrefused: 0,
             misread: 0,
+            misinterrupted: 0,
         }
     }
 
@@ -163,6 +191,10 @@ impl Coverage {
         let lowest = reasons.iter().position(|&reason| reason).unwrap_or(0);
         self.misrefused += u64::from(answer.number != lowest as u64);
         if lowest != 0 {
+            let words = case.state.regs.len();
+            if let Some(length) = LENGTHS.iter().position(|&length| length == words) {
+                self.lengths[length] += 1;
+            }
             self.count_window(case, reasons);
             return self.count_refusal(lowest, reasons);
         }
@@ -171,7 +203,40 @@ impl Coverage {
         self.retired += retired;
         match case.call {
             Call::Step | Call::Run(1) => self.count_step(table, &case.state, after, retired == 1),
-            Call::Run(steps) => self.count_run(&case.state, steps, retired),
+            Call::Run(steps) => {
+                if steps == 2 {
+                    self.count_turn(table, &case.state, after);
+                }
+                self.count_run(&case.state, steps, retired);
+            }
+        }
+    }
+
+    /// Counts a run of two steps whose first changes MIE, at compare - 1. The second step is interrupted
+    /// exactly if MIE was set.
+    fn count_turn(&mut self, table: &Table, before: &State, after: &State) {
+        if before.long(TIME).checked_add(1) != Some(before.long(COMPARE)) {
+            return;
+        }
+        let mut between = before.clone();
+        let retired = Answer::of(second(&mut between, Call::Step)).retired == 1;
+        let [was, is] = [before, &between].map(|state| state.register(MSTATUS) & MIE != 0);
+        let row = match fetched(before) {
+            Fetched::Word(word) if retired => table.find(word),
+            _ => None,
+        };
+        let name = row.map(|row| table.rows[row].name);
+        let by = match name {
+            None => 6,
+            Some("MRET") => 4,
+            Some(name) if name.starts_with("CSR") => 0,
+            Some(_) => 2,
+        };
+        if was != is {
+            let turn = if by == 6 { 6 } else { by + usize::from(was) };
+            self.turns[turn] += 1;
+            let interrupted = after.register(MCAUSE) == TIMER_INTERRUPT;
+            self.misinterrupted += u64::from(is && !interrupted);
         }
     }
 
@@ -208,11 +273,35 @@ impl Coverage {
         self.runs[4] += u64::from(retired > 1000);
         // Following a run costs more than making it: one in 16 is enough.
         if steps <= 20_000 && state.regs[MTVAL].is_multiple_of(16) {
-            self.runs[5] += u64::from(rewrites_itself(state, steps));
+            for (count, seen) in self.runs[5..].iter_mut().zip(followed(state, steps)) {
+                *count += u64::from(seen);
+            }
         }
     }
 
+    /// Counts an interrupt by what it came before, and checks what it left.
+    fn count_interrupt(&mut self, before: &State, after: &State, retired: bool) {
+        let left = [MCAUSE, MTVAL].map(|place| after.register(place));
+        self.misinterrupted += u64::from(retired || left != [TIMER_INTERRUPT, 0]);
+        let column = match fetched(before) {
+            Fetched::Word(_) => Outcome::Retired.column(),
+            Fetched::First | Fetched::Second => {
+                let mut quiet = before.clone();
+                quiet.regs[MSTATUS] &= !MIE;
+                second(&mut quiet, Call::Step);
+                trap(&quiet).column()
+            }
+        };
+        self.interrupts[column] += 1;
+    }
+
     fn count_step(&mut self, table: &Table, before: &State, after: &State, retired: bool) {
+        if before.interrupted() {
+            self.times.count(before, 2);
+            return self.count_interrupt(before, after, retired);
+        }
+        self.times.count(before, usize::from(!retired));
+        self.misinterrupted += u64::from(!retired && after.regs[MCAUSE] == TIMER_INTERRUPT);
         let column = trap(after).column();
         let word = match fetched(before) {
             Fetched::Word(word) => word,
@@ -235,16 +324,42 @@ impl Coverage {
             self.misread += u64::from(misread);
             return;
         };
-        let counts = &mut self.rows[index];
-        if !retired {
-            counts[column] += 1;
-            return;
+        self.count_mark(&table.rows[index], index, before, (word, retired));
+        if retired {
+            self.count_retired(&table.rows[index], index, word, [before, after]);
+        } else {
+            self.rows[index][column] += 1;
         }
+    }
+
+    /// Counts where a store lies by the mark, and what a CSR instruction writes to the mark or its base.
+    fn count_mark(&mut self, row: &Row, index: usize, before: &State, step: (u32, bool)) {
+        let (word, retired) = step;
+        match row.aim {
+            Aim::Store(_) => {
+                let places = mark::places(before, word, retired);
+                for (count, place) in self.stores[index].iter_mut().zip(places) {
+                    *count += u64::from(place);
+                }
+            }
+            Aim::Mark if retired => {
+                if let Some(source) = mark::source(before, row.form, word) {
+                    self.sources[index][source] += 1;
+                }
+            }
+            _ => {}
+        }
+    }
+
+    /// Counts a word that retired.
+    fn count_retired(&mut self, row: &Row, index: usize, word: u32, states: [&State; 2]) {
+        let [before, after] = states;
+        let counts = &mut self.rows[index];
         counts[Outcome::Retired.column()] += 1;
         if let Some(pair) = pair_of_extremes(before, word) {
             self.pairs[index][pair] += 1;
         }
-        if table.rows[index].aim == Aim::Load(8) {
+        if row.aim == Aim::Load(8) {
             if let Some(question) = filter::question(before, word) {
                 self.filter[question] += 1;
             }
@@ -252,7 +367,7 @@ impl Coverage {
                 self.places[place] += 1;
             }
         }
-        if let Some(more) = retired_how(&table.rows[index], word, before, after) {
+        if let Some(more) = retired_how(row, word, before, after) {
             counts[more.column()] += 1;
         }
     }
@@ -338,6 +453,47 @@ impl Coverage {
         for (kind, &count) in RUNS.iter().zip(&self.runs) {
             cells.push((kind.to_string(), count));
         }
+        cells.extend(self.timer_cells());
+        cells.extend(self.mark_cells(table));
+        cells
+    }
+
+    /// The cells of the timer: register files, times, interrupts and changes of MIE.
+    fn timer_cells(&self) -> Vec<(String, u64)> {
+        let mut cells = Vec::new();
+        for (length, &count) in LENGTHS.iter().zip(&self.lengths) {
+            cells.push((format!("refused with {length} words"), count));
+        }
+        cells.extend(self.times.cells());
+        let before = "interrupt before a fetch that would trap by";
+        for outcome in FETCH {
+            let cell = format!("{before} {}", name(outcome));
+            cells.push((cell, self.interrupts[outcome.column()]));
+        }
+        let good = self.interrupts[Outcome::Retired.column()];
+        cells.push(("interrupt before a word that could be fetched".into(), good));
+        for (turn, &count) in TURNS.iter().zip(&self.turns) {
+            cells.push((format!("{turn} at compare - 1"), count));
+        }
+        cells
+    }
+
+    /// The cells of the stack mark: stores by it, and CSR writes of it.
+    fn mark_cells(&self, table: &Table) -> Vec<(String, u64)> {
+        let mut cells = Vec::new();
+        let is_store = |row: &Row| matches!(row.aim, Aim::Store(_));
+        let rows = table.rows.iter().zip(&self.stores);
+        for (row, counts) in rows.filter(|(row, _)| is_store(row)) {
+            for (place, &count) in counts.iter().enumerate() {
+                cells.push((mark::place_name(row.name, place), count));
+            }
+        }
+        let rows = table.rows.iter().zip(&self.sources);
+        for (row, counts) in rows.filter(|(row, _)| row.aim == Aim::Mark) {
+            for &source in mark::sources(row.form) {
+                cells.push((mark::source_name(row.name, source), counts[source]));
+            }
+        }
         cells
     }
 
@@ -365,6 +521,12 @@ impl Coverage {
         }
         if self.misread > 0 {
             faults.push(format!("no instruction, and not illegal: {}", self.misread));
+        }
+        if self.misinterrupted > 0 {
+            faults.push(format!(
+                "not the papers' interrupt: {}",
+                self.misinterrupted
+            ));
         }
         faults
     }
@@ -414,6 +576,9 @@ impl Coverage {
         }
         for (kind, count) in RUNS.iter().zip(&self.runs) {
             let _ = writeln!(text, "{kind}   {count}");
+        }
+        for (cell, count) in self.timer_cells().iter().chain(&self.mark_cells(table)) {
+            let _ = writeln!(text, "{cell}   {count}");
         }
         let _ = writeln!(
             text,
@@ -466,15 +631,28 @@ fn retired_how(row: &Row, word: u32, before: &State, after: &State) -> Option<Ou
     }
 }
 
-/// Whether a run executes a word that it wrote itself, followed step by step.
-fn rewrites_itself(state: &State, steps: u32) -> bool {
+/// A run followed step by step: whether it executes a word that it wrote itself, whether it is interrupted
+/// after a step that was not, and whether a store lowers the mark.
+fn followed(state: &State, steps: u32) -> [bool; 3] {
     let mut now = state.clone();
+    let mut seen = [false; 3];
+    let mut undisturbed = false;
     for _ in 0..steps.min(2000) {
         let pcc = now.capability(PCC).address;
-        if matches!(fetched(&now), Fetched::Word(word) if state.instruction(pcc) != Some(word)) {
-            return true;
+        let interrupted = now.interrupted();
+        let mut stores = false;
+        match fetched(&now) {
+            Fetched::Word(word) if !interrupted => {
+                seen[0] |= state.instruction(pcc) != Some(word);
+                stores = mark::places(&now, word, true).contains(&true);
+            }
+            _ => {}
         }
+        seen[1] |= interrupted && undisturbed;
+        undisturbed |= !interrupted;
+        let mark = now.register(MSHWM);
         second(&mut now, Call::Step);
+        seen[2] |= stores && now.register(MSHWM) < mark;
     }
-    false
+    seen
 }

@@ -10,6 +10,7 @@ use crate::machines::{Both, Differing, Machine};
 use crate::random::Random;
 use crate::rows::{Form, Table};
 use crate::state::{lend, Call, Case};
+use crate::timer;
 use lent::{instruction_bytes, Answer, State, MCAUSE, MTVAL, PCC};
 use second::capability::move_address;
 use second::Capability;
@@ -106,6 +107,7 @@ fn make(seed: u64, number: u64, case: &mut Case) {
             state.set(place, lend(value));
         }
     }
+    timer::far(random, state);
     let pcc = counter(random, layout, about.edge);
     state.set(PCC, lend(pcc));
     state.write(pcc.address, &about.half.to_le_bytes());

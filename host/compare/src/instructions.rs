@@ -88,6 +88,8 @@ const fn csr(funct3: u32, number: u32) -> u32 {
 const MSTATUS: u32 = 0x300;
 const MCAUSE: u32 = 0x342;
 const MTVAL: u32 = 0x343;
+const MSHWM: u32 = 0xBC1;
+const MSHWMB: u32 = 0xBC2;
 
 #[rustfmt::skip]
 const LINES: &[(&str, Form, u32, Aim, &[Outcome])] = &[
@@ -167,6 +169,19 @@ const LINES: &[(&str, Form, u32, Aim, &[Outcome])] = &[
     ("CSRRWI mtval", Number, csr(5, MTVAL), Nothing, PRIVILEGED),
     ("CSRRSI mtval", Number, csr(6, MTVAL), Nothing, PRIVILEGED),
     ("CSRRCI mtval", Number, csr(7, MTVAL), Nothing, PRIVILEGED),
+    // The stack mark and its base (document 02, 6).
+    ("CSRRW mshwm", Single, csr(1, MSHWM), Mark, PRIVILEGED),
+    ("CSRRS mshwm", Single, csr(2, MSHWM), Mark, PRIVILEGED),
+    ("CSRRC mshwm", Single, csr(3, MSHWM), Mark, PRIVILEGED),
+    ("CSRRWI mshwm", Number, csr(5, MSHWM), Mark, PRIVILEGED),
+    ("CSRRSI mshwm", Number, csr(6, MSHWM), Mark, PRIVILEGED),
+    ("CSRRCI mshwm", Number, csr(7, MSHWM), Mark, PRIVILEGED),
+    ("CSRRW mshwmb", Single, csr(1, MSHWMB), Mark, PRIVILEGED),
+    ("CSRRS mshwmb", Single, csr(2, MSHWMB), Mark, PRIVILEGED),
+    ("CSRRC mshwmb", Single, csr(3, MSHWMB), Mark, PRIVILEGED),
+    ("CSRRWI mshwmb", Number, csr(5, MSHWMB), Mark, PRIVILEGED),
+    ("CSRRSI mshwmb", Number, csr(6, MSHWMB), Mark, PRIVILEGED),
+    ("CSRRCI mshwmb", Number, csr(7, MSHWMB), Mark, PRIVILEGED),
     // Special registers (CHERIoT report, 7.10 and 8.1.5).
     ("CSpecialRW MTCC", Single, special(28), Special, SPECIAL),
     ("CSpecialRW MTDC", Single, special(29), Special, SPECIAL),

@@ -21,6 +21,7 @@ pub mod instructions;
 pub mod listing;
 pub mod lists;
 pub mod machines;
+pub mod mark;
 pub mod operands;
 pub mod options;
 pub mod programs;
@@ -33,6 +34,7 @@ pub mod short;
 pub mod shrink;
 pub mod starts;
 pub mod state;
+pub mod timer;
 pub mod told;
 
 use options::Options;

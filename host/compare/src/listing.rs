@@ -265,7 +265,9 @@ fn long_word(random: &mut Random) -> u32 {
         0 => random.word() | 3,
         1 => random.pick(WHOLE),
         2 => {
-            random.pick([0x300, 0x342, 0x343, 0x301, 0x340]) << 20
+            random.pick([
+                0x300, 0x342, 0x343, 0x301, 0x340, 0xBC0, 0xBC1, 0xBC2, 0xBC3,
+            ]) << 20
                 | low & 0x000F_FFFF
                 | random.below(8) << 12
                 | 0x73

@@ -101,6 +101,13 @@ pub fn any(random: &mut Random, form: Form) -> Operands {
     }
 }
 
+/// The opcode of the CSR instructions, and numbers of CSRs that are none here: mie, mtvec, mscratch, mepc, mip, the
+/// neighbours of the stack mark and its base, cycle, time and its upper half.
+const SYSTEM: u32 = 0x73;
+const OTHER_CSRS: [u32; 10] = [
+    0x304, 0x305, 0x340, 0x341, 0x344, 0xBC0, 0xBC3, 0xC00, 0xC01, 0xC81,
+];
+
 /// A word with the opcode and funct3 of a row, and anything else; in a long one all registers but rs2
 /// are below 16.
 pub fn near_miss(random: &mut Random, row: &Row) -> u32 {
@@ -108,5 +115,9 @@ pub fn near_miss(random: &mut Random, row: &Row) -> u32 {
         return row.bits & 0xE003 | random.word() & 0x1FFC;
     }
     let free = random.word() & !0x0008_0800;
-    row.bits & 0x707F | free & !0x707F
+    let word = row.bits & 0x707F | free & !0x707F;
+    match row.bits & 0x7F {
+        SYSTEM if random.one_in(2) => word & 0xF_FFFF | random.pick(OTHER_CSRS) << 20,
+        _ => word,
+    }
 }

@@ -8,6 +8,7 @@ use crate::operands::{any, encode, Operands};
 use crate::random::Random;
 use crate::rows::{Aim, Form, Outcome, Row, Table};
 use crate::state::{lend, Call, Case};
+use crate::timer;
 use lent::{instruction_bytes, State, MEPCC, MOST_STEPS, MTCC, MTDC, PCC};
 
 /// The most steps of most runs.
@@ -96,7 +97,11 @@ pub fn make(table: &Table, random: &mut Random, case: &mut Case) {
     if !random.one_in(4) {
         write_handler(random, layout, state);
     }
-    case.call = Call::Run(steps(random));
+    let steps = steps(random);
+    if random.one_in(4) {
+        timer::soon(random, steps, state);
+    }
+    case.call = Call::Run(steps);
 }
 
 fn layout(random: &mut Random) -> Layout {

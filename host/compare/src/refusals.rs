@@ -17,7 +17,7 @@ pub fn spoil(random: &mut Random, case: &mut Case) {
         spoil_words(random, &mut case.state);
     }
     if wanted(1) {
-        let length = random.pick([0, 1, 3, 63, 65, 67, 69, 132]);
+        let length = random.pick([0, 1, 3, 63, 65, 66, 66, 67, 71, 71, 73, 73, 75, 144]);
         case.state.regs.resize(length, 0);
     }
     if wanted(2) {

@@ -128,6 +128,8 @@ pub enum Aim {
     Compare,
     /// The words at which products and quotients change: `EXTREMES`.
     Extremes,
+    /// The stack mark and its base, with low bits, and what is written to them.
+    Mark,
 }
 
 /// 0, 1, -1, the most negative and the most positive.

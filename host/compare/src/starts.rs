@@ -12,6 +12,7 @@ use crate::derivations::{Mix, NUMBERS, POOL_READER, POOL_WRITER, SEALER, STACK};
 use crate::held::{held, Authority, Place};
 use crate::random::Random;
 use crate::state::lend;
+use crate::timer;
 use lent::{instruction_bytes, State, MEPCC, MSCRATCHC, MSTATUS, MTCC, MTDC, PCC};
 use second::capability::{move_address, narrow, GL, LG, LM, MC, SD, SR};
 use second::Capability;
@@ -41,6 +42,9 @@ const AGAIN: u32 = 6;
 const HANDLER_BYTES: u32 = 64;
 /// The most bytes of code: the handler adds at most 2048.
 const MOST_CODE: u32 = 1024;
+
+/// The most steps before the timer interrupts, where it does.
+const SOON: u32 = 2000;
 
 /// SR in a code of the executable kind.
 const SR_BIT: u32 = 1 << 27;
@@ -224,6 +228,11 @@ impl Scene<'_> {
         }
         self.set_counters();
         self.state.regs[MSTATUS] = self.random.pick([0, 0x08, 0x80, 0x88]);
+        // An interrupt is a trap more; from then on the handler alone would run.
+        timer::far(self.random, self.state);
+        if self.random.one_in(16) {
+            timer::soon(self.random, SOON, self.state);
+        }
     }
 
     /// PCC and MEPCC in the code, half of them without SR; MTCC at the handler.

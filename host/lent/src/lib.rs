@@ -89,17 +89,20 @@ pub fn instruction_bytes(instruction: u32) -> u32 {
 }
 
 impl State {
-    /// Memory with null registers, without tags or revoked granules; the window is all of it.
+    /// Memory with null registers, without tags or revoked granules; the window is all of it. Time is 0
+    /// and compare the last number, so that a program that sets MIE is not interrupted.
     pub fn new(start: u32, mem: Vec<u8>) -> State {
         let bytes = mem.len() / BLOCK;
-        State {
+        let mut state = State {
             regs: vec![0; WORDS],
             start,
             window: Window::whole(mem.len()),
             mem,
             tags: vec![0; bytes],
             revoked: vec![0; bytes],
-        }
+        };
+        state.set_long(COMPARE, u64::MAX);
+        state
     }
 
     /// The same with another window, without revoked granules in it.
@@ -148,6 +151,23 @@ impl State {
     /// A word of the register file, 0 past its end.
     pub fn register(&self, index: usize) -> u32 {
         self.regs.get(index).copied().unwrap_or(0)
+    }
+
+    /// The number of two words of the register file, the low one first: time or compare.
+    pub fn long(&self, place: usize) -> u64 {
+        u64::from(self.register(place + 1)) << 32 | u64::from(self.register(place))
+    }
+
+    /// Puts a number into two words, if the register file has them.
+    pub fn set_long(&mut self, place: usize, value: u64) {
+        if let Some(words) = self.regs.get_mut(place..place + 2) {
+            words.copy_from_slice(&[value as u32, (value >> 32) as u32]);
+        }
+    }
+
+    /// Whether the next step is the timer interrupt (document 02, 6).
+    pub fn interrupted(&self) -> bool {
+        self.register(MSTATUS) & MIE != 0 && self.long(TIME) >= self.long(COMPARE)
     }
 
     /// The capability at a place, null past the end of the register file.
@@ -347,11 +367,28 @@ mod tests {
     }
 
     #[test]
+    fn the_timer_interrupts_from_compare_on_with_mie_set() {
+        let mut state = State::new(START, Vec::new());
+        assert_eq!((state.long(TIME), state.long(COMPARE)), (0, u64::MAX));
+        state.set_long(COMPARE, 0x1_0000_0002);
+        assert_eq!(state.regs[COMPARE..], [2, 1]);
+        for (time, reached) in [(0x1_0000_0001, false), (0x1_0000_0002, true), (!0, true)] {
+            state.set_long(TIME, time);
+            state.regs[MSTATUS] = !MIE;
+            assert!(!state.interrupted());
+            state.regs[MSTATUS] = MIE;
+            assert_eq!(state.interrupted(), reached);
+        }
+    }
+
+    #[test]
     fn a_short_register_file_has_null_for_what_it_lacks() {
         let mut state = State::new(START, Vec::new());
         state.regs = vec![9; 4];
         assert_eq!(state.capability(1), Capability::integer(9));
         state.set(1, Capability::tagged(1, 1));
+        state.set_long(3, 0);
         assert_eq!(state.regs, [9; 4]);
+        assert_eq!(state.long(3), 9);
     }
 }

@@ -12,12 +12,32 @@ pub const CAPABILITIES: usize = 21;
 pub const MSTATUS: usize = 63;
 pub const MCAUSE: usize = 64;
 pub const MTVAL: usize = 65;
-pub const WORDS: usize = 66;
+pub const MSHWM: usize = 66;
+pub const MSHWMB: usize = 67;
+/// Numbers of 64 bits in two words, the low one first.
+pub const TIME: usize = 68;
+pub const COMPARE: usize = 70;
+pub const WORDS: usize = 72;
+
+/// The bit of mstatus that enables interrupts.
+pub const MIE: u32 = 1 << 3;
+/// mcause of the machine timer interrupt.
+pub const TIMER_INTERRUPT: u32 = 0x8000_0007;
 
 /// The names of the capabilities from PCC on.
 pub const SPECIAL: [&str; 5] = ["PCC", "MTCC", "MTDC", "MScratchC", "MEPCC"];
 /// The names of the words from mstatus on.
-pub const CONTROL: [&str; 3] = ["mstatus", "mcause", "mtval"];
+pub const CONTROL: [&str; WORDS - MSTATUS] = [
+    "mstatus",
+    "mcause",
+    "mtval",
+    "mshwm",
+    "mshwmb",
+    "time_low",
+    "time_high",
+    "compare_low",
+    "compare_high",
+];
 
 // The metadata of the roots; each has type 0 and the whole address space for bounds.
 pub const EXECUTABLE_ROOT: u32 = 0x5E3E_0000;
@@ -83,7 +103,11 @@ mod tests {
             (MSTATUS, "mstatus"),
             (MCAUSE, "mcause"),
             (MTVAL, "mtval"),
-            (WORDS, "word 66"),
+            (MSHWM, "mshwm"),
+            (MSHWMB, "mshwmb"),
+            (TIME, "time_low"),
+            (COMPARE + 1, "compare_high"),
+            (WORDS, "word 72"),
         ];
         for (index, name) in named {
             assert_eq!(word_name(index), name);

@@ -55,7 +55,7 @@ enum Difference {
     Capability,
     /// CLC and CSC have the encodings of RV64's LD and SD, which RV32 has not (report, 8.2.2).
     LoadStoreCapability,
-    /// The disassembler takes every CSR number; here there are three (document 01, house).
+    /// The disassembler takes every CSR number; here there are five (document 01, house; document 02, 6).
     CsrNumber,
     /// The standard has FENCE's other fields ignored; the disassembler wants them 0.
     Fence,
@@ -77,6 +77,9 @@ fn capability_instruction(word: Word) -> bool {
     }
 }
 
+/// The CSRs of the bench: mstatus, mcause, mtval, mshwm and mshwmb.
+const CSRS: [u32; 5] = [0x300, 0x342, 0x343, 0xBC1, 0xBC2];
+
 /// The kind of difference that a word may show, with what is then legal there and here.
 fn difference(word: Word) -> Option<(Difference, bool, bool)> {
     let (rd, rs1, rs2) = (word.rd() < 16, word.rs1() < 16, word.rs2() < 16);
@@ -90,7 +93,7 @@ fn difference(word: Word) -> Option<(Difference, bool, bool)> {
             Some((Difference::Fence, false, true))
         }
         (0x73, 0) => other_mode(word).map(|there| (Difference::OtherModes, there, false)),
-        (0x73, 1..=3 | 5..=7) if !matches!(word.csr(), 0x300 | 0x342 | 0x343) => {
+        (0x73, 1..=3 | 5..=7) if !CSRS.contains(&word.csr()) => {
             Some((Difference::CsrNumber, rd && (immediate || rs1), false))
         }
         _ => None,

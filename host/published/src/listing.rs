@@ -61,8 +61,15 @@ const RENAMED: [(&str, &str); 11] = [
     ("auipc", "auipcc"),
 ];
 
-/// The CSRs of the bench (document 01, house).
-const CSRS: [(&str, i64); 3] = [("mstatus", 0x300), ("mcause", 0x342), ("mtval", 0x343)];
+/// The CSRs of the bench (document 01, house; document 02, 6), by binutils' names: it knows none for the stack mark
+/// and its base.
+const CSRS: [(&str, i64); 5] = [
+    ("mstatus", 0x300),
+    ("mcause", 0x342),
+    ("mtval", 0x343),
+    ("0xbc1", 0xBC1),
+    ("0xbc2", 0xBC2),
+];
 
 /// Instructions of other modes than the machine mode.
 const OTHER_MODES: [&str; 6] = ["uret", "sret", "hret", "dret", "sfence.vm", "sfence.vma"];
@@ -163,7 +170,9 @@ fn ordered<'a>(name: &'a str, operands: &[Operand], address: usize) -> Option<Or
         (_, &[Register(rd), Place(offset, rs1)]) => vec![rd, rs1, offset],
         (_, &[Register(rd), Word(name), Register(rs1)]) => vec![rd, rs1, csr(name)?.1],
         (_, &[Register(rd), Word(name), Number(value)]) => vec![rd, csr(name)?.1, value],
-        // A CSR without a name is none of the bench.
+        // A CSR without a name is the mark's, its base's, or none of the bench.
+        (_, &[Register(rd), Number(csr @ 0xBC1..=0xBC2), Register(rs1)]) => vec![rd, rs1, csr],
+        (_, &[Register(rd), Number(csr @ 0xBC1..=0xBC2), Number(value)]) => vec![rd, csr, value],
         (_, [Register(_), Number(_), _]) => return None,
         _ => operands.iter().map(plain).collect::<Option<_>>()?,
     };
@@ -347,6 +356,8 @@ mod tests {
             ("lui x10,0xfffff", "lui\t10\t-1\n"),
             ("csrrs x5,mcause,x0", "csrrs\t5\t0\t834\n"),
             ("csrrsi x0,mstatus,8", "csrrsi\t0\t768\t8\n"),
+            ("csrrw x5,0xbc1,x6", "csrrw\t5\t6\t3009\n"),
+            ("csrrci x0,0xbc2,31", "csrrci\t0\t3010\t31\n"),
             ("fence iorw,unknown", "fence\t15\t0\n"),
             ("c.lui x10,0xfffe0", "c.lui\t10\t-32\n"),
             ("c.swsp x15,252(x2)", "c.swsp\t15\t252\n"),
@@ -358,6 +369,7 @@ mod tests {
             assert_eq!(line.as_deref(), Some(right), "{text}");
         }
         assert_eq!(line("csrrs x5,time,x0", 0), None);
+        assert_eq!(line("csrrs x5,0xbc3,x0", 0), None);
     }
 
     #[test]

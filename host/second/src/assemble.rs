@@ -10,6 +10,8 @@ pub const WFI: u32 = 0x1050_0073;
 pub const MSTATUS: u32 = 0x300;
 pub const MCAUSE: u32 = 0x342;
 pub const MTVAL: u32 = 0x343;
+pub const MSHWM: u32 = 0xBC1;
+pub const MSHWMB: u32 = 0xBC2;
 
 /// The R format: funct7, rs2, rs1, funct3, rd, opcode.
 pub fn r(funct7: u32, rs2: u32, rs1: u32, funct3: u32, rd: u32, opcode: u32) -> u32 {

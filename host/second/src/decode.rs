@@ -117,6 +117,9 @@ pub enum Csr {
     Mstatus,
     Mcause,
     Mtval,
+    /// The stack's high-water mark and its base (document 02, 6).
+    Mshwm,
+    Mshwmb,
 }
 
 #[derive(Clone, Copy, PartialEq, Eq, Debug)]
@@ -472,6 +475,8 @@ fn system(fields: Fields) -> Option<Instruction> {
         0x300 => Csr::Mstatus,
         0x342 => Csr::Mcause,
         0x343 => Csr::Mtval,
+        0xBC1 => Csr::Mshwm,
+        0xBC2 => Csr::Mshwmb,
         _ => return None,
     };
     Some(Instruction::Csr {

@@ -1,6 +1,6 @@
 //! The machine: lent state and its refusals, fetch, every instruction, traps, a step and a
-//! run (document 01, "What is lent", "Answers" and "Traps"; document 02, 5; the CHERIoT report, 7 and
-//! 9).
+//! run (document 01, "What is lent", "Answers" and "Traps"; document 02, 5 and 6; the CHERIoT report, 7
+//! and 9).
 
 #[cfg(test)]
 mod tests;
@@ -26,7 +26,13 @@ const CAPABILITIES: usize = 21;
 const MSTATUS: usize = 63;
 const MCAUSE: usize = 64;
 const MTVAL: usize = 65;
-const WORDS: usize = 66;
+// The stack's high-water mark and its base, then two numbers of two words each, the low one first
+// (document 02, 6).
+const MSHWM: usize = 66;
+const MSHWMB: usize = 67;
+const TIME: usize = 68;
+const COMPARE: usize = 70;
+const WORDS: usize = 72;
 
 /// The most bytes of memory (document 02, 5).
 const MOST_MEMORY: usize = 1 << 20;
@@ -46,6 +52,15 @@ const STORE_MISALIGNED: u32 = 6;
 const STORE_ACCESS: u32 = 7;
 const ECALL: u32 = 11;
 const CAPABILITY_TRAP: u32 = 28;
+
+/// The machine timer interrupt: its cause 7 with the top bit, and nothing in mtval (document 02, 6).
+const TIMER_INTERRUPT: Trap = Trap {
+    cause: 0x8000_0007,
+    value: 0,
+};
+
+/// The bits of the mark pair that a CSR write and a store clear.
+const MARK_BITS: u32 = 15;
 
 // Capability causes (CHERIoT report, Table 7.3).
 const BOUNDS: u32 = 1;
@@ -291,9 +306,16 @@ impl<'a> Machine<'a> {
         }
     }
 
-    /// One step: true if it retired, false if it trapped.
+    /// One step: true if it retired, false if it trapped. The interrupt comes before all of the fetch,
+    /// by the time at the start of the step; time goes on whatever the step does.
     fn step(&mut self) -> bool {
-        match self.fetch().and_then(|word| self.execute(word)) {
+        let done = if self.interrupts_enabled() && self.long(TIME) >= self.long(COMPARE) {
+            Err(TIMER_INTERRUPT)
+        } else {
+            self.fetch().and_then(|word| self.execute(word))
+        };
+        self.set_long(TIME, self.long(TIME).wrapping_add(1));
+        match done {
             Ok(next) => {
                 self.set_capability(PCC, next);
                 true
@@ -302,6 +324,25 @@ impl<'a> Machine<'a> {
                 self.enter_trap(trap);
                 false
             }
+        }
+    }
+
+    /// The number of two words of the register file.
+    fn long(&self, place: usize) -> u64 {
+        u64::from(self.words[place + 1]) << 32 | u64::from(self.words[place])
+    }
+
+    fn set_long(&mut self, place: usize, value: u64) {
+        self.words[place] = value as u32;
+        self.words[place + 1] = (value >> 32) as u32;
+    }
+
+    /// The mark after a store at an address, the lowest it touched: it goes down to the store if that
+    /// lies from the base up to below the mark, both as whole words.
+    fn lower_mark(&mut self, address: u32) {
+        let (mark, base) = (self.words[MSHWM], self.words[MSHWMB]);
+        if base <= address && address < mark {
+            self.words[MSHWM] = address & !MARK_BITS;
         }
     }
 
@@ -567,7 +608,9 @@ impl<'a> Machine<'a> {
         written.ok_or(Trap {
             cause: STORE_ACCESS,
             value: address,
-        })
+        })?;
+        self.lower_mark(address);
+        Ok(())
     }
 
     /// CSC, its checks in the order of the CHERIoT report's page.
@@ -592,7 +635,9 @@ impl<'a> Machine<'a> {
             .ok_or(Trap {
                 cause: STORE_ACCESS,
                 value: address,
-            })
+            })?;
+        self.lower_mark(address);
+        Ok(())
     }
 
     /// The integer instructions of OP and OP-IMM.
@@ -631,8 +676,8 @@ impl<'a> Machine<'a> {
         )
     }
 
-    /// The CSR instructions. A set or clear of no bits writes the old word, which for these
-    /// three registers is the same as not writing.
+    /// The CSR instructions. A set or clear by register 0 or by the number 0 does not write (the RISC-V
+    /// standard); by another register that holds 0 it writes, and a write clears the mark's low bits.
     fn csr(
         &mut self,
         operation: CsrOperation,
@@ -645,6 +690,16 @@ impl<'a> Machine<'a> {
             Csr::Mstatus => (MSTATUS, MIE | MPIE),
             Csr::Mcause => (MCAUSE, !0),
             Csr::Mtval => (MTVAL, !0),
+            Csr::Mshwm => (MSHWM, !0),
+            Csr::Mshwmb => (MSHWMB, !0),
+        };
+        let cleared = match csr {
+            Csr::Mshwm | Csr::Mshwmb => MARK_BITS,
+            Csr::Mstatus | Csr::Mcause | Csr::Mtval => 0,
+        };
+        let only_reads = match operand {
+            Operand::Register(register) => register.number() == 0,
+            Operand::Immediate(number) => number == 0,
         };
         let (old, mask) = (self.words[place], self.operand(operand));
         let new = match operation {
@@ -652,7 +707,9 @@ impl<'a> Machine<'a> {
             CsrOperation::Set => old | mask,
             CsrOperation::Clear => old & !mask,
         };
-        self.words[place] = (old & !writable) | (new & writable);
+        if operation == CsrOperation::Write || !only_reads {
+            self.words[place] = (old & !writable) | (new & writable & !cleared);
+        }
         self.set_register(rd, integer(old));
         Ok(())
     }

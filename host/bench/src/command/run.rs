@@ -10,10 +10,11 @@ use crate::proved::sheets::NEITHER;
 use crate::proved::{self, Counts, Refusal, MOST_STEPS};
 use crate::save::Place;
 use crate::sheet::Sheet;
+use crate::stack::Stack;
 use crate::trap::Trap;
 use crate::{complain, file, json, report, state_file, trace, Status};
 use indicatif::{ProgressBar, ProgressStyle};
-use lent::{State, Window};
+use lent::{State, Window, COMPARE, TIME};
 use std::io::Write;
 use std::path::{Path, PathBuf};
 
@@ -34,7 +35,9 @@ pub fn run(asked: Run) -> Result<Status, String> {
     if let Some(image) = fits.iter().find(|image| !image.fits) {
         return misfit(&asked, image);
     }
+    let stack = stack(&asked, map)?;
     let (mut state, images) = start(&asked, &files, map)?;
+    set_words(&asked, stack, &mut state);
     if let Err(refusal) = proved::run(&mut state, 0) {
         return refused(refusal, asked.json);
     }
@@ -53,7 +56,7 @@ pub fn run(asked: Run) -> Result<Status, String> {
         Err(refusal) => refused(refusal, asked.json),
         Ok(outcome) => {
             // What cannot be said is saved nevertheless, and what cannot be saved is said.
-            let said = conclude(&asked, &state, &outcome, &names, &fits);
+            let said = conclude(&asked, &state, &outcome, (&names, stack), &fits);
             place.map_or(Ok(()), |place| {
                 place.write(state_file::write(&state).as_bytes())
             })?;
@@ -164,6 +167,26 @@ fn window(asked: &Run, map: Option<&Sheet>, start: u32) -> Result<Option<Window>
     }
 }
 
+/// The stack that is asked for, or the map's.
+fn stack(asked: &Run, map: Option<&Sheet>) -> Result<Option<Stack>, String> {
+    match asked.stack.as_deref() {
+        Some(&[start, size]) => Stack::new(start, size).map(Some),
+        _ => Ok(map.and_then(Stack::of_map)),
+    }
+}
+
+/// Sets the mark for the stack at reset, and the timer as it is asked for.
+fn set_words(asked: &Run, stack: Option<Stack>, state: &mut State) {
+    if let (None, Some(stack)) = (&asked.state, stack) {
+        stack.set_mark(state);
+    }
+    for (place, asked) in [(TIME, asked.time), (COMPARE, asked.compare)] {
+        if let Some(number) = asked {
+            state.set_long(place, number);
+        }
+    }
+}
+
 /// A state with a window. Where no memory could hold it, its bits are left as they are: the machine
 /// refuses it before it looks at them.
 fn windowed(state: State, window: Window) -> State {
@@ -230,7 +253,7 @@ fn conclude(
     asked: &Run,
     state: &State,
     outcome: &Outcome,
-    names: &Names,
+    (names, stack): (&Names, Option<Stack>),
     fits: &[Beside],
 ) -> Result<Status, String> {
     let trap = match &outcome.end {
@@ -241,9 +264,11 @@ fn conclude(
     if asked.json {
         let mut value = json::run(state, outcome, trap.as_ref(), names);
         value["fit"] = json::images(fits);
+        value["stack"] = json::stack(state, stack);
         say_json(&value)?;
     } else {
         let mut text = report::counts(state, outcome);
+        text.push_str(&report::stack(state, stack));
         if let Some(trap) = &trap {
             text.push('\n');
             text.push_str(&report::trap(trap, state, names));

@@ -1,7 +1,7 @@
 //! Runs in calls against runs step by step.
 
 use super::*;
-use lent::{MCAUSE, PCC};
+use lent::{COMPARE, MCAUSE, MIE, MSTATUS, PCC, TIME, TIMER_INTERRUPT};
 
 const EBREAK: u32 = 0x0010_0073;
 const JUMP_TO_ITSELF: u32 = 0x0000_006F;
@@ -63,6 +63,41 @@ fn a_run_ends_where_the_program_stands_still() {
         let outcome = driven(&mut state, u64::MAX, false);
         assert_eq!(outcome.counts, counts(2 * u64::from(rounds), 0));
         assert_eq!(outcome.end, End::Still);
+    }
+}
+
+#[test]
+fn a_program_that_waits_for_the_timer_is_not_at_its_end() {
+    // It stands still from its 20th step on.
+    for compare in [0, 1, 19, 20, 21, 22, 100, 4_000, 1_200_000] {
+        let mut state = counting(10, JUMP_TO_ITSELF);
+        state.regs[MSTATUS] = MIE;
+        state.set_long(COMPARE, compare);
+        let outcome = driven(&mut state, 2_000_000, false);
+        assert_eq!(outcome.counts, counts(compare, 1), "{compare}");
+        assert!(matches!(outcome.end, End::Trap(_)), "{compare}");
+        assert_eq!(state.register(MCAUSE), TIMER_INTERRUPT);
+        assert_eq!(state.long(TIME), compare + 1);
+    }
+}
+
+#[test]
+fn a_timer_that_no_step_reaches_does_not_keep_a_program_running() {
+    for (mie, time, compare, steps) in [
+        (MIE, 0, u64::MAX, 1_000_000),
+        (MIE, 0, 5_000, 5_000),
+        (MIE, u64::MAX - 5_000, u64::MAX, 5_000),
+        (!MIE, 0, 0, u64::MAX),
+        (!MIE, u64::MAX - 3, u64::MAX, 5_000),
+    ] {
+        let mut state = counting(10, JUMP_TO_ITSELF);
+        state.regs[MSTATUS] = mie;
+        state.set_long(TIME, time);
+        state.set_long(COMPARE, compare);
+        let outcome = driven(&mut state, steps, false);
+        assert_eq!(outcome.counts, counts(20, 0), "{compare} {steps}");
+        assert_eq!(outcome.end, End::Still);
+        assert_eq!(state.long(TIME), time.wrapping_add(20));
     }
 }
 

@@ -40,13 +40,58 @@ fn what_is_written_is_read_again() {
     }
 }
 
+/// The sample as a version before 3 has it, without the new words, and as it is read, with zeros there.
+fn old_sample() -> (State, State) {
+    let (mut old, mut read) = (sample(), sample());
+    old.regs.truncate(MSHWM);
+    read.regs[MSHWM..].fill(0);
+    (old, read)
+}
+
+#[test]
+fn a_file_of_version_2_is_read_with_zeros_for_the_mark_and_the_timer() {
+    let (old, as_read) = old_sample();
+    let text = write_as(Version::Two, &old);
+    assert!(text.contains("registers 66\n") && text.contains("mtval ffffffff\nmemory"));
+    assert_eq!(read(text.as_bytes()), Ok(as_read));
+    // Another number of words stays what it was: the machine refuses it.
+    for words in [65, 67] {
+        let mut other = sample();
+        other.regs.resize(words, 7);
+        other.regs.truncate(words);
+        let text = write_as(Version::Two, &other);
+        assert_eq!(read(text.as_bytes()), Ok(other));
+    }
+}
+
+#[test]
+fn a_file_of_version_3_with_66_words_stays_one() {
+    let (old, _) = old_sample();
+    let text = write(&old);
+    assert!(text.starts_with("oddersnow state 3\n"));
+    assert_eq!(read(text.as_bytes()), Ok(old));
+}
+
+#[test]
+fn the_new_words_have_their_names() {
+    let mut state = sample();
+    for (place, word) in (MSHWM..WORDS).zip(1..) {
+        state.regs[place] = word;
+    }
+    let text = write(&state);
+    let lines = "mtval ffffffff\nmshwm 00000001\nmshwmb 00000002\ntime_low 00000003\n\
+                 time_high 00000004\ncompare_low 00000005\ncompare_high 00000006\nmemory 256\n";
+    assert!(text.contains(lines), "{text}");
+    assert_eq!(read(text.as_bytes()), Ok(state));
+}
+
 #[test]
 fn a_file_of_version_1_has_the_bits_of_all_of_memory() {
-    let state = sample();
-    assert_eq!(state.window, Window::whole(256));
-    let text = write_as(Version::One, &state);
+    let (old, as_read) = old_sample();
+    assert_eq!(old.window, Window::whole(256));
+    let text = write_as(Version::One, &old);
     assert!(text.starts_with("oddersnow state 1\nstart 20000000\nregisters 66\n"));
-    assert_eq!(read(text.as_bytes()), Ok(state));
+    assert_eq!(read(text.as_bytes()), Ok(as_read));
     let window = "window 00000000 00000100\n";
     let body = &text[..text.rfind("check").unwrap()];
     let both = body.replacen("registers", &format!("{window}registers"), 1);
@@ -79,14 +124,16 @@ fn a_right_check_word_does_not_make_another_form_good() {
     let body = &text[..text.rfind("check").unwrap()];
     assert!(read(&checked(body)).is_ok());
     for (old, new) in [
-        ("state 2", "state 1"),
-        ("state 2", "state 3"),
+        ("state 3", "state 1"),
+        ("state 3", "state 2"),
+        ("state 3", "state 4"),
         ("start 2", "start  2"),
         ("window 00000000 00000100", "window 00000000"),
         ("window 00000000 00000100", "window 0 100"),
         ("window 00000000 00000100\n", ""),
-        ("registers 66", "registers 066"),
-        ("registers 66", "registers 65"),
+        ("registers 72", "registers 072"),
+        ("registers 72", "registers 66"),
+        ("mshwm 00000000", "word66 00000000"),
         ("c1 ", "c2 "),
         ("memory 256", "memory 255"),
         ("memory 256", "memory 99999999999999999999"),

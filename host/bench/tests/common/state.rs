@@ -6,6 +6,19 @@ use std::fmt::Write;
 pub const START: u32 = 0x2000_0000;
 
 const NAMES: [&str; 5] = ["PCC", "MTCC", "MTDC", "MScratchC", "MEPCC"];
+/// The words after the capabilities; the first three are all that the versions before 3 have.
+const CONTROL: [&str; 9] = [
+    "mstatus",
+    "mcause",
+    "mtval",
+    "mshwm",
+    "mshwmb",
+    "time_low",
+    "time_high",
+    "compare_low",
+    "compare_high",
+];
+const OLD_WORDS: usize = 66;
 
 /// A state with code at its start, PCC there and null registers otherwise.
 pub fn with_code(code: &[u32]) -> State {
@@ -18,16 +31,32 @@ pub fn with_code(code: &[u32]) -> State {
 
 /// The text of a state's file.
 pub fn text(state: &State) -> String {
-    let mut text = format!("oddersnow state 2\nstart {:08x}\n", state.start);
+    windowed(3, state)
+}
+
+/// The text of a state's file of version 2, which has no stack mark and no timer.
+pub fn text_of_version_2(state: &State) -> String {
+    windowed(2, &without_new_words(state))
+}
+
+fn windowed(version: u32, state: &State) -> String {
+    let mut text = format!("oddersnow state {version}\nstart {:08x}\n", state.start);
     let Window { start, size } = state.window;
     let _ = writeln!(text, "window {start:08x} {size:08x}");
     body(text, state)
 }
 
-/// The text of a state's file of version 1, which has no window.
+/// The text of a state's file of version 1, which has no window either.
 pub fn old_text(state: &State) -> String {
     let text = format!("oddersnow state 1\nstart {:08x}\n", state.start);
-    body(text, state)
+    body(text, &without_new_words(state))
+}
+
+fn without_new_words(state: &State) -> State {
+    State {
+        regs: state.regs[..OLD_WORDS].to_vec(),
+        ..state.clone()
+    }
 }
 
 /// The lines from the registers on.
@@ -43,8 +72,7 @@ fn body(mut text: String, state: &State) -> String {
             .for_each(|word| write!(text, " {word:08x}").unwrap());
         text.push('\n');
     }
-    let last = ["mstatus", "mcause", "mtval"].into_iter();
-    for (name, word) in last.zip(state.regs.iter().skip(63)) {
+    for (name, word) in CONTROL.iter().zip(state.regs.iter().skip(63)) {
         let _ = writeln!(text, "{name} {word:08x}");
     }
     let buffers = [

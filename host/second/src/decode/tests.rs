@@ -76,12 +76,13 @@ fn system_words() {
     }
 }
 
-// Document 01: three CSR numbers, mstatus, mcause and mtval; the rest is illegal.
+// Document 01: the CSR numbers of mstatus, mcause and mtval; document 02, 6: those of mshwm and mshwmb. The
+// rest is illegal.
 #[test]
 fn csr_numbers() {
     for number in 0..0x1000 {
         for funct3 in [1, 2, 3, 5, 6, 7] {
-            let known = [0x300, 0x342, 0x343].contains(&number);
+            let known = [0x300, 0x342, 0x343, 0xBC1, 0xBC2].contains(&number);
             assert_eq!(decode(asm::csr(funct3, number, 1, 2)).is_some(), known);
         }
         assert_eq!(decode(asm::csr(4, number, 1, 2)), None);

@@ -5,6 +5,8 @@ mod capabilities;
 mod compressed;
 mod control;
 mod integers;
+mod mark;
 mod memory;
 mod refusals;
+mod timer;
 mod traps;

@@ -22,6 +22,11 @@ pub const MEPCC: usize = 20;
 pub const MSTATUS: usize = 63;
 pub const MCAUSE: usize = 64;
 pub const MTVAL: usize = 65;
+// Document 02, 6.
+pub const MSHWM: usize = 66;
+pub const MSHWMB: usize = 67;
+pub const TIME: usize = 68;
+pub const COMPARE: usize = 70;
 
 pub fn tagged(address: u32, metadata: u32) -> Capability {
     Capability {
@@ -69,10 +74,11 @@ pub struct Bench {
 }
 
 impl Bench {
-    /// Special registers as at reset (CHERIoT report, Table 7.2), but for the addresses.
+    /// Special registers as at reset (CHERIoT report, Table 7.2), but for the addresses; the timer is as far
+    /// off as it can be.
     pub fn new() -> Bench {
         let mut bench = Bench {
-            regs: vec![0; 66],
+            regs: vec![0; 72],
             start: START,
             mem: vec![0; 256],
             tags: vec![0; 4],
@@ -84,6 +90,7 @@ impl Bench {
         bench.set(MTDC, tagged(0, MEMORY_ROOT));
         bench.set(MSCRATCHC, tagged(0, SEALING_ROOT));
         bench.set(MEPCC, tagged(0, EXECUTABLE_ROOT));
+        bench.set_long(COMPARE, u64::MAX);
         bench
     }
 
@@ -98,6 +105,16 @@ impl Bench {
     pub fn set(&mut self, place: usize, value: Capability) {
         let words = [value.address, value.metadata, value.tag];
         self.regs[3 * place..3 * place + 3].copy_from_slice(&words);
+    }
+
+    /// The number of two words.
+    pub fn long(&self, place: usize) -> u64 {
+        u64::from(self.regs[place]) | u64::from(self.regs[place + 1]) << 32
+    }
+
+    pub fn set_long(&mut self, place: usize, value: u64) {
+        self.regs[place] = value as u32;
+        self.regs[place + 1] = (value >> 32) as u32;
     }
 
     /// Writes instruction words from PCC on.
@@ -189,6 +206,7 @@ impl Bench {
         expected.regs[MSTATUS] = self.regs[MSTATUS] & !0x88 | enabled << 7;
         expected.regs[MCAUSE] = mcause;
         expected.regs[MTVAL] = mtval;
+        expected.set_long(TIME, self.long(TIME).wrapping_add(1));
         assert_eq!(self.step(), TRAPPED);
         assert_eq!((self.regs[MCAUSE], self.regs[MTVAL]), (mcause, mtval));
         assert_eq!(*self, expected);

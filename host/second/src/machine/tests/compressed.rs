@@ -135,6 +135,7 @@ fn hints() {
         bench.halves(&[half]);
         let mut expected = bench.clone();
         expected.set(PCC, tagged(START + 2, EXECUTABLE_ROOT));
+        expected.set_long(TIME, 1);
         assert_eq!(bench.step(), RETIRED);
         assert_eq!(bench, expected, "{half:04x}");
     }

@@ -188,6 +188,7 @@ fn fence_and_wfi() {
         bench.program(&[word]);
         let mut expected = bench.clone();
         expected.set(PCC, tagged(START + 4, metadata));
+        expected.set_long(TIME, 1);
         assert_eq!(bench.step(), RETIRED);
         assert_eq!(bench, expected);
     }

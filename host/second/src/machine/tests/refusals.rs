@@ -26,7 +26,7 @@ fn with(change: impl Fn(&mut Bench)) -> Bench {
 // 1: a register file of another length.
 #[test]
 fn refusal_1() {
-    for words in [0, 1, 65, 67, 200] {
+    for words in [0, 1, 66, 71, 73, 200] {
         refused(with(|b| b.regs.resize(words, 0)), 1, 1);
     }
 }

@@ -194,7 +194,8 @@ fn system_register_causes() {
         bench.set(PCC, without(tagged(START, EXECUTABLE_ROOT), SR));
         bench.trap(word, 28, mtval);
     };
-    for number in [asm::MSTATUS, asm::MCAUSE, asm::MTVAL] {
+    let numbers = [asm::MSTATUS, asm::MCAUSE, asm::MTVAL];
+    for number in numbers.into_iter().chain([asm::MSHWM, asm::MSHWMB]) {
         for funct3 in [1, 2, 3, 5, 6, 7] {
             refused(asm::csr(funct3, number, 3, 0), 1024 + 24);
         }
@@ -205,7 +206,7 @@ fn system_register_causes() {
     }
 }
 
-// Document 01: a CSR number that is none of the three is illegal, SR or no SR; the CHERIoT
+// Document 01: a CSR number that is none of the five is illegal, SR or no SR; the CHERIoT
 // report, CSpecialRW: a special register that does not exist is illegal first.
 #[test]
 fn unknown_system_registers() {
@@ -213,8 +214,10 @@ fn unknown_system_registers() {
         tagged(START, EXECUTABLE_ROOT),
         without(tagged(START, EXECUTABLE_ROOT), SR),
     ] {
-        // mtvec, mepc, cycle.
-        for number in [0x305, 0x341, 0xC00] {
+        // mtvec, mie, mepc, mip, cycle, time and its upper half, and the neighbours of the mark pair.
+        for number in [
+            0x305, 0x304, 0x341, 0x344, 0xC00, 0xC01, 0xC81, 0xBC0, 0xBC3,
+        ] {
             let mut bench = Bench::new();
             bench.set(PCC, pcc);
             let word = asm::csr(2, number, 3, 0);
