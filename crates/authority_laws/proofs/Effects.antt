@@ -60,10 +60,10 @@ filtered-from authority value m =
     let v = loadedOf authority value in
     from-both {b = v} (loaded-from authority value) (keep-from (not (revokedValue (m .board) (m .revoked) v)) v)
 
--- PCC at another address and of another type: a link, whatever the instruction's bytes and the link's type
-pub link-from : (bytes : ℕ) (pcc : Capability) (mstatus : ℕ) → From pcc (linkOf bytes pcc mstatus)
+-- PCC at another address and of another type: a link, whatever the instruction's bytes, the edition and the link's type
+pub link-from : (bytes edition : ℕ) (pcc : Capability) (mstatus : ℕ) → From pcc (linkOf bytes edition pcc mstatus)
 unfolding linkOf
-link-from bytes pcc mstatus = from-both (move-from pcc _) (type-from _ _)
+link-from bytes edition pcc mstatus = from-both (move-from pcc _) (type-from _ _)
 
 -- where a jump goes: its register, unsealed, at another address
 pub target-from : (c : Capability) (target : ℕ) → From c (moveOf (withObjectType c 0) target)
@@ -127,15 +127,15 @@ module _ (P : Capability → Type 0) (closed : Closed P) where
     branch-carried takes target =
         cond-holds (EachCapability P) takes (takenEffect target regs) Advance (targeted _ _ _ _ (number 0, closed .derived (move-from (pccOf regs) _) pcc)) tt
 
-    jump-carried : (bytes : ℕ) (i : JumpInstruction) → EachCapability P (jumpEffect bytes i regs)
+    jump-carried : (bytes edition : ℕ) (i : JumpInstruction) → EachCapability P (jumpEffect bytes edition i regs)
     unfolding jumpEffect jalEffect jalrEffect mretEffect
-    jump-carried bytes (Jumps.Jal rd offset) =
-        targeted _ _ _ _ (closed .derived (link-from bytes (pccOf regs) (mstatusOf regs)) pcc, closed .derived (move-from (pccOf regs) _) pcc)
-    jump-carried bytes (Jumps.Jalr rd rs1 offset) =
+    jump-carried bytes edition (Jumps.Jal rd offset) =
+        targeted _ _ _ _ (closed .derived (link-from bytes edition (pccOf regs) (mstatusOf regs)) pcc, closed .derived (move-from (pccOf regs) _) pcc)
+    jump-carried bytes edition (Jumps.Jalr rd rs1 offset) =
         targeted _ _ _ _
-        (closed .derived (link-from bytes (pccOf regs) (mstatusOf regs)) pcc, closed .derived (target-from (registerAt regs rs1) _) (general rs1))
-    jump-carried bytes (Jumps.Branch kind rs1 rs2 offset) = branch-carried _ _
-    jump-carried bytes Jumps.Mret =
+        (closed .derived (link-from bytes edition (pccOf regs) (mstatusOf regs)) pcc, closed .derived (target-from (registerAt regs rs1) _) (general rs1))
+    jump-carried bytes edition (Jumps.Branch kind rs1 rs2 offset) = branch-carried _ _
+    jump-carried bytes edition Jumps.Mret =
         passes _ _ _ (number 0, closed .derived (legalized-from returnAlignment (capabilityAt regs mepccIndex)) (holds .file mepccIndex (omega arith)))
 
     capability-carried : (i : CapabilityInstruction) → EachCapability P (capabilityEffect i regs)
@@ -193,7 +193,7 @@ module _ (P : Capability → Type 0) (closed : Closed P) where
       pub effect-carried : (bytes : ℕ) (i : Instruction) (word : ℕ) → EachCapability P (effectOf bytes i word regs m)
       unfolding effectOf
       effect-carried bytes (Instruction.Integer i) word = integer-carried i regs
-      effect-carried bytes (Instruction.Jump i) word = jump-carried bytes i
+      effect-carried bytes (Instruction.Jump i) word = jump-carried bytes (m .board .edition) i
       effect-carried bytes (Instruction.Memory i) word = memory-carried i
       effect-carried bytes (Instruction.Capability i) word = capability-carried i
       effect-carried bytes (Instruction.System i) word = system-carried i

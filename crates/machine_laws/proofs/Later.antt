@@ -22,7 +22,7 @@ use Rattle.state.specs.Lent.{State}
 use Rattle.commit.specs.Commit.{advanced, trapped, applyEffect}
 use Rattle.fetch.specs.Fetch.{shutOut, secondOf, standsOf, fetchedAt, fetchOf}
 use Rattle.execution.specs.Step.{effectOf, instructionIn, wordIn, lengthIn, trapOr, effectIn, stepOf}
-use Rattle.machine.specs.Refusals.{goodMemory, goodWindow, goodTags, goodZero, goodWords, goodBits, refusalOf}
+use Rattle.machine.specs.Refusals.{goodMemory, goodWindow, goodTags, goodZero, goodWords, goodBits, goodEdition, refusalOf}
 use Rattle.machine.specs.Run.{stepAfter}
 use Rattle.machine_laws.specs.Cases.{boardIn, before, top-of-memory}
 use Rattle.machine_laws.specs.Steps.{stepsAfter}
@@ -40,7 +40,7 @@ record Computed : Type 0 where
   third-stays : next third ≡ third
 
 computed : Computed
-unfolding before top-of-memory stepAfter refusalOf goodMemory goodTags goodZero goodWords goodWindow goodBits stepOf effectIn trapOr lengthIn
+unfolding before top-of-memory stepAfter refusalOf goodMemory goodTags goodZero goodWords goodWindow goodBits goodEdition stepOf effectIn trapOr lengthIn
     instructionIn wordIn fetchOf fetchedAt standsOf secondOf shutOut effectOf applyEffect setCapability writeRegister advanced trapped Integers.aluOf
     Integers.integerEffect checked accessCause placeOf capabilityAt integerAt trapStatus legalized aluOf opImmOf decodeOf immediateI low high rights
     sealed tagged covers sameBounds moveOf exponentOf lowOf highOf lowAt highAt rightsOf permissionsOf typeOf scaleOf topOf baseOf signExtend leBytes
