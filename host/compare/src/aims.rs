@@ -261,7 +261,9 @@ impl Scene<'_> {
     fn pair(&mut self) {
         if !matches!(self.form, Form::Short(_)) && self.random.one_in(2) {
             let any = self.random.below(16);
-            let (rd, rs1) = self.random.pick([(0, 1), (0, 1), (1, any), (1, 1), (any, 1), (0, any)]);
+            let (rd, rs1) =
+                self.random
+                    .pick([(0, 1), (0, 1), (1, any), (1, 1), (any, 1), (0, any)]);
             (self.operands.rd, self.operands.rs1) = (rd, rs1);
         }
     }

@@ -6,7 +6,7 @@ use crate::machines::{Both, Differing, Machine};
 use crate::state::{Call, Case};
 use lent::{
     Answer, Capability, State, EXECUTABLE_ROOT, LATER_EDITION, MEMORY_ROOT, MOST_STEPS, MSTATUS,
-    MTCC, PCC, REPORT_EDITION,
+    MTCC, MTVAL, PCC, REPORT_EDITION,
 };
 use std::fmt;
 
@@ -49,11 +49,22 @@ const TAKEN: [[&[u32]; 3]; 2] = [
 #[derive(Clone, Copy)]
 enum Jump {
     /// CJALR, or the short word that it is where the pair has one.
-    Long { cd: u32, cs1: u32, offset: u32 },
-    Short { cd: u32, cs1: u32 },
+    Long {
+        cd: u32,
+        cs1: u32,
+        offset: u32,
+    },
+    Short {
+        cd: u32,
+        cs1: u32,
+    },
     /// CJAL, and its short words.
-    Near { cd: u32 },
-    ShortNear { cd: u32 },
+    Near {
+        cd: u32,
+    },
+    ShortNear {
+        cd: u32,
+    },
 }
 
 impl Jump {
@@ -148,8 +159,8 @@ impl Totals {
     }
 
     /// Counts a jump by what the second program left.
-    fn count(&mut self, edition: usize, jump: Jump, target: Capability, after: &State, answer: u64) {
-        let retired = Answer::of(answer).retired == 1;
+    fn count(&mut self, edition: usize, jump: Jump, target: Capability, both: &Both) {
+        let retired = Answer::of(both.their_answer).retired == 1;
         let Some((cd, cs1)) = jump.registers() else {
             self.near += u64::from(retired);
             return;
@@ -162,11 +173,28 @@ impl Totals {
             self.data += 1;
         } else {
             let sealed = (target.metadata >> TYPE & 7) as usize;
-            let counts = if retired { &mut self.taken } else { &mut self.shut };
+            let counts = if retired {
+                &mut self.taken
+            } else {
+                &mut self.shut
+            };
             counts[edition][kind(cd, cs1)][sealed] += 1;
-            if !retired && after.regs[lent::MTVAL] != cs1 * 32 + 3 {
-                self.faults.push(format!("no seal violation: {:08x}", jump.word()));
+            if !retired && both.theirs.regs[MTVAL] != cs1 * 32 + 3 {
+                self.faults
+                    .push(format!("no seal violation: {:08x}", jump.word()));
             }
+        }
+    }
+}
+
+impl Totals {
+    /// Counts a call that may be refused, and then leaves all as it was.
+    fn count_refusal(&mut self, case: &Case, both: &Both) {
+        let number = Answer::of(both.their_answer).number as usize;
+        self.refused[number] += 1;
+        if number != 0 && both.theirs != case.state {
+            self.faults
+                .push(format!("refusal {number} changed something"));
         }
     }
 }
@@ -216,7 +244,7 @@ fn jump_case(edition: u32, status: u32, jump: Jump, target: Capability) -> Case 
 /// The case of another edition, with those of the reasons 1 to 5 that the bits tell.
 fn refused_case(edition: u32, reasons: u32, call: Call) -> Case {
     let wanted = |reason: u32| reasons >> (reason - 1) & 1 == 1;
-    let mut case = jump_case(edition, 8, Jump::Near { cd: 1 }, Capability::default());
+    let mut case = jump_case(edition, 8, Jump::Near { cd: 1 }, Capability::integer(0));
     case.call = call;
     if wanted(4) {
         case.state.regs[5] = 2;
@@ -236,41 +264,52 @@ fn refused_case(edition: u32, reasons: u32, call: Call) -> Case {
     case
 }
 
+/// Every target: each type, executable or not, tagged or not.
+fn targets() -> Vec<Capability> {
+    let of_type = |sealed: u32| {
+        TARGETS.map(|(root, tag)| Capability {
+            address: TARGET,
+            metadata: root | sealed << TYPE,
+            tag,
+        })
+    };
+    (0..TYPES).flat_map(of_type).collect()
+}
+
+/// Every edition with every interrupt status.
+fn settings() -> Vec<(u32, u32)> {
+    let with = |edition| STATUSES.map(|status| (edition, status));
+    EDITIONS.into_iter().flat_map(with).collect()
+}
+
+/// Every other edition, and those that are, with every set of reasons.
+fn refusals() -> Vec<(u32, u32)> {
+    let editions = OTHERS.into_iter().chain(EDITIONS);
+    editions
+        .flat_map(|edition| (0..32).map(move |reasons| (edition, reasons)))
+        .collect()
+}
+
 /// Compares a machine with the second program on all of it.
 pub fn compare(ours: Machine) -> Result<Totals, Box<Differing>> {
     let mut totals = Totals::default();
     let mut both = Both::default();
-    let jumps = jumps();
-    for edition in EDITIONS {
-        for status in STATUSES {
-            for &jump in &jumps {
-                for sealed in 0..TYPES {
-                    for (root, tag) in TARGETS {
-                        let target = Capability {
-                            address: TARGET,
-                            metadata: root | sealed << TYPE,
-                            tag,
-                        };
-                        let case = jump_case(edition, status, jump, target);
-                        agreed(&mut both, ours, &mut totals, &case)?;
-                        let answer = both.their_answer;
-                        totals.count(edition as usize, jump, target, &both.theirs, answer);
-                    }
-                }
-            }
+    let (jumps, targets) = (jumps(), targets());
+    for (edition, status) in settings() {
+        for (&jump, &target) in jumps
+            .iter()
+            .flat_map(|jump| targets.iter().map(move |target| (jump, target)))
+        {
+            let case = jump_case(edition, status, jump, target);
+            agreed(&mut both, ours, &mut totals, &case)?;
+            totals.count(edition as usize, jump, target, &both);
         }
     }
-    for edition in OTHERS.into_iter().chain(EDITIONS) {
-        for reasons in 0..32 {
-            for call in [Call::Step, Call::Run(0), Call::Run(3)] {
-                let case = refused_case(edition, reasons, call);
-                agreed(&mut both, ours, &mut totals, &case)?;
-                let number = Answer::of(both.their_answer).number as usize;
-                totals.refused[number] += 1;
-                if number != 0 && both.theirs != case.state {
-                    totals.faults.push(format!("refusal {number} changed something"));
-                }
-            }
+    for (edition, reasons) in refusals() {
+        for call in [Call::Step, Call::Run(0), Call::Run(3)] {
+            let case = refused_case(edition, reasons, call);
+            agreed(&mut both, ours, &mut totals, &case)?;
+            totals.count_refusal(&case, &both);
         }
     }
     Ok(totals)

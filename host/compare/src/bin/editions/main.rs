@@ -18,7 +18,7 @@ fn main() -> ExitCode {
 }
 
 fn run(options: &Options) -> Result<String, String> {
-    let totals = compare(PROVED)
-        .map_err(|found| differing(PROVED, &table(), options.seed, *found))?;
+    let totals =
+        compare(PROVED).map_err(|found| differing(PROVED, &table(), options.seed, *found))?;
     reached(totals.to_string(), &totals.faults())
 }

@@ -107,7 +107,14 @@ fn interrupts() {
 // A call and its return in the later edition bring MIE back; and the link opens by the return alone.
 #[test]
 fn call_and_return() {
-    let mut bench = jump(LATER, 8, sealed(tagged(START + 0x40, EXECUTABLE_ROOT), 2), 1, 2, 0);
+    let mut bench = jump(
+        LATER,
+        8,
+        sealed(tagged(START + 0x40, EXECUTABLE_ROOT), 2),
+        1,
+        2,
+        0,
+    );
     assert_eq!(bench.step(), RETIRED);
     assert_eq!(bench.regs[MSTATUS], 0);
     let called = bench.clone();
