@@ -236,15 +236,16 @@ fn take_steps(
         ≡ iterate n board (now (revoked .entry)) (ran (state (now (regs .entry)) (now (mem .entry)) (now (tags .entry))) 0 0) ⌝ }
 {
     let mut retired: u32 = 0;
-    let mut trapped: u32 = 0;
     let mut k: u32 = 0;
     while k < n {
-        let one = choices::one_if(execution::take_step(regs, board, mem, tags, revoked));
-        retired += one;
-        trapped += 1 - one;
+        retired += choices::one_if(execution::take_step(regs, board, mem, tags, revoked));
         k += 1;
     }
-    Counts { retired, trapped }
+    // Each step retires or traps: the loop counts the one kind.
+    Counts {
+        retired,
+        trapped: n - retired,
+    }
 }
 
 // n steps, and how many of them retired and trapped. A refusal changes nothing.
