@@ -1,5 +1,6 @@
 //! The command line.
 
+use crate::edition::Edition;
 use crate::image::Format;
 use clap::{Args, Parser, Subcommand};
 use std::path::PathBuf;
@@ -56,6 +57,9 @@ pub struct Run {
     /// map's region heap, else all of memory]
     #[arg(long, value_names = ["START", "SIZE"], num_args = 2, value_parser = word, conflicts_with = "state")]
     pub window: Option<Vec<u32>>,
+    /// The edition of the architecture [default: report]
+    #[arg(long, value_enum, conflicts_with = "state")]
+    pub edition: Option<Edition>,
     /// The address of the first instruction, even [default: the image's, else memory's start]
     #[arg(long, value_parser = even, conflicts_with = "state")]
     pub entry: Option<u32>,

@@ -3,6 +3,7 @@
 use crate::capability_text::{count, grouped, is_integer, length, region};
 use crate::capability_text::{revocation_words, rights, type_words};
 use crate::drive::{End, Outcome};
+use crate::edition;
 use crate::listing::Part;
 use crate::memory_rows::{rows, Row, ROW};
 use crate::names::Names;
@@ -10,7 +11,7 @@ use crate::proved::{bounds, instruction};
 use crate::request::digits;
 use crate::trap::{Action, Asked, Authority, Trap};
 use lent::{place_name, Capability, State, CAPABILITIES, GRANULE};
-use lent::{MCAUSE, MSTATUS, MTVAL, PCC};
+use lent::{MCAUSE, MSTATUS, MTVAL, PCC, REPORT_EDITION};
 use std::fmt::Write;
 
 /// The counts of a run, and how it ended.
@@ -190,6 +191,9 @@ pub fn registers(state: &State) -> String {
         text,
         "  mstatus {status:08x}, mcause {cause:08x}, mtval {value:08x}"
     );
+    if state.edition != REPORT_EDITION {
+        let _ = writeln!(text, "  edition {}", edition::name(state.edition));
+    }
     text
 }
 

@@ -1,23 +1,25 @@
-//! State files, version 2: text that holds all that a run is lent, with a check word at its end.
+//! State files, version 4: text that holds all that a run is lent, with a check word at its end.
 //! The format is docs/STATE.md's. A file is read only if writing what was read gives the same
-//! bytes; one of version 1 too, which has no window: the bits are of all of memory.
+//! bytes; those of older versions too. Version 1 has no window: the bits are of all of memory. Versions
+//! before 4 have no edition: it is the report's.
 
 #[cfg(test)]
 mod tests;
 
 use crate::digits::{pairs, word};
 use crate::file;
-use lent::{place_name, State, Window, CAPABILITIES, CONTROL, MSTATUS, WORDS};
+use lent::{place_name, State, Window, CAPABILITIES, CONTROL, MSTATUS, REPORT_EDITION, WORDS};
 use std::fmt::Write;
 
 /// The first line, before the version.
 const FORMAT: &str = "oddersnow state";
 
 /// The versions that are read.
-#[derive(Clone, Copy, PartialEq, Eq, Debug)]
+#[derive(Clone, Copy, PartialEq, Eq, PartialOrd, Debug)]
 enum Version {
     One,
     Two,
+    Four,
 }
 
 impl Version {
@@ -25,6 +27,7 @@ impl Version {
         let number = match self {
             Version::One => 1,
             Version::Two => 2,
+            Version::Four => 4,
         };
         format!("{FORMAT} {number}")
     }
@@ -37,14 +40,17 @@ const MOST: usize = 1 << 24;
 
 /// The text of a state.
 pub fn write(state: &State) -> String {
-    write_as(Version::Two, state)
+    write_as(Version::Four, state)
 }
 
 fn write_as(version: Version, state: &State) -> String {
     let mut text = format!("{}\nstart {:08x}\n", version.header(), state.start);
-    if version == Version::Two {
+    if version >= Version::Two {
         let Window { start, size } = state.window;
         let _ = writeln!(text, "window {start:08x} {size:08x}");
+    }
+    if version >= Version::Four {
+        let _ = writeln!(text, "edition {:08x}", state.edition);
     }
     let _ = writeln!(text, "registers {}", state.regs.len());
     let mut place = 0;
@@ -106,11 +112,13 @@ fn checksum(bytes: &[u8]) -> u32 {
 /// The state of a file's bytes, or what is wrong with them.
 pub fn read(bytes: &[u8]) -> Result<State, String> {
     let text = file::text(bytes)?;
-    let mut versions = [Version::Two, Version::One].into_iter();
+    let mut versions = [Version::Four, Version::Two, Version::One].into_iter();
     let version = versions.find(|version| text.lines().next() == Some(&version.header()));
     let Some(version) = version else {
-        let (old, new) = (Version::One.header(), Version::Two.header());
-        return Err(format!("line 1 is neither \"{new}\" nor \"{old}\""));
+        let (old, new) = (Version::One.header(), Version::Four.header());
+        return Err(format!(
+            "line 1 is neither \"{new}\" nor that of an older version from \"{old}\" on"
+        ));
     };
     check(text)?;
     let mut lines = Lines { text, number: 0 };
@@ -159,7 +167,11 @@ impl<'a> Lines<'a> {
         let start = word(self.after("start")?).ok_or(())?;
         let window = match version {
             Version::One => None,
-            Version::Two => Some(self.window()?),
+            Version::Two | Version::Four => Some(self.window()?),
+        };
+        let edition = match version {
+            Version::One | Version::Two => REPORT_EDITION,
+            Version::Four => word(self.after("edition")?).ok_or(())?,
         };
         let regs = self.registers()?;
         let mem = self.bytes("memory")?;
@@ -173,6 +185,7 @@ impl<'a> Lines<'a> {
             mem,
             tags,
             revoked,
+            edition,
         })
     }
 

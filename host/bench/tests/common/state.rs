@@ -18,6 +18,15 @@ pub fn with_code(code: &[u32]) -> State {
 
 /// The text of a state's file.
 pub fn text(state: &State) -> String {
+    let mut text = format!("oddersnow state 4\nstart {:08x}\n", state.start);
+    let Window { start, size } = state.window;
+    let _ = writeln!(text, "window {start:08x} {size:08x}");
+    let _ = writeln!(text, "edition {:08x}", state.edition);
+    body(text, state)
+}
+
+/// The text of a state's file of version 2, which has no edition.
+pub fn text_without_edition(state: &State) -> String {
     let mut text = format!("oddersnow state 2\nstart {:08x}\n", state.start);
     let Window { start, size } = state.window;
     let _ = writeln!(text, "window {start:08x} {size:08x}");
