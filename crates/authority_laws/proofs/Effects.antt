@@ -49,7 +49,7 @@ use Rattle.capability_instructions.specs.Derivation.{combined, globalPointer, c
 use Rattle.system_instructions.specs.System.{csrEffect, scrValue, specialWrite, specialEffect, systemEffect}
 use Rattle.system_instructions.proofs.Laws.{scr-in-file}
 use Rattle.execution.specs.Step.{effectOf}
-use Rattle.authority_laws.specs.Returns.{NoJump}
+use Rattle.machine_laws.specs.Editions.{NoJump}
 use Rattle.authority_laws.proofs.Operations.{From, from-both, type-from, move-from}
 use Rattle.authority_laws.proofs.Makers.{Made, made-both, keep-made, unsealed-made, seal-made, unseal-made, narrow-made, loaded-made, move-made}
 use Rattle.authority_laws.proofs.Makers.{legalized-made, set-bounds-made, set-bounds-exact-made}

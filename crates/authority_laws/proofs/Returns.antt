@@ -14,13 +14,14 @@ use Rattle.state.specs.Fits.{FitsRegisters}
 use Rattle.state.specs.declared.Board.{Board}
 use Rattle.execution.specs.Step.{seen, stepOf}
 use Rattle.machine.specs.Run.{stepRefusal}
+use Rattle.machine_laws.specs.Editions.{NoJump}
 use Rattle.machine_laws.specs.Fits.{InType}
 use Rattle.machine_laws.specs.Lent.{GoodState}
 use Rattle.machine_laws.specs.Steps.{lengthAt, standingAt, wordAt}
 use Rattle.machine_laws.proofs.Refusals.{good-of}
 use Rattle.machine_laws.proofs.Fetch.{fetched-holds}
 use Rattle.authority_laws.specs.Gain.{Stands, in-register, in-granule}
-use Rattle.authority_laws.specs.Returns.{ReturnSentry, NoReturns, NoJump}
+use Rattle.authority_laws.specs.Returns.{ReturnSentry, NoReturns}
 use Rattle.authority_laws.proofs.Closed.{Carried, Everywhere}
 use Rattle.authority_laws.proofs.Effects.{other-carried}
 use Rattle.authority_laws.proofs.Runs.{carried-keeps, at-granule, in-place}

@@ -4,8 +4,6 @@ use Rattle.metadata.specs.Word.{typeOf}
 use Rattle.metadata.specs.Rights.{EX, Has}
 use Rattle.capability.specs.Capability.{rights}
 use Rattle.capability.specs.declared.Capability.{Capability}
-use Rattle.instructions.specs.declared.Instruction.{Instruction}
-use Rattle.instructions.specs.declared.Instruction.the-variants.{Integer, Jump, Memory, Capability as Capabilities, System, Illegal}
 use Rattle.jump_instructions.specs.Report.{ReturnType}
 use Rattle.state.specs.Lent.{State}
 use Rattle.authority_laws.specs.Gain.{Stands}
@@ -19,12 +17,3 @@ pub record ReturnSentry (c : Capability) : Type 0 where
 -- none stands in registers or memory
 abbrev pub NoReturns : State → Type 0
 NoReturns s = (c : Capability) → Stands s c → ReturnSentry c → ⊥
-
--- an instruction of another family than that of jumps, or none
-abbrev pub NoJump : Instruction → Type 0
-NoJump (Integer i) = Unit {0}
-NoJump (Jump i) = ⊥
-NoJump (Memory i) = Unit {0}
-NoJump (Capabilities i) = Unit {0}
-NoJump (System i) = Unit {0}
-NoJump Illegal = Unit {0}
