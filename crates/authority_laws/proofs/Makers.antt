@@ -120,10 +120,10 @@ pub seal-made : (c a : Capability) → Made c (sealOf c a)
 unfolding sealOf permittedType rights
 seal-made c a =
     never c (sealOf c a) (seal-from c a) (λ h.
-        let t : ℕ = a .address in
-        let s : t % 2 ^ 3 < 8 = omega arith in
-        let k = tests.kept (not (sealed c) && (authorizes a SE && permittedType c t)) (c .tag) (h .is-tagged) .0 in
-        let p = tests.both-true (authorizes a SE) (permittedType c t) .0 (tests.both-true (not (sealed c)) _ .0 k .1) .1 in
-        let x : Has (wordRights (c .metadata)) EX = rw (permissions-of-type (c .metadata) (t % 2 ^ 3) s) at (h .executable) in
-        let e : grants c EX ≡ true = eq-eqb _ 1 x in
-        code-type t (rw e at p) (rw (type-of-type (c .metadata) (t % 2 ^ 3) s) at (h .return-type)))
+    let t : ℕ = a .address in
+    let s : t % 2 ^ 3 < 8 = omega arith in
+    let k = tests.kept (not (sealed c) && (authorizes a SE && permittedType c t)) (c .tag) (h .is-tagged) .0 in
+    let p = tests.both-true (authorizes a SE) (permittedType c t) .0 (tests.both-true (not (sealed c)) _ .0 k .1) .1 in
+    let x : Has (wordRights (c .metadata)) EX = rw (permissions-of-type (c .metadata) (t % 2 ^ 3) s) at (h .executable) in
+    let e : grants c EX ≡ true = eq-eqb _ 1 x in
+    code-type t (rw e at p) (rw (type-of-type (c .metadata) (t % 2 ^ 3) s) at (h .return-type)))

@@ -74,8 +74,8 @@ module _ (edition rd rs1 : ℕ) (c : Capability) (return : ReturnType (typeOf (c
         rw (held, return-sealed (typeOf (c .metadata)) return, return-accepted)
         (go (eqb edition laterEdition) refl (grants c EX) (eqb rd noLink) refl (eqb rs1 linkRegister) refl (eqb offset 0) refl _ _)
       where
-        go : (e : Bool) → eqb edition laterEdition ≡ e → (x d : Bool) → eqb rd noLink ≡ d → (s : Bool) → eqb rs1 linkRegister ≡ s → (o : Bool) → eqb offset 0 ≡ o
-            → (rest : ℕ) (jump : Effect)
+        go : (e : Bool) → eqb edition laterEdition ≡ e → (x d : Bool) → eqb rd noLink ≡ d → (s : Bool) → eqb rs1 linkRegister ≡ s
+            → (o : Bool) → eqb offset 0 ≡ o → (rest : ℕ) (jump : Effect)
             → cond (eqb (failIf (not (e && (x && (d && s))) || not o) sealCause rest) 0) jump
             (capabilityTrap rs1 (failIf (not (e && (x && (d && s))) || not o) sealCause rest)) ≡ capabilityTrap rs1 sealCause
         go true p true true q true r true z rest jump =

@@ -53,7 +53,8 @@ loop-again c =
     let one = c .one-if .ensures in
     let turn = laws.run-turn _ _ _ _ _ _ _ _ _ (at-test .loop-test .taken) (taken .1) (one .0 ∙ ap (λ b. cond b 1 0) (taken .0))
     (one .1 ∙ ap (λ b. cond b 0 1) (taken .0)) in
-    (omega arith, omega arith, omega arith, omega arith, omega arith, rw (more _ _ _ (at-test .before .loop .inv .1) (one .2)) turn ∙ at-test .before .loop .inv .5)
+    let kept = at-test .before .loop .inv in
+    (omega arith, omega arith, omega arith, omega arith, omega arith, rw (more _ _ _ (kept .1) (one .2)) turn ∙ kept .5)
 
 sub-t17 : tie.Need-sub-t17 Inv-loop μ-loop
 sub-t17 c = omega arith
