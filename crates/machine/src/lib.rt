@@ -236,16 +236,15 @@ fn take_steps(
         ≡ iterate n board (now (revoked .entry)) (ran (state (now (regs .entry)) (now (mem .entry)) (now (tags .entry))) 0 0) ⌝ }
 {
     let mut retired: u32 = 0;
+    let mut trapped: u32 = 0;
     let mut k: u32 = 0;
     while k < n {
-        retired += choices::one_if(execution::take_step(regs, board, mem, tags, revoked));
+        let one = choices::one_if(execution::take_step(regs, board, mem, tags, revoked));
+        retired += one;
+        trapped += 1 - one;
         k += 1;
     }
-    // Each step retires or traps: the loop counts the one kind.
-    Counts {
-        retired,
-        trapped: n - retired,
-    }
+    Counts { retired, trapped }
 }
 
 // n steps, and how many of them retired and trapped. A refusal changes nothing.
