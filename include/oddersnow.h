@@ -68,6 +68,7 @@ uint32_t oddersnow_calls(uint32_t address, uint32_t metadata, uint32_t tag,
  *   window   the part of mem that has revocation bits: window_size bytes from mem[window_start] on, both
  *            multiples of 64, inside mem; it may be empty, also at mem's end
  *   revoked  window_size / 64 bytes, ordered as the tags: the window's revocation bits, which nothing changes
+ *   edition  of the architecture: 0 the CHERIoT report, 1 the later one, which has return sentries
  *
  * The answer is number * 2^48 + trapped * 2^24 + retired, with the counts of the steps that trapped and of
  * those that retired; oddersnow_number and the two below take it apart. The number is
@@ -76,6 +77,7 @@ uint32_t oddersnow_calls(uint32_t address, uint32_t metadata, uint32_t tag,
  *   2  start, mem_len or the window breaks  5  a run asks for more than 1,000,000 steps
  *      its limits
  *   3  tags_len is not mem_len / 64, or revoked_len is not window_size / 64
+ *   7  edition is not 0 or 1
  *
  * and the lowest wins. Where it is not 0, nothing is changed and both counts are 0.
  *
@@ -84,11 +86,12 @@ uint32_t oddersnow_calls(uint32_t address, uint32_t metadata, uint32_t tag,
  */
 uint64_t oddersnow_step(uint32_t *regs, size_t regs_len, uint32_t start,
                         uint8_t *mem, size_t mem_len, uint8_t *tags, size_t tags_len,
-                        uint32_t window_start, uint32_t window_size, const uint8_t *revoked, size_t revoked_len);
+                        uint32_t window_start, uint32_t window_size, const uint8_t *revoked, size_t revoked_len,
+                        uint32_t edition);
 uint64_t oddersnow_run(uint32_t *regs, size_t regs_len, uint32_t start,
                        uint8_t *mem, size_t mem_len, uint8_t *tags, size_t tags_len,
                        uint32_t window_start, uint32_t window_size, const uint8_t *revoked, size_t revoked_len,
-                       uint32_t steps);
+                       uint32_t edition, uint32_t steps);
 
 /* Map sheets. A sheet is text, a line a region:
  *

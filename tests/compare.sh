@@ -1,6 +1,6 @@
 #!/usr/bin/env bash
 # The bulk comparisons of the proved program with the second one, and the search for gained authority:
-# compare.sh [PART..], by default all of capability, calls, machine, halves, listing, authority, sheets,
+# compare.sh [PART..], by default all of capability, calls, machine, editions, halves, listing, authority, sheets,
 # images and mutants. The proved libraries are built by rt, or lie in the directory that ODDERSNOW_STATICLIB
 # names. What a part wrote is in host/target/compare.
 set -u
@@ -14,6 +14,7 @@ program() { # PACKAGE NAME: built and run
 capability() { library label && program compare capability; }
 calls() { library call_lists && program compare calls; }
 machine() { library bench_api && program compare machine; }
+editions() { library bench_api && program compare editions; }
 halves() { library bench_api && program compare halves; }
 listing() { library listing_api && program compare listing; }
 authority() { library bench_api && program compare authority; }
@@ -21,10 +22,10 @@ sheets() { library sheet_api && program compare sheets; }
 images() { library sheet_api && program compare images; }
 mutants() { program mutants mutants; }
 
-[ $# -gt 0 ] || set -- capability calls machine halves listing authority sheets images mutants
+[ $# -gt 0 ] || set -- capability calls machine editions halves listing authority sheets images mutants
 for part in "$@"; do
   case $part in
-  capability | calls | machine | halves | listing | authority | sheets | images | mutants)
+  capability | calls | machine | editions | halves | listing | authority | sheets | images | mutants)
     log=$out/$part.txt check "compare $part" "$part" && tail -n 2 "$out/$part.txt" | head -n 1
     ;;
   *) echo "FAIL compare: no part $part"; bad=1 ;;

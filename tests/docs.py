@@ -29,7 +29,8 @@ ALLOWED = {
     "the kit's": """bitAnd bitOr bitXor getD set cond eqb leb ltb ensures requires rt u32::leading_zeros wrapping_add_u32
         wrapping_sub_u32 returns-5 libc::read io::write_all""",
     "the report's": "setCapBounds getCapLength",
-    "words of a format, of an option or of a pattern": "c0 c15 word66 word72 mshwm mshwmb imm type cap explain _ STACK_END outside marked",
+    "words of a format, of an option or of a pattern": """c0 c15 word66 word72 mshwm mshwmb imm type cap explain _ STACK_END outside marked
+        later""",
     "libgcc's and Debian's": """__divsi3 __modsi3 __umodsi3 memset binutils-riscv64-unknown-elf librust-clap-dev librust-indicatif-dev
         librust-object-dev librust-serde-json-dev""",
 }

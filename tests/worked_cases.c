@@ -36,7 +36,7 @@ static void last_instruction(void)
     memcpy(&regs[48], &out[6], 12);
     mem[60] = 0x13; /* ADDI x0, x0, 0 */
     memcpy(before, regs, sizeof regs);
-    check("a no-op at 0xFFFFFFFC retires", oddersnow_step(regs, 72, 0xFFFFFFC0, mem, 64, tags, 1, 0, 64, revoked, 1) == 1);
+    check("a no-op at 0xFFFFFFFC retires", oddersnow_step(regs, 72, 0xFFFFFFC0, mem, 64, tags, 1, 0, 64, revoked, 1, 0) == 1);
     check("the next PCC is untagged at 0", regs[48] == 0 && regs[49] == before[49] && regs[50] == 0);
     memcpy(&regs[48], &before[48], 12);
     check("time is one more", regs[68] == 1);

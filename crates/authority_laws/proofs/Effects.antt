@@ -49,27 +49,29 @@ use Rattle.capability_instructions.specs.Derivation.{combined, globalPointer, c
 use Rattle.system_instructions.specs.System.{csrEffect, scrValue, specialWrite, specialEffect, systemEffect}
 use Rattle.system_instructions.proofs.Laws.{scr-in-file, csr-holds}
 use Rattle.execution.specs.Step.{effectOf}
-use Rattle.authority_laws.proofs.Operations.{From, from-both, keep-from, type-from, seal-from, unseal-from, narrow-from, loaded-from, move-from}
-use Rattle.authority_laws.proofs.Operations.{legalized-from, set-bounds-from, set-bounds-exact-from}
-use Rattle.authority_laws.proofs.Closed.{Closed, Files, Granules}
+use Rattle.machine_laws.specs.Editions.{NoJump}
+use Rattle.authority_laws.proofs.Operations.{From, from-both, type-from, move-from}
+use Rattle.authority_laws.proofs.Makers.{Made, made-both, keep-made, unsealed-made, seal-made, unseal-made, narrow-made, loaded-made, move-made}
+use Rattle.authority_laws.proofs.Makers.{legalized-made, set-bounds-made, set-bounds-exact-made}
+use Rattle.authority_laws.proofs.Closed.{Carried, Files, Granules}
 
 -- what the load filter leaves, whatever is revoked
-pub filtered-from : (authority value : Capability) (m : Lent) → From value (filtered authority value m)
+pub filtered-made : (authority value : Capability) (m : Lent) → Made value (filtered authority value m)
 unfolding filtered
-filtered-from authority value m =
+filtered-made authority value m =
     let v = loadedOf authority value in
-    from-both {b = v} (loaded-from authority value) (keep-from (not (revokedValue (m .board) (m .revoked) v)) v)
+    made-both {b = v} (loaded-made authority value) (keep-made (not (revokedValue (m .board) (m .revoked) v)) v)
 
--- PCC at another address and of another type: a link, whatever the instruction's bytes and the link's type
-pub link-from : (bytes : ℕ) (pcc : Capability) (mstatus : ℕ) → From pcc (linkOf bytes pcc mstatus)
+-- PCC at another address and of another type: a link, whatever the instruction's bytes, the edition and the link's type
+pub link-from : (bytes edition : ℕ) (pcc : Capability) (mstatus : ℕ) → From pcc (linkOf bytes edition pcc mstatus)
 unfolding linkOf
-link-from bytes pcc mstatus = from-both (move-from pcc _) (type-from _ _)
+link-from bytes edition pcc mstatus = from-both (move-from pcc _) (type-from _ _)
 
 -- where a jump goes: its register, unsealed, at another address
-pub target-from : (c : Capability) (target : ℕ) → From c (moveOf (withObjectType c 0) target)
-target-from c target = from-both (type-from c 0) (move-from (withObjectType c 0) target)
+pub target-made : (c : Capability) (target : ℕ) → Made c (moveOf (withObjectType c 0) target)
+target-made c target = made-both (unsealed-made c) (move-made (withObjectType c 0) target)
 
-module _ (P : Capability → Type 0) (closed : Closed P) where
+module _ (P : Capability → Type 0) (closed : Carried P) where
   number : (x : ℕ) → P (integer x)
   number x = closed .untagged (integer x) refl
 
@@ -84,13 +86,13 @@ module _ (P : Capability → Type 0) (closed : Closed P) where
 
   combined-carried : (what : Combination) (c d : Capability) → Good c → P c → P (combined what c d)
   unfolding combined
-  combined-carried Combination.SetBounds c d g h = closed .derived (set-bounds-from c (d .address) (g .address-fits)) h
-  combined-carried Combination.SetBoundsExact c d g h = closed .derived (set-bounds-exact-from c (d .address) (g .address-fits)) h
-  combined-carried Combination.Seal c d g h = closed .derived (seal-from c d) h
-  combined-carried Combination.Unseal c d g h = closed .derived (unseal-from c d) h
-  combined-carried Combination.AndPerm c d g h = closed .derived (narrow-from c (d .address)) h
-  combined-carried Combination.SetAddr c d g h = closed .derived (move-from c _) h
-  combined-carried Combination.IncAddr c d g h = closed .derived (move-from c _) h
+  combined-carried Combination.SetBounds c d g h = closed .derived (set-bounds-made c (d .address) (g .address-fits)) h
+  combined-carried Combination.SetBoundsExact c d g h = closed .derived (set-bounds-exact-made c (d .address) (g .address-fits)) h
+  combined-carried Combination.Seal c d g h = closed .derived (seal-made c d) h
+  combined-carried Combination.Unseal c d g h = closed .derived (unseal-made c d) h
+  combined-carried Combination.AndPerm c d g h = closed .derived (narrow-made c (d .address)) h
+  combined-carried Combination.SetAddr c d g h = closed .derived (move-made c _) h
+  combined-carried Combination.IncAddr c d g h = closed .derived (move-made c _) h
   combined-carried Combination.SubAddr c d g h = number _
   combined-carried Combination.SetHigh c d g h = closed .untagged _ refl
   combined-carried Combination.TestSubset c d g h = number _
@@ -98,10 +100,10 @@ module _ (P : Capability → Type 0) (closed : Closed P) where
 
   scr-carried : (scr : Scr) (c : Capability) → P c → P (scrValue scr c)
   unfolding scrValue
-  scr-carried Mtcc c h = closed .derived (legalized-from vectorAlignment c) h
+  scr-carried Mtcc c h = closed .derived (legalized-made vectorAlignment c) h
   scr-carried Mtdc c h = h
   scr-carried Mscratchc c h = h
-  scr-carried Mepcc c h = closed .derived (legalized-from returnAlignment c) h
+  scr-carried Mepcc c h = closed .derived (legalized-made returnAlignment c) h
 
   special-carried : (scr : Scr) (rd rs1 : ℕ) (old value : Capability) → P old → P value → EachCapability P (specialWrite scr rd rs1 old value)
   unfolding specialWrite
@@ -125,26 +127,27 @@ module _ (P : Capability → Type 0) (closed : Closed P) where
     branch-carried : (takes : Bool) (target : ℕ) → EachCapability P (branchEffect takes target regs)
     unfolding branchEffect takenEffect
     branch-carried takes target =
-        cond-holds (EachCapability P) takes (takenEffect target regs) Advance (targeted _ _ _ _ (number 0, closed .derived (move-from (pccOf regs) _) pcc)) tt
+        cond-holds (EachCapability P) takes (takenEffect target regs) Advance (targeted _ _ _ _ (number 0, closed .derived (move-made (pccOf regs) _) pcc)) tt
 
-    jump-carried : (bytes : ℕ) (i : JumpInstruction) → EachCapability P (jumpEffect bytes i regs)
+    -- the link alone may break such a property
+    jump-carried : ((c r : Capability) → From c r → P c → P r) → (bytes edition : ℕ) (i : JumpInstruction) → EachCapability P (jumpEffect bytes edition i regs)
     unfolding jumpEffect jalEffect jalrEffect mretEffect
-    jump-carried bytes (Jumps.Jal rd offset) =
-        targeted _ _ _ _ (closed .derived (link-from bytes (pccOf regs) (mstatusOf regs)) pcc, closed .derived (move-from (pccOf regs) _) pcc)
-    jump-carried bytes (Jumps.Jalr rd rs1 offset) =
+    jump-carried linked bytes edition (Jumps.Jal rd offset) =
+        targeted _ _ _ _ (linked _ _ (link-from bytes edition (pccOf regs) (mstatusOf regs)) pcc, closed .derived (move-made (pccOf regs) _) pcc)
+    jump-carried linked bytes edition (Jumps.Jalr rd rs1 offset) =
         targeted _ _ _ _
-        (closed .derived (link-from bytes (pccOf regs) (mstatusOf regs)) pcc, closed .derived (target-from (registerAt regs rs1) _) (general rs1))
-    jump-carried bytes (Jumps.Branch kind rs1 rs2 offset) = branch-carried _ _
-    jump-carried bytes Jumps.Mret =
-        passes _ _ _ (number 0, closed .derived (legalized-from returnAlignment (capabilityAt regs mepccIndex)) (holds .file mepccIndex (omega arith)))
+        (linked _ _ (link-from bytes edition (pccOf regs) (mstatusOf regs)) pcc, closed .derived (target-made (registerAt regs rs1) _) (general rs1))
+    jump-carried linked bytes edition (Jumps.Branch kind rs1 rs2 offset) = branch-carried _ _
+    jump-carried linked bytes edition Jumps.Mret =
+        passes _ _ _ (number 0, closed .derived (legalized-made returnAlignment (capabilityAt regs mepccIndex)) (holds .file mepccIndex (omega arith)))
 
     capability-carried : (i : CapabilityInstruction) → EachCapability P (capabilityEffect i regs)
     unfolding capabilityEffect clearTag
-    capability-carried (Capabilities.AuiPcc rd offset) = closed .derived (move-from (pccOf regs) _) pcc
-    capability-carried (Capabilities.AuiCgp rd offset) = closed .derived (move-from (registerAt regs globalPointer) _) (general globalPointer)
-    capability-carried (Capabilities.IncAddrImm rd rs1 offset) = closed .derived (move-from (registerAt regs rs1) _) (general rs1)
+    capability-carried (Capabilities.AuiPcc rd offset) = closed .derived (move-made (pccOf regs) _) pcc
+    capability-carried (Capabilities.AuiCgp rd offset) = closed .derived (move-made (registerAt regs globalPointer) _) (general globalPointer)
+    capability-carried (Capabilities.IncAddrImm rd rs1 offset) = closed .derived (move-made (registerAt regs rs1) _) (general rs1)
     capability-carried (Capabilities.SetBoundsImm rd rs1 n) =
-        closed .derived (set-bounds-from (registerAt regs rs1) n (register-fits regs fits rs1 .address-fits)) (general rs1)
+        closed .derived (set-bounds-made (registerAt regs rs1) n (register-fits regs fits rs1 .address-fits)) (general rs1)
     capability-carried (Capabilities.Move rd rs1) = general rs1
     capability-carried (Capabilities.ClearTag rd rs1) = closed .untagged _ refl
     capability-carried (Capabilities.Inspect what rd rs1) = number _
@@ -173,7 +176,7 @@ module _ (P : Capability → Type 0) (closed : Closed P) where
       unfolding loadCapabilityAt
       loaded-carried Misaligned rd address authority h = tt
       loaded-carried Outside rd address authority h = tt
-      loaded-carried (At i) rd address authority h = closed .derived (filtered-from authority (capabilityIn (m .mem) (m .tags) i) m) (memory i h)
+      loaded-carried (At i) rd address authority h = closed .derived (filtered-made authority (capabilityIn (m .mem) (m .tags) i) m) (memory i h)
 
       memory-carried : (i : MemoryInstruction) → EachCapability P (memoryEffect i regs m)
       unfolding memoryEffect loadEffect storeEffect loadCapabilityEffect storeCapabilityEffect loadAt storeAt storeCapabilityAt
@@ -189,12 +192,23 @@ module _ (P : Capability → Type 0) (closed : Closed P) where
           let a : ℕ = addressOf regs rs1 offset in
           passes _ _ _ (placed (EachCapability P) (λ p. storeCapabilityAt p a (registerAt regs rs2)) tt tt (λ i. general rs2) (place a granuleBytes))
 
-      -- every instruction
-      pub effect-carried : (bytes : ℕ) (i : Instruction) (word : ℕ) → EachCapability P (effectOf bytes i word regs m)
+      -- every instruction but the jumps
+      pub other-carried : (bytes : ℕ) (i : Instruction) (word : ℕ) → NoJump i → EachCapability P (effectOf bytes i word regs m)
       unfolding effectOf
-      effect-carried bytes (Instruction.Integer i) word = integer-carried i regs
-      effect-carried bytes (Instruction.Jump i) word = jump-carried bytes i
-      effect-carried bytes (Instruction.Memory i) word = memory-carried i
-      effect-carried bytes (Instruction.Capability i) word = capability-carried i
-      effect-carried bytes (Instruction.System i) word = system-carried i
-      effect-carried bytes Instruction.Illegal word = tt
+      other-carried bytes (Instruction.Integer i) word n = integer-carried i regs
+      other-carried bytes (Instruction.Jump i) word n = absurd n
+      other-carried bytes (Instruction.Memory i) word n = memory-carried i
+      other-carried bytes (Instruction.Capability i) word n = capability-carried i
+      other-carried bytes (Instruction.System i) word n = system-carried i
+      other-carried bytes Instruction.Illegal word n = tt
+
+      -- every instruction
+      pub effect-carried : ((c r : Capability) → From c r → P c → P r) → (bytes : ℕ) (i : Instruction) (word : ℕ)
+          → EachCapability P (effectOf bytes i word regs m)
+      unfolding effectOf
+      effect-carried linked bytes (Instruction.Integer i) word = integer-carried i regs
+      effect-carried linked bytes (Instruction.Jump i) word = jump-carried linked bytes (m .board .edition) i
+      effect-carried linked bytes (Instruction.Memory i) word = memory-carried i
+      effect-carried linked bytes (Instruction.Capability i) word = capability-carried i
+      effect-carried linked bytes (Instruction.System i) word = system-carried i
+      effect-carried linked bytes Instruction.Illegal word = tt

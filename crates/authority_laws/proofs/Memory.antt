@@ -16,7 +16,7 @@ use Rattle.state.specs.Effects.{Stored, nothing, bytes, whole, storedBy, OneGra
 use Rattle.state.specs.declared.Effect.{Effect}
 use Rattle.state.specs.declared.Effect.the-variants.{Advance, Write, Store, StoreCapability, Jump, WriteScr, WriteCsr, Trap}
 use Rattle.commit.specs.Touched.{OnlyAt, Bytes, MemoryAfter}
-use Rattle.authority_laws.proofs.Closed.{Closed, Granules}
+use Rattle.authority_laws.proofs.Closed.{Carried, Granules}
 
 -- what is said of each capability of an effect is said of the one that it stores
 abbrev pub EachStored : (Capability → Type 0) → Stored → Type 0
@@ -65,7 +65,7 @@ module _ (b a : State) where
       let q : leBytes 4 (a .mem) (i + 4) ≡ c .metadata = omega (arith, y, g .metadata-fits) in
       rw (p, q, only .tag-is)
 
-  module _ (P : Capability → Type 0) (closed : Closed P) (long : length (a .mem) ≡ length (b .mem)) (holds : Granules P (b .mem) (b .tags)) where
+  module _ (P : Capability → Type 0) (closed : Carried P) (long : length (a .mem) ≡ length (b .mem)) (holds : Granules P (b .mem) (b .tags)) where
     stored-granules : (i width tag : ℕ) → OnlyAt i width tag b a → i % granuleBytes + width ≤ granuleBytes
         → ((j : ℕ) → j % granuleBytes ≡ 0 → j / granuleBytes ≡ i / granuleBytes → P (capabilityIn (a .mem) (a .tags) j)) → Granules P (a .mem) (a .tags)
     stored-granules i width tag only t p j w =

@@ -118,7 +118,7 @@ unseal-from c a =
     from-both {b = n} (below-from c (below-narrow (c .metadata) (globalMask a)) (inl refl))
     (below-from n (below-type (n .metadata) 0 (omega arith)) (unseal-kept c a))
 
-loses-from : (t : Bool) (mask : ℕ) (v : Capability) → From v (losesIf t mask v)
+pub loses-from : (t : Bool) (mask : ℕ) (v : Capability) → From v (losesIf t mask v)
 loses-from t mask v = below-from v (below-if t (v .metadata) mask) (inl refl)
 
 pub loaded-from : (a v : Capability) → From v (loadedOf a v)

@@ -23,8 +23,8 @@ use Rattle.state.proofs.Laws.{cond-holds}
 use Rattle.system_instructions.proofs.Laws.{scr-in-file}
 use Rattle.commit.specs.Commit.{advanced, trapped, jumped, withScr, withCsr, registersAfter, markedBy}
 use Rattle.machine_laws.proofs.Kept.{csr-place}
-use Rattle.authority_laws.proofs.Operations.{move-from, legalized-from}
-use Rattle.authority_laws.proofs.Closed.{Closed, Files}
+use Rattle.authority_laws.proofs.Makers.{move-made, legalized-made}
+use Rattle.authority_laws.proofs.Closed.{Carried, Files}
 
 -- ---- a capability read after a write
 
@@ -96,11 +96,11 @@ module _ (P : Capability → Type 0) where
   file-ticked l h =
       file-set _ (timeIndex + 1) (nextTime l / 2 ^ 32) (omega arith) (file-set l timeIndex (nextTime l % 2 ^ 32) (omega arith) h)
 
-  module _ (closed : Closed P) where
+  module _ (closed : Carried P) where
     -- PCC moves
     file-advanced : (n : ℕ) (l : List ℕ) → Files P l → Files P (advanced n l)
     unfolding advanced
-    file-advanced n l h = file-capability l pccIndex _ (omega arith) (closed .derived (move-from (pccOf l) _) (h .file pccIndex (omega arith))) h
+    file-advanced n l h = file-capability l pccIndex _ (omega arith) (closed .derived (move-made (pccOf l) _) (h .file pccIndex (omega arith))) h
 
     -- MEPCC comes from PCC, and PCC from MTCC
     file-trapped : (l : List ℕ) (cause value : ℕ) → Files P l → Files P (trapped l cause value)
@@ -110,8 +110,8 @@ module _ (P : Capability → Type 0) where
         (file-set _ (csrIndex Mcause) cause (omega arith)
         (file-set _ (csrIndex Mstatus) _ (omega arith)
         (file-capability _ pccIndex _ (omega arith)
-        (closed .derived (legalized-from vectorAlignment (capabilityAt l mtccIndex)) (h .file mtccIndex (omega arith)))
-        (file-capability l mepccIndex _ (omega arith) (closed .derived (legalized-from returnAlignment (pccOf l)) (h .file pccIndex (omega arith))) h))))
+        (closed .derived (legalized-made vectorAlignment (capabilityAt l mtccIndex)) (h .file mtccIndex (omega arith)))
+        (file-capability l mepccIndex _ (omega arith) (closed .derived (legalized-made returnAlignment (pccOf l)) (h .file pccIndex (omega arith))) h))))
 
     -- a clause for each effect
     files-after : (n : ℕ) (e : Effect) (l : List ℕ) → EachCapability P e → Files P l → Files P (registersAfter n e l)

@@ -32,24 +32,21 @@ use Rattle.machine_laws.proofs.Stores.{store-changes-only}
 use Rattle.machine_laws.proofs.Fits.{next-fits, in-type-stays, step-in-type, run-in-type}
 use Rattle.authority_laws.specs.Gain.{Stands, in-register, in-granule, Held, Sound, SoundState, Start, Derived, NoGain}
 use Rattle.authority_laws.specs.Gain.{Reached, at-start, by-step, by-run, by-c-step, by-c-run, AuthorityClaim}
-use Rattle.authority_laws.proofs.Closed.{Closed, Everywhere}
+use Rattle.authority_laws.proofs.Closed.{Closed, Carried, carried-of, Everywhere}
 use Rattle.authority_laws.proofs.Effects.{effect-carried}
 use Rattle.authority_laws.proofs.Registers.{files-left}
 use Rattle.authority_laws.proofs.Memory.{each-stored, granules-after}
 
 -- ---- a closed property
 
-pub step-keeps : (P : Capability → Type 0) → Closed P → (board : Board) (revoked : List ℕ) (s : State) → GoodState board revoked s → InType s
-    → Everywhere P s → Everywhere P (stepOf board revoked s)
+-- a step keeps it where the effect's capabilities have it
+pub carried-keeps : (P : Capability → Type 0) → Carried P → (board : Board) (revoked : List ℕ) (s : State) → GoodState board revoked s → InType s
+    → EachCapability P (effectAt board revoked s) → Everywhere P s → Everywhere P (stepOf board revoked s)
 unfolding stepOf applyEffect
-step-keeps P closed board revoked s good t h =
+carried-keeps P closed board revoked s good t carried h =
     let start = good .memory .start-aligned in
     let fits : FitsRegisters (s .regs) = record { words = t .registers-in; tags = good .words .tag-words } in
     let e = effectAt board revoked s in
-    let word = wordAt board s in
-    let carried : EachCapability P e =
-    fetched-holds (EachCapability P) board revoked s (λ n v. tt)
-    (effect-carried P closed (s .regs) fits (h .registers) (seen board revoked s) start (h .memory) (lengthAt board s) (decodeOf word) (standingAt board s)) in
     record {
       registers = files-left P closed (board .start) (lengthIn (fetchedIn board s)) e (s .regs) carried (h .registers);
       memory =
@@ -57,6 +54,18 @@ step-keeps P closed board revoked s good t h =
           (store-changes-only board revoked s (of-good board revoked s good 1 (omega arith))) (next-within board revoked s start)
           (each-stored Good e (next-fits board revoked s fits (t .memory-in) .0)) (each-stored P e carried);
     }
+
+pub step-keeps : (P : Capability → Type 0) → Closed P → (board : Board) (revoked : List ℕ) (s : State) → GoodState board revoked s → InType s
+    → Everywhere P s → Everywhere P (stepOf board revoked s)
+step-keeps P closed board revoked s good t h =
+    let start = good .memory .start-aligned in
+    let fits : FitsRegisters (s .regs) = record { words = t .registers-in; tags = good .words .tag-words } in
+    let carries = carried-of P closed in
+    carried-keeps P carries board revoked s good t
+    (fetched-holds (EachCapability P) board revoked s (λ n v. tt)
+    (effect-carried P carries (s .regs) fits (h .registers) (seen board revoked s) start (h .memory) (λ c r f p. closed .derived f p)
+    (lengthAt board s) (decodeOf (wordAt board s)) (standingAt board s)))
+    h
 
 -- ---- authority as a closed property
 
@@ -81,10 +90,10 @@ itself s h c p t =
     (h c k, record { origin = c; is-held = k; is-inside = inside-refl c })
 
 -- a granule by its number and by its place
-at-granule : (size g : ℕ) → g < size / granuleBytes → OneGranule (g * granuleBytes) granuleBytes size
+pub at-granule : (size g : ℕ) → g < size / granuleBytes → OneGranule (g * granuleBytes) granuleBytes size
 at-granule size g l = record { some = omega arith; inside = omega arith; together = omega arith }
 
-in-place : (s : State) (i : ℕ) → OneGranule i granuleBytes (length (s .mem)) → Stands s (capabilityIn (s .mem) (s .tags) i)
+pub in-place : (s : State) (i : ℕ) → OneGranule i granuleBytes (length (s .mem)) → Stands s (capabilityIn (s .mem) (s .tags) i)
 in-place s i w =
     let e : i / granuleBytes * granuleBytes ≡ i = omega (arith, w .together) in
     in-granule (i / granuleBytes) (omega (arith, w .inside)) (rw e)

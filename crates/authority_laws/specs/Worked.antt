@@ -8,12 +8,12 @@ use Rattle.capability.specs.Capability.{capability}
 use Rattle.capability.specs.declared.Capability.{Capability}
 use Rattle.state.specs.Layout.{registerWords, pccIndex, mtccIndex}
 use Rattle.state.specs.Registers.{setCapability}
-use Rattle.state.specs.Lent.{State, state}
+use Rattle.state.specs.Lent.{State, state, reportEdition}
 use Rattle.state.specs.declared.Board.{Board}
 
 -- 64 bytes of memory from 0x20000000, nothing revoked
 abbrev pub board : Board
-board = record { start = 0x20000000; window = record { start = 0; size = 64 } }
+board = record { start = 0x20000000; window = record { start = 0; size = 64 }; edition = reportEdition }
 
 abbrev pub revoked : List ℕ
 revoked = 0 ∷ []

@@ -32,5 +32,5 @@ pub record RunPacked (n : ℕ) (board : Board) (revoked : List ℕ) (before afte
   pub tags-are : after .tags ≡ runAfter n board revoked before .tags
 
 -- the board of plain numbers
-abbrev pub boardOf : (start windowStart windowSize : ℕ) → Board
-boardOf start windowStart windowSize = record { start = start; window = record { start = windowStart; size = windowSize } }
+abbrev pub boardOf : (start windowStart windowSize edition : ℕ) → Board
+boardOf start windowStart windowSize edition = record { start = start; window = record { start = windowStart; size = windowSize }; edition = edition }

@@ -98,8 +98,9 @@ pub extern "C" fn oddersnow_step(
     window_start: u32,
     window_size: u32,
     revoked: &[u8],
+    edition: u32,
 ) -> u64
-    ensures { λ r. ⌜ StepPacked (boardOf start «window_start» «window_size») (now (revoked .entry))
+    ensures { λ r. ⌜ StepPacked (boardOf start «window_start» «window_size» edition) (now (revoked .entry))
         (state (now (regs .entry)) (now (mem .entry)) (now (tags .entry))) (state (now (regs .exit)) (now (mem .exit)) (now (tags .exit))) r ⌝ }
 {
     let board = Board {
@@ -108,6 +109,7 @@ pub extern "C" fn oddersnow_step(
             start: window_start,
             size: window_size,
         },
+        edition,
     };
     let a = machine::step(regs, board, mem, tags, revoked);
     pack(step_number(a), step_trapped(a), step_retired(a))
@@ -123,9 +125,10 @@ pub extern "C" fn oddersnow_run(
     window_start: u32,
     window_size: u32,
     revoked: &[u8],
+    edition: u32,
     steps: u32,
 ) -> u64
-    ensures { λ r. ⌜ RunPacked steps (boardOf start «window_start» «window_size») (now (revoked .entry))
+    ensures { λ r. ⌜ RunPacked steps (boardOf start «window_start» «window_size» edition) (now (revoked .entry))
         (state (now (regs .entry)) (now (mem .entry)) (now (tags .entry))) (state (now (regs .exit)) (now (mem .exit)) (now (tags .exit))) r ⌝ }
 {
     let board = Board {
@@ -134,6 +137,7 @@ pub extern "C" fn oddersnow_run(
             start: window_start,
             size: window_size,
         },
+        edition,
     };
     let a = machine::run(regs, board, mem, tags, revoked, steps);
     pack(run_number(a), run_trapped(a), run_retired(a))

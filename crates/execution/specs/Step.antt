@@ -28,7 +28,7 @@ use Rattle.execution.specs.declared.Turn.{Turn}
 -- what an instruction of some bytes does; a word that is none traps with the word
 unfoldable pub effectOf : (bytes : ℕ) → Instruction → (word : ℕ) → (regs : List ℕ) → Lent → Effect
 effectOf bytes (Integer i) word regs m = integerEffect i regs
-effectOf bytes (Jump i) word regs m = jumpEffect bytes i regs
+effectOf bytes (Jump i) word regs m = jumpEffect bytes (m .board .edition) i regs
 effectOf bytes (Memory i) word regs m = memoryEffect i regs m
 effectOf bytes (Capability i) word regs m = capabilityEffect i regs
 effectOf bytes (System i) word regs m = systemEffect i regs

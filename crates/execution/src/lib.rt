@@ -26,7 +26,7 @@ fn execute(
 {
     match i {
         Instruction::Integer(x) => integer_instructions::integer_effect(x, regs),
-        Instruction::Jump(x) => jump_instructions::jump_effect(bytes, x, regs),
+        Instruction::Jump(x) => jump_instructions::jump_effect(bytes, board.edition, x, regs),
         Instruction::Memory(x) => {
             memory_instructions::memory_effect(x, regs, board, mem, tags, revoked)
         }

@@ -34,12 +34,12 @@ branched P takes target regs h k = cond-holds P takes (takenEffect target regs) 
 
 -- ---- stores
 
-pub jump-storeless : (bytes : ℕ) (i : JumpInstruction) (regs : List ℕ) → Storeless (jumpEffect bytes i regs)
+pub jump-storeless : (bytes edition : ℕ) (i : JumpInstruction) (regs : List ℕ) → Storeless (jumpEffect bytes edition i regs)
 unfolding jumpEffect jalEffect jalrEffect takenEffect mretEffect
-jump-storeless bytes (Jal rd offset) regs = targeted Storeless _ _ _ _ (λ n v. tt) tt
-jump-storeless bytes (Jalr rd rs1 offset) regs = targeted Storeless _ _ _ _ (λ n v. tt) tt
-jump-storeless bytes (Branch kind rs1 rs2 offset) regs = branched Storeless _ _ regs (targeted Storeless _ _ _ _ (λ n v. tt) tt) tt
-jump-storeless bytes Mret regs = checked-holds Storeless _ _ _ (λ n v. tt) tt
+jump-storeless bytes edition (Jal rd offset) regs = targeted Storeless _ _ _ _ (λ n v. tt) tt
+jump-storeless bytes edition (Jalr rd rs1 offset) regs = targeted Storeless _ _ _ _ (λ n v. tt) tt
+jump-storeless bytes edition (Branch kind rs1 rs2 offset) regs = branched Storeless _ _ regs (targeted Storeless _ _ _ _ (λ n v. tt) tt) tt
+jump-storeless bytes edition Mret regs = checked-holds Storeless _ _ _ (λ n v. tt) tt
 
 -- ---- tags
 
@@ -49,22 +49,22 @@ moved-tag c address h = kept-good c (moveOf c address) (move-kept c address) h
 typed-tag : (c : Capability) (t : ℕ) → GoodTag c → GoodTag (withObjectType c t)
 typed-tag c t h = kept-good c (withObjectType c t) (type-kept c t) h
 
-pub link-tag : (bytes : ℕ) (pcc : Capability) (mstatus : ℕ) → GoodTag pcc → GoodTag (linkOf bytes pcc mstatus)
+pub link-tag : (bytes edition : ℕ) (pcc : Capability) (mstatus : ℕ) → GoodTag pcc → GoodTag (linkOf bytes edition pcc mstatus)
 unfolding linkOf
-link-tag bytes pcc mstatus h = typed-tag _ _ (moved-tag pcc _ h)
+link-tag bytes edition pcc mstatus h = typed-tag _ _ (moved-tag pcc _ h)
 
-jal-good : (bytes rd target : ℕ) (regs : List ℕ) → GoodTags regs → GoodEffect (jalEffect bytes rd target regs)
+jal-good : (bytes edition rd target : ℕ) (regs : List ℕ) → GoodTags regs → GoodEffect (jalEffect bytes edition rd target regs)
 unfolding jalEffect
-jal-good bytes rd target regs h =
+jal-good bytes edition rd target regs h =
     targeted GoodEffect _ _ target _ (λ n v. tt)
-    (link-tag bytes (pccOf regs) (mstatusOf regs) (pcc-tag regs h), moved-tag (pccOf regs) target (pcc-tag regs h))
+    (link-tag bytes edition (pccOf regs) (mstatusOf regs) (pcc-tag regs h), moved-tag (pccOf regs) target (pcc-tag regs h))
 
-jalr-good : (bytes rd rs1 offset target : ℕ) (c : Capability) (regs : List ℕ) → GoodTag c → GoodTags regs
-    → GoodEffect (jalrEffect bytes rd rs1 offset target c regs)
+jalr-good : (bytes edition rd rs1 offset target : ℕ) (c : Capability) (regs : List ℕ) → GoodTag c → GoodTags regs
+    → GoodEffect (jalrEffect bytes edition rd rs1 offset target c regs)
 unfolding jalrEffect
-jalr-good bytes rd rs1 offset target c regs g h =
+jalr-good bytes edition rd rs1 offset target c regs g h =
     targeted GoodEffect _ _ target _ (λ n v. tt)
-    (link-tag bytes (pccOf regs) (mstatusOf regs) (pcc-tag regs h), moved-tag (withObjectType c 0) target (typed-tag c 0 g))
+    (link-tag bytes edition (pccOf regs) (mstatusOf regs) (pcc-tag regs h), moved-tag (withObjectType c 0) target (typed-tag c 0 g))
 
 taken-good : (target : ℕ) (regs : List ℕ) → GoodTags regs → GoodEffect (takenEffect target regs)
 unfolding takenEffect
@@ -79,9 +79,9 @@ mret-good regs h =
           (capability-tag regs mepccIndex (omega arith) h),
     )
 
-pub jump-good : (bytes : ℕ) (i : JumpInstruction) (regs : List ℕ) → GoodTags regs → GoodEffect (jumpEffect bytes i regs)
+pub jump-good : (bytes edition : ℕ) (i : JumpInstruction) (regs : List ℕ) → GoodTags regs → GoodEffect (jumpEffect bytes edition i regs)
 unfolding jumpEffect
-jump-good bytes (Jal rd offset) regs h = jal-good bytes rd _ regs h
-jump-good bytes (Jalr rd rs1 offset) regs h = jalr-good bytes rd rs1 offset _ (registerAt regs rs1) regs (register-tag regs rs1 h) h
-jump-good bytes (Branch kind rs1 rs2 offset) regs h = branched GoodEffect _ _ regs (taken-good _ regs h) tt
-jump-good bytes Mret regs h = mret-good regs h
+jump-good bytes edition (Jal rd offset) regs h = jal-good bytes edition rd _ regs h
+jump-good bytes edition (Jalr rd rs1 offset) regs h = jalr-good bytes edition rd rs1 offset _ (registerAt regs rs1) regs (register-tag regs rs1 h) h
+jump-good bytes edition (Branch kind rs1 rs2 offset) regs h = branched GoodEffect _ _ regs (taken-good _ regs h) tt
+jump-good bytes edition Mret regs h = mret-good regs h

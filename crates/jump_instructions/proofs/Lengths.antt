@@ -22,25 +22,26 @@ use Rattle.jump_instructions.specs.Lengths.{LengthOnly, alike, links, No
 
 -- ---- the link
 
-module _ (n k : ℕ) (pcc : Capability) (mstatus : ℕ) where
-  aligned-both : (target : ℕ) (d e : Effect) → LengthOnly n k pcc mstatus d e → LengthOnly n k pcc mstatus (aligned target d) (aligned target e)
+module _ (n k edition : ℕ) (pcc : Capability) (mstatus : ℕ) where
+  aligned-both : (target : ℕ) (d e : Effect) → LengthOnly n k edition pcc mstatus d e → LengthOnly n k edition pcc mstatus (aligned target d) (aligned target e)
   unfolding aligned
   aligned-both target d e h = go (eqb (target % targetAlignment) 0)
     where
-      go : (b : Bool) → LengthOnly n k pcc mstatus (cond b d (Trap fetchMisaligned target)) (cond b e (Trap fetchMisaligned target))
+      go : (b : Bool) → LengthOnly n k edition pcc mstatus (cond b d (Trap fetchMisaligned target)) (cond b e (Trap fetchMisaligned target))
       go true = h
       go false = alike
 
-  targeted-both : (r cause target : ℕ) (d e : Effect) → LengthOnly n k pcc mstatus d e
-      → LengthOnly n k pcc mstatus (checked r cause (aligned target d)) (checked r cause (aligned target e))
-  targeted-both r cause target d e h = checked-both (LengthOnly n k pcc mstatus) r cause _ _ (λ v. alike) (aligned-both target d e h)
+  targeted-both : (r cause target : ℕ) (d e : Effect) → LengthOnly n k edition pcc mstatus d e
+      → LengthOnly n k edition pcc mstatus (checked r cause (aligned target d)) (checked r cause (aligned target e))
+  targeted-both r cause target d e h = checked-both (LengthOnly n k edition pcc mstatus) r cause _ _ (λ v. alike) (aligned-both target d e h)
 
-pub jump-length : (n k : ℕ) (i : JumpInstruction) (regs : List ℕ) → LengthOnly n k (pccOf regs) (mstatusOf regs) (jumpEffect n i regs) (jumpEffect k i regs)
+pub jump-length : (n k edition : ℕ) (i : JumpInstruction) (regs : List ℕ)
+    → LengthOnly n k edition (pccOf regs) (mstatusOf regs) (jumpEffect n edition i regs) (jumpEffect k edition i regs)
 unfolding jumpEffect jalEffect jalrEffect
-jump-length n k (Jal rd offset) regs = targeted-both n k (pccOf regs) (mstatusOf regs) _ _ _ _ _ links
-jump-length n k (Jalr rd rs1 offset) regs = targeted-both n k (pccOf regs) (mstatusOf regs) _ _ _ _ _ links
-jump-length n k (Branch kind rs1 rs2 offset) regs = alike
-jump-length n k Mret regs = alike
+jump-length n k edition (Jal rd offset) regs = targeted-both n k edition (pccOf regs) (mstatusOf regs) _ _ _ _ _ links
+jump-length n k edition (Jalr rd rs1 offset) regs = targeted-both n k edition (pccOf regs) (mstatusOf regs) _ _ _ _ _ links
+jump-length n k edition (Branch kind rs1 rs2 offset) regs = alike
+jump-length n k edition Mret regs = alike
 
 -- ---- the target
 
@@ -54,11 +55,11 @@ module _ (regs : List ℕ) (even : pcOf regs % targetAlignment ≡ 0) where
   from-pc : (offset : ℕ) → offset % 2 ≡ 0 → wrap (pcOf regs + offset) % targetAlignment ≡ 0
   from-pc offset e = omega (arith, even)
 
-  pub jump-aligned : (n : ℕ) (i : JumpInstruction) → JumpInRange i → NoMisaligned (jumpEffect n i regs)
+  pub jump-aligned : (n edition : ℕ) (i : JumpInstruction) → JumpInRange i → NoMisaligned (jumpEffect n edition i regs)
   unfolding jumpEffect jalEffect jalrEffect branchEffect takenEffect mretEffect
-  jump-aligned n (Jal rd offset) r = targeted _ _ _ _ (from-pc offset (r .2)) tt
-  jump-aligned n (Jalr rd rs1 offset) r = targeted _ _ _ _ (omega arith) tt
-  jump-aligned n (Branch kind rs1 rs2 offset) r =
+  jump-aligned n edition (Jal rd offset) r = targeted _ _ _ _ (from-pc offset (r .2)) tt
+  jump-aligned n edition (Jalr rd rs1 offset) r = targeted _ _ _ _ (omega arith) tt
+  jump-aligned n edition (Branch kind rs1 rs2 offset) r =
       cond-holds NoMisaligned (taken kind (integerAt regs rs1) (integerAt regs rs2)) (takenEffect (wrap (pcOf regs + offset)) regs) Advance
       (targeted _ _ _ _ (from-pc offset (r .3)) tt) tt
-  jump-aligned n Mret r = checked-trap NoMisaligned _ _ _ (λ v q. absurd (omega arith)) tt
+  jump-aligned n edition Mret r = checked-trap NoMisaligned _ _ _ (λ v q. absurd (omega arith)) tt

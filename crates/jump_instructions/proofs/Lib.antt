@@ -2,3 +2,4 @@
 pub mod Laws
 pub mod Fits
 pub mod Lengths
+pub mod Editions

@@ -1,13 +1,13 @@
--- Jumps, branches and MRET. CHERIoT report, 7.5, 7.11 and 9.4 (CJAL, CJALR); RISC-V standards. Assumes nothing.
+-- Jumps, branches and MRET, once over the editions. CHERIoT report, 7.5, 7.11 and 9.4 (CJAL, CJALR); RISC-V standards. Assumes nothing.
 use mathlib.Core.Bool.{Bool, cond, not, _&&_, _||_}
 use mathlib.Core.List.{List}
 use Prim.Native.Nat.{ℕ, _+_, _-_, _*_, _/_, _%_}
 use lib.Dec.{eqb, ltb, leb}
-use Rattle.words.specs.Words.{wrap, lessSigned, withBit}
+use Rattle.words.specs.Words.{wrap, lessSigned}
 use Rattle.metadata.specs.Word.{typeOf}
-use Rattle.metadata.specs.Rights.{EX, bit, has}
+use Rattle.metadata.specs.Rights.{EX}
 use Rattle.capability.specs.Capability.{integer, moveOf, grants, sealed, tagged}
-use Rattle.capability.specs.Sealing.{isSentry, withObjectType, sentryDisabling, sentryEnabling}
+use Rattle.capability.specs.Sealing.{withObjectType}
 use Rattle.capability.specs.declared.Capability.{Capability}
 use Rattle.instructions.specs.declared.BranchKind.{BranchKind}
 use Rattle.instructions.specs.declared.BranchKind.the-variants.{Beq, Bne, Blt, Bge, Bltu, Bgeu}
@@ -16,19 +16,16 @@ use Rattle.instructions.specs.declared.JumpInstruction.the-variants.{Jal, Jalr,
 use Rattle.state.specs.Layout.{mepccIndex}
 use Rattle.state.specs.Registers.{registerAt, integerAt, capabilityAt, pccOf, pcOf, mstatusOf}
 use Rattle.state.specs.Addresses.{targetBytes, targetAlignment, returnAlignment, legalized}
-use Rattle.state.specs.Status.{MIE, returnStatus}
+use Rattle.state.specs.Status.{returnStatus}
 use Rattle.state.specs.Checks.{checked, failIf, inBounds, systemAccess, pccRegister, noCause, tagCause, sealCause, executeCause, boundsCause}
 use Rattle.state.specs.Checks.{fetchMisaligned}
 use Rattle.state.specs.declared.Effect.{Effect}
 use Rattle.state.specs.declared.Effect.the-variants.{Advance, Jump, Trap}
-
--- the type of a link: the sentry of the current interrupt status
-abbrev pub linkType : (mstatus : ℕ) → ℕ
-linkType mstatus = cond (has mstatus MIE) sentryEnabling sentryDisabling
+use Rattle.jump_instructions.specs.Editions.{accepts, linkType, jumpStatus}
 
 -- the link of a jump of some bytes: PCC after it, by the address-move rule, sealed
-unfoldable pub linkOf : (bytes : ℕ) → (pcc : Capability) → (mstatus : ℕ) → Capability
-linkOf bytes pcc mstatus = withObjectType (moveOf pcc (wrap (pcc .address + bytes))) (linkType mstatus)
+unfoldable pub linkOf : (bytes edition : ℕ) → (pcc : Capability) → (mstatus : ℕ) → Capability
+linkOf bytes edition pcc mstatus = withObjectType (moveOf pcc (wrap (pcc .address + bytes))) (linkType edition mstatus)
 
 -- a jump to a target that is not aligned traps with the target
 unfoldable pub aligned : (target : ℕ) → Effect → Effect
@@ -39,29 +36,25 @@ unfoldable pub targetCause : Capability → (target : ℕ) → ℕ
 targetCause c target = failIf (not (inBounds c target targetBytes)) boundsCause noCause
 
 -- CJAL
-unfoldable pub jalEffect : (bytes rd target : ℕ) → (regs : List ℕ) → Effect
-jalEffect bytes rd target regs =
+unfoldable pub jalEffect : (bytes edition rd target : ℕ) → (regs : List ℕ) → Effect
+jalEffect bytes edition rd target regs =
     checked pccRegister (targetCause (pccOf regs) target)
-    (aligned target (Jump rd (linkOf bytes (pccOf regs) (mstatusOf regs)) (moveOf (pccOf regs) target) (mstatusOf regs)))
+    (aligned target (Jump rd (linkOf bytes edition (pccOf regs) (mstatusOf regs)) (moveOf (pccOf regs) target) (mstatusOf regs)))
 
--- CJALR: tag; sealed, and not a sentry or the offset not 0; execute; bounds
-unfoldable pub jalrCause : (c : Capability) → (offset target : ℕ) → ℕ
-jalrCause c offset target =
+-- CJALR: tag; sealed, and not accepted or the offset not 0; execute; bounds
+unfoldable pub jalrCause : (edition rd rs1 : ℕ) → (c : Capability) → (offset target : ℕ) → ℕ
+jalrCause edition rd rs1 c offset target =
     failIf (not (tagged c)) tagCause
-    (failIf (sealed c && (not (isSentry c) || not (eqb offset 0))) sealCause
+    (failIf (sealed c && (not (accepts edition c rd rs1) || not (eqb offset 0))) sealCause
     (failIf (not (grants c EX)) executeCause
     (targetCause c target)))
 
--- MIE after a jump through c: 0 for an interrupt-disabling sentry, 1 for an enabling one, else as before
-unfoldable pub jumpStatus : (c : Capability) → (mstatus : ℕ) → ℕ
-jumpStatus c m =
-    cond (eqb (typeOf (c .metadata)) sentryDisabling) (withBit m MIE 0) (cond (eqb (typeOf (c .metadata)) sentryEnabling) (withBit m MIE 1) m)
-
 -- a sentry is unsealed before the address moves
-unfoldable pub jalrEffect : (bytes rd rs1 offset target : ℕ) → (c : Capability) → (regs : List ℕ) → Effect
-jalrEffect bytes rd rs1 offset target c regs =
-    checked rs1 (jalrCause c offset target)
-    (aligned target (Jump rd (linkOf bytes (pccOf regs) (mstatusOf regs)) (moveOf (withObjectType c 0) target) (jumpStatus c (mstatusOf regs))))
+unfoldable pub jalrEffect : (bytes edition rd rs1 offset target : ℕ) → (c : Capability) → (regs : List ℕ) → Effect
+jalrEffect bytes edition rd rs1 offset target c regs =
+    checked rs1 (jalrCause edition rd rs1 c offset target)
+    (aligned target (Jump rd (linkOf bytes edition (pccOf regs) (mstatusOf regs)) (moveOf (withObjectType c 0) target)
+    (jumpStatus edition (typeOf (c .metadata)) (mstatusOf regs))))
 
 unfoldable pub taken : BranchKind → (a b : ℕ) → Bool
 taken Beq a b = eqb a b
@@ -86,10 +79,11 @@ mretEffect regs =
     checked pccRegister (systemAccess (pccOf regs))
     (Jump 0 (integer 0) (legalized returnAlignment (capabilityAt regs mepccIndex)) (returnStatus (mstatusOf regs)))
 
--- what a jump of some bytes does
-unfoldable pub jumpEffect : (bytes : ℕ) → JumpInstruction → (regs : List ℕ) → Effect
-jumpEffect bytes (Jal rd offset) regs = jalEffect bytes rd (wrap (pcOf regs + offset)) regs
-jumpEffect bytes (Jalr rd rs1 offset) regs = jalrEffect bytes rd rs1 offset (wrap (integerAt regs rs1 + offset) / 2 * 2) (registerAt regs rs1) regs
-jumpEffect bytes (Branch kind rs1 rs2 offset) regs =
+-- what a jump of some bytes does, in an edition
+unfoldable pub jumpEffect : (bytes edition : ℕ) → JumpInstruction → (regs : List ℕ) → Effect
+jumpEffect bytes edition (Jal rd offset) regs = jalEffect bytes edition rd (wrap (pcOf regs + offset)) regs
+jumpEffect bytes edition (Jalr rd rs1 offset) regs =
+    jalrEffect bytes edition rd rs1 offset (wrap (integerAt regs rs1 + offset) / 2 * 2) (registerAt regs rs1) regs
+jumpEffect bytes edition (Branch kind rs1 rs2 offset) regs =
     branchEffect (taken kind (integerAt regs rs1) (integerAt regs rs2)) (wrap (pcOf regs + offset)) regs
-jumpEffect bytes Mret regs = mretEffect regs
+jumpEffect bytes edition Mret regs = mretEffect regs

@@ -9,10 +9,10 @@ use Rattle.state.specs.declared.Effect.the-variants.{Advance, Write, Store, Sto
 use Rattle.jump_instructions.specs.Jumps.{linkOf}
 
 -- the effects of one instruction as n bytes and as k bytes: the same, or jumps that differ in their links
-pub data LengthOnly (n k : ℕ) (pcc : Capability) (mstatus : ℕ) : Effect → Effect → Type 0 where
-  alike : {e : Effect} → LengthOnly n k pcc mstatus e e
+pub data LengthOnly (n k edition : ℕ) (pcc : Capability) (mstatus : ℕ) : Effect → Effect → Type 0 where
+  alike : {e : Effect} → LengthOnly n k edition pcc mstatus e e
   links : {rd status : ℕ} {target : Capability}
-      → LengthOnly n k pcc mstatus (Jump rd (linkOf n pcc mstatus) target status) (Jump rd (linkOf k pcc mstatus) target status)
+      → LengthOnly n k edition pcc mstatus (Jump rd (linkOf n edition pcc mstatus) target status) (Jump rd (linkOf k edition pcc mstatus) target status)
 
 -- no trap of a misaligned target
 abbrev pub NoMisaligned : Effect → Type 0

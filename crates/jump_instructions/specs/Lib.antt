@@ -1,2 +1,4 @@
+pub mod Editions
 pub mod Jumps
 pub mod Lengths
+pub mod Report

@@ -13,7 +13,7 @@ use Rattle.state.specs.Checks.{failIf}
 use Rattle.state.specs.declared.Board.{Board}
 use Rattle.commit.specs.Commit.{retires}
 use Rattle.execution.specs.Step.{effectAt, stepOf}
-use Rattle.machine.specs.Refusals.{mostSteps, goodMemory, goodWindow, goodBits, goodTags, goodWords, refusalOf}
+use Rattle.machine.specs.Refusals.{mostSteps, goodMemory, goodWindow, goodBits, goodTags, goodWords, goodEdition, refusalOf}
 use Rattle.machine.specs.Run.{Ran, ran, oneMore, iterate, ranFrom, stepRefusal, stepAnswer, stepAfter, StepPromise, runAnswer, runAfter, RunPromise}
 use Rattle.machine.specs.Run.{stepNumber, stepRetired, stepTrapped, runNumber, runRetired, runTrapped, retiredBy, trappedBy}
 use Rattle.machine.specs.declared.StepAnswer.{StepAnswer}
@@ -141,11 +141,11 @@ either P true x y p q = p
 either P false x y p q = q
 
 -- one more check with a small number keeps a small number
-small : (t : Bool) (k rest : ℕ) → k ≤ 5 → rest ≤ 5 → failIf t k rest ≤ 5
-small t k rest h g = either (λ x. x ≤ 5) t k rest h g
+small : (t : Bool) (k rest : ℕ) → k ≤ 7 → rest ≤ 7 → failIf t k rest ≤ 7
+small t k rest h g = either (λ x. x ≤ 7) t k rest h g
 
 module _ (n : ℕ) (board : Board) (revoked : List ℕ) (s : State) where
-  pub refusal-le : refusalOf n board revoked s ≤ 5
+  pub refusal-le : refusalOf n board revoked s ≤ 7
   unfolding refusalOf
   refusal-le =
       small (not (eqb (length (s .regs)) registerWords)) 1 _ (omega arith)
@@ -153,23 +153,25 @@ module _ (n : ℕ) (board : Board) (revoked : List ℕ) (s : State) where
       (small (not (goodWindow board (length (s .mem)))) 2 _ (omega arith)
       (small (not (goodBits board revoked s)) 3 _ (omega arith)
       (small (not (goodWords (s .regs))) 4 _ (omega arith)
-      (small (ltb mostSteps n) 5 0 (omega arith) (omega arith))))))
+      (small (ltb mostSteps n) 5 _ (omega arith)
+      (small (not (goodEdition board)) 7 0 (omega arith) (omega arith)))))))
 
   -- a run that is not refused asks no more than is allowed
   pub few-steps : refusalOf n board revoked s ≡ 0 → n ≤ mostSteps
   unfolding refusalOf
   few-steps h =
       go (not (eqb (length (s .regs)) registerWords)) (not (goodMemory board (length (s .mem)))) (not (goodWindow board (length (s .mem))))
-      (not (goodBits board revoked s)) (not (goodWords (s .regs))) (ltb mostSteps n) refl h
+      (not (goodBits board revoked s)) (not (goodWords (s .regs))) (ltb mostSteps n) (not (goodEdition board)) refl h
     where
-      go : (a b w c d e : Bool) → ltb mostSteps n ≡ e → failIf a 1 (failIf b 2 (failIf w 2 (failIf c 3 (failIf d 4 (failIf e 5 0))))) ≡ 0 → n ≤ mostSteps
-      go false false false false false false q z = ltb-false mostSteps n q
-      go false false false false false true q z = absurd (omega arith)
-      go false false false false true e q z = absurd (omega arith)
-      go false false false true d e q z = absurd (omega arith)
-      go false false true c d e q z = absurd (omega arith)
-      go false true w c d e q z = absurd (omega arith)
-      go true b w c d e q z = absurd (omega arith)
+      go : (a b w c d e f : Bool) → ltb mostSteps n ≡ e
+          → failIf a 1 (failIf b 2 (failIf w 2 (failIf c 3 (failIf d 4 (failIf e 5 (failIf f 7 0)))))) ≡ 0 → n ≤ mostSteps
+      go false false false false false false f q z = ltb-false mostSteps n q
+      go false false false false false true f q z = absurd (omega arith)
+      go false false false false true e f q z = absurd (omega arith)
+      go false false false true d e f q z = absurd (omega arith)
+      go false false true c d e f q z = absurd (omega arith)
+      go false true w c d e f q z = absurd (omega arith)
+      go true b w c d e f q z = absurd (omega arith)
 
 -- each step is counted once
 pub counts-le : (n : ℕ) (board : Board) (revoked : List ℕ) (r : Ran)

@@ -1,12 +1,12 @@
--- The refusals of a step and a run, in the order of their numbers: the lowest wins. Document 01, "What is lent" and "Answers"; document 02, 5.
+-- The refusals of a step and a run, in the order of their numbers: the lowest wins. Document 01, "What is lent" and "Answers"; document 02, 5 and 8.
 -- Assumes nothing.
-use mathlib.Core.Bool.{Bool, true, not, _&&_}
+use mathlib.Core.Bool.{Bool, true, not, _&&_, _||_}
 use mathlib.Core.List.{List}
 use Prim.Native.Nat.{ℕ, zero, suc, _+_, _*_, _/_, _%_, _^_}
 use lib.Dec.{eqb, leb, ltb}
 use lib.ListN.{getD, length}
 use Rattle.state.specs.Layout.{registerWords, capabilityCount, capabilityWords}
-use Rattle.state.specs.Lent.{State}
+use Rattle.state.specs.Lent.{State, reportEdition, laterEdition}
 use Rattle.state.specs.Memory.{granuleBytes}
 use Rattle.state.specs.Checks.{failIf}
 use Rattle.state.specs.declared.Board.{Board}
@@ -50,6 +50,10 @@ goodZero regs = eqb (getD regs 0 0) 0 && (eqb (getD regs 1 0) 0 && eqb (getD reg
 unfoldable pub goodWords : (regs : List ℕ) → Bool
 goodWords regs = goodTags capabilityCount regs 0 && goodZero regs
 
+-- the edition is one of the two
+unfoldable pub goodEdition : Board → Bool
+goodEdition board = eqb (board .edition) reportEdition || eqb (board .edition) laterEdition
+
 -- the number for a call that asks n steps, where a single step asks one; 0 where nothing is refused
 unfoldable pub refusalOf : (n : ℕ) → Board → (revoked : List ℕ) → State → ℕ
 refusalOf n board revoked s =
@@ -59,4 +63,5 @@ refusalOf n board revoked s =
     (failIf (not (goodBits board revoked s)) 3
     (failIf (not (goodWords (s .regs))) 4
     (failIf (ltb mostSteps n) 5
-    0)))))
+    (failIf (not (goodEdition board)) 7
+    0))))))

@@ -3,7 +3,9 @@ use state::Board;
 use state::CAPABILITY_COUNT;
 use state::CAPABILITY_WORDS;
 use state::GRANULE_BYTES;
+use state::LATER_EDITION;
 use state::REGISTER_WORDS;
+use state::REPORT_EDITION;
 ghost use mathlib.Core.Path.{_≡_};
 ghost use mathlib.Core.Bool.{not, _&&_};
 ghost use Prim.Native.Nat.{_/_};
@@ -11,7 +13,7 @@ ghost use lib.Dec.{eqb};
 ghost use Rattle.state.specs.Layout.{capabilityCount};
 ghost use Rattle.state.specs.Lent.{state};
 ghost use Rattle.state.specs.Checks.{failIf};
-ghost use Rattle.machine.specs.Refusals.{blockBytes, goodMemory, goodWindow, goodTags, goodZero, goodWords, refusalOf};
+ghost use Rattle.machine.specs.Refusals.{blockBytes, goodMemory, goodWindow, goodTags, goodZero, goodWords, goodEdition, refusalOf};
 ghost use Rattle.machine.specs.Run.{StepPromise, ran, iterate, RunPromise};
 
 // The answer to a step.
@@ -122,6 +124,16 @@ fn good_words(regs: &[u32]) -> bool
     }
 }
 
+// Whether the edition is one of the two.
+fn good_edition(board: Board) -> bool
+    ensures { λ r. ⌜ r ≡ goodEdition board ⌝ }
+{
+    choices::either(
+        board.edition == REPORT_EDITION,
+        board.edition == LATER_EDITION,
+    )
+}
+
 // The number of the first test that fails, or 0.
 fn first_refusal(
     registers: bool,
@@ -130,9 +142,10 @@ fn first_refusal(
     bits: bool,
     held: bool,
     many: bool,
+    edition: bool,
 ) -> u32
     ensures { λ r. ⌜ r ≡ failIf (not registers) 1 (failIf (not memory) 2 (failIf (not window) 2 (failIf (not bits) 3 (failIf (not held) 4
-        (failIf many 5 0))))) ⌝ }
+        (failIf many 5 (failIf (not edition) 7 0)))))) ⌝ }
 {
     if !registers {
         return 1;
@@ -151,6 +164,9 @@ fn first_refusal(
     }
     if many {
         return 5;
+    }
+    if !edition {
+        return 7;
     }
     0
 }
@@ -171,6 +187,7 @@ pub fn refusal(n: u32, regs: &[u32], board: Board, mem: &[u8], tags: &[u8], revo
         ),
         good_words(regs),
         MOST_STEPS < n,
+        good_edition(board),
     )
 }
 
@@ -219,13 +236,12 @@ fn take_steps(
         ≡ iterate n board (now (revoked .entry)) (ran (state (now (regs .entry)) (now (mem .entry)) (now (tags .entry))) 0 0) ⌝ }
 {
     let mut retired: u32 = 0;
-    let mut trapped: u32 = 0;
     let mut k: u32 = 0;
     while k < n {
         // Two calls, not one function of both: that would be too large to be compiled into the loop.
         let turn = execution::turn_at(regs, board, mem, tags, revoked);
         let effect = turn.effect;
-        let one = choices::one_if(commit::commit_effect(
+        retired += choices::one_if(commit::commit_effect(
             regs,
             board.start,
             mem,
@@ -233,10 +249,10 @@ fn take_steps(
             turn.bytes,
             effect,
         ));
-        retired += one;
-        trapped += 1 - one;
         k += 1;
     }
+    // Each step retires or traps: the loop counts the one kind.
+    let trapped = n - retired;
     Counts { retired, trapped }
 }
 

@@ -20,7 +20,8 @@ use Rattle.state.specs.Checks.{checked, accessCause, systemAccess}
 use Rattle.integer_instructions.specs.Integer as Integers
 use Rattle.memory_instructions.specs.Access.{loadAt, loadEffect, storeAt, storeEffect, revokedValue, filtered, loadCapabilityAt, loadCapabilityEffect}
 use Rattle.memory_instructions.specs.Access.{storeCapabilityCheck, storeCapabilityAt, storeCapabilityEffect, memoryEffect}
-use Rattle.jump_instructions.specs.Jumps.{linkOf, aligned, targetCause, jalEffect, jalrCause, jumpStatus, jalrEffect, jumpEffect}
+use Rattle.jump_instructions.specs.Editions.{accepts, linkType, reportStatus, jumpStatus}
+use Rattle.jump_instructions.specs.Jumps.{linkOf, aligned, targetCause, jalEffect, jalrCause, jalrEffect, jumpEffect}
 use Rattle.system_instructions.specs.System.{csrAsked, csrWritten, csrWrites, csrWrite, csrEffect, systemEffect}
 use Rattle.commit.specs.Commit.{advanced, trapped, jumped, withCsr, stored, retagged, storedCapability, applyEffect}
 use Rattle.short_forms.specs.Fields.{immediateWide, immediateSix, offsetJump}
@@ -28,7 +29,7 @@ use Rattle.short_forms.specs.Forms.{addi4spnOf, quadrant0, twoOf, arithmeticOf,
 use Rattle.short_forms.specs.Long.{wordR, wordI, wordJ, unlessHint, longOf, longForm}
 use Rattle.fetch.specs.Fetch.{shutOut, secondOf, standsOf, fetchedAt, fetchOf}
 use Rattle.execution.specs.Step.{metOf, effectOf, instructionIn, wordIn, lengthIn, trapOr, effectIn, stepOf}
-use Rattle.machine.specs.Refusals.{goodMemory, goodWindow, goodTags, goodZero, goodWords, goodBits, refusalOf}
+use Rattle.machine.specs.Refusals.{goodMemory, goodWindow, goodTags, goodZero, goodWords, goodBits, goodEdition, refusalOf}
 use Rattle.capability.specs.Capability.{low}
 use Rattle.state.specs.Registers.{setCapability}
 use Rattle.commit.specs.Commit.{retires}
@@ -37,9 +38,10 @@ use Rattle.machine_laws.specs.Cases.{all, holds, found, put, before, cas
 
 pub cases-hold : T (all cases)
 unfolding all holds found put before cases top-of-memory untagged-load environment-call stepAnswer stepAfter refusalOf goodMemory goodTags goodZero
-    goodWords goodWindow goodBits stepOf metOf interrupted timeOf compareOf ticked cleared belowMark marked csrRegisterOf csrOf csrAsked csrWritten
-    csrWrites csrWrite csrEffect effectIn trapOr lengthIn instructionIn wordIn fetchOf fetchedAt standsOf secondOf shutOut shortOf quadrant0
-    quadrant1 quadrant2 twoOf arithmeticOf unlessHint immediateWide jalrCause jumpStatus jalrEffect jalrOf isSentry addi4spnOf movesOf registersOf
+    goodWords goodWindow goodBits goodEdition stepOf metOf interrupted timeOf compareOf ticked cleared belowMark marked csrRegisterOf csrOf csrAsked
+    csrWritten csrWrites csrWrite csrEffect effectIn trapOr lengthIn instructionIn wordIn fetchOf fetchedAt standsOf secondOf shutOut shortOf quadrant0
+    quadrant1 quadrant2 twoOf arithmeticOf unlessHint immediateWide jalrCause accepts linkType reportStatus jumpStatus jalrEffect jalrOf isSentry
+    addi4spnOf movesOf registersOf
     immediateSix offsetJump longForm longOf wordR wordI wordJ capabilityOf op32Of opByOf opOf Derivations.capabilityEffect effectOf applyEffect
     retires setCapability writeRegister advanced trapped jumped withCsr stored retagged storedCapability systemEffect linkOf aligned targetCause jalEffect
     jumpEffect loadAt loadEffect storeAt storeEffect revokedValue filtered loadCapabilityAt loadCapabilityEffect storeCapabilityCheck

@@ -49,7 +49,7 @@ effect-within : (n : ℕ) (i : Instruction) (word : ℕ) (regs : List ℕ) (m : 
     → StoresWithin (length (m .mem)) (effectOf n i word regs m)
 unfolding effectOf
 effect-within n (Integer i) word regs m h = storeless-within _ (integerEffect i regs) (integer-storeless i regs)
-effect-within n (Jump i) word regs m h = storeless-within _ (jumpEffect n i regs) (jump-storeless n i regs)
+effect-within n (Jump i) word regs m h = storeless-within _ (jumpEffect n (m .board .edition) i regs) (jump-storeless n (m .board .edition) i regs)
 effect-within n (Memory i) word regs m h = memory-within i regs m h
 effect-within n (Capability i) word regs m h = storeless-within _ (capabilityEffect i regs) (capability-storeless i regs)
 effect-within n (System i) word regs m h = storeless-within _ (systemEffect i regs) (system-storeless i regs)
@@ -64,7 +64,7 @@ next-within board revoked s h =
 effect-good : (n : ℕ) (i : Instruction) (word : ℕ) (regs : List ℕ) (m : Lent) → GoodTags regs → GoodEffect (effectOf n i word regs m)
 unfolding effectOf
 effect-good n (Integer i) word regs m h = integer-good i regs
-effect-good n (Jump i) word regs m h = jump-good n i regs h
+effect-good n (Jump i) word regs m h = jump-good n (m .board .edition) i regs h
 effect-good n (Memory i) word regs m h = memory-good i regs m h
 effect-good n (Capability i) word regs m h = capability-good i regs h
 effect-good n (System i) word regs m h = system-good i regs h

@@ -47,7 +47,7 @@ use Rattle.machine.specs.Run.{stepRefusal, stepAfter, Ran, ran, oneMore, iterat
 use Rattle.machine_laws.specs.Fits.{InType}
 use Rattle.commit.specs.Commit.{applyEffect}
 use Rattle.commit.proofs.Registers.{Holds, Rule, Keeps, each-applied}
-use Rattle.machine_laws.proofs.Refusals.{good-of, refused-alike, refused-run}
+use Rattle.machine_laws.proofs.Refusals.{good-of, refused-too, refused-run}
 use Rattle.machine_laws.proofs.Kept.{Tag, csr-place, tags-stay}
 use Rattle.machine_laws.proofs.Bytes.{bytes-stay}
 
@@ -57,7 +57,7 @@ module _ (regs : List ℕ) (m : Lent) (h : FitsRegisters regs) (b : Bytes (m .me
   effect-fits : (n : ℕ) (i : Instruction) (word : ℕ) → InRange i → Word word → FitsEffect (effectOf n i word regs m)
   unfolding effectOf
   effect-fits n (Instruction.Integer i) word r w = integer-fits i regs r h
-  effect-fits n (Instruction.Jump i) word r w = jump-fits n regs h i
+  effect-fits n (Instruction.Jump i) word r w = jump-fits n (m .board .edition) regs h i
   effect-fits n (Instruction.Memory i) word r w = memory-fits i regs m h b
   effect-fits n (Instruction.Capability i) word r w = capability-fits i regs h
   effect-fits n (Instruction.System i) word r w = system-fits regs h i r
@@ -170,4 +170,4 @@ module _ (board : Board) (revoked : List ℕ) where
     run-in-type n =
         by-test (eqb (stepRefusal board revoked s) 0) (λ e. good-run n (good-tags e))
         (λ e. let r = eqb-false (stepRefusal board revoked s) 0 e in
-        rw (refused-run board revoked s n (rw (refused-alike board revoked s r n) r)) t)
+        rw (refused-run board revoked s n (refused-too board revoked s r n)) t)

@@ -146,6 +146,7 @@ good-after board revoked s g =
       window = rw (l .same-memory) (g .window);
       bits = record { tag-bytes = rw (l .same-memory) (l .same-tags ∙ g .bits .tag-bytes); revocation-bytes = g .bits .revocation-bytes };
       words = record { tag-words = tags-stay board revoked s (g .words .tag-words); c0-words = c0-stays board revoked s (g .words .c0-words) };
+      edition = g .edition;
     }
 
 -- a step of a machine that is not refused leaves one that is not refused

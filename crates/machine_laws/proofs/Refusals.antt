@@ -1,6 +1,6 @@
 -- A refusal's number says what is wrong with the lent buffers, the lowest first, and a refused call changes nothing. Assumes nothing.
 use mathlib.Core.Path.{_≡_, refl, sym, _∙_}
-use mathlib.Core.Bool.{Bool, true, false, not, _&&_, true≢false}
+use mathlib.Core.Bool.{Bool, true, false, not, _&&_, _||_, true≢false}
 use mathlib.Core.List.{List}
 use Prim.Native.Nat.{ℕ, zero, suc, _+_, _*_, _/_, _%_, _^_, _≤_, _<_}
 use native.Mathlib.Omega.{arith}
@@ -12,13 +12,14 @@ use Rattle.state.specs.Layout.{registerWords, capabilityCount, capabilityWords}
 use Rattle.state.specs.Memory.{granuleBytes}
 use Rattle.state.specs.Checks.{failIf}
 use Rattle.state.specs.declared.Board.{Board}
-use Rattle.state.specs.Lent.{State}
-use Rattle.machine.specs.Refusals.{blockBytes, mostMemory, mostSteps, goodMemory, goodWindow, goodBits, goodTags, goodZero, goodWords, refusalOf}
+use Rattle.state.specs.Lent.{State, reportEdition, laterEdition}
+use Rattle.machine.specs.Refusals.{blockBytes, mostMemory, mostSteps, goodMemory, goodWindow, goodBits, goodTags, goodZero, goodWords, goodEdition}
+use Rattle.machine.specs.Refusals.{refusalOf}
 use Rattle.machine.specs.Run.{stepRefusal, stepAnswer, stepAfter, runAnswer, runAfter}
 use Rattle.machine.specs.declared.StepAnswer.the-variants.{Refused}
 use Rattle.machine.specs.declared.RunAnswer.the-variants as RunAnswer
-use Rattle.machine_laws.specs.Lent.{LentRegisters, LentMemory, LentWindow, LentBits, ZeroRegister, LentWords, GoodState, Refusal}
-use Rattle.machine_laws.specs.Lent.{none, bad-registers, bad-memory, bad-window, bad-bits, bad-words, too-long}
+use Rattle.machine_laws.specs.Lent.{LentRegisters, LentMemory, LentWindow, LentBits, ZeroRegister, LentWords, LentEdition, GoodState, Refusal}
+use Rattle.machine_laws.specs.Lent.{is-report, is-later, none, bad-registers, bad-memory, bad-window, bad-bits, bad-words, too-long, bad-edition}
 
 -- ---- each test says what it means
 
@@ -134,6 +135,20 @@ words-test : (l : List ℕ) → LentWords l → goodWords l ≡ true
 unfolding goodWords
 words-test l w = made (tags-test capabilityCount l 0 (λ j a b. w .tag-words j (omega arith))) (zero-test l (w .c0-words))
 
+module _ (board : Board) where
+  edition-is : goodEdition board ≡ true → LentEdition board
+  unfolding goodEdition
+  edition-is h = go (eqb (board .edition) reportEdition) refl h
+    where
+      go : (a : Bool) → eqb (board .edition) reportEdition ≡ a → a || eqb (board .edition) laterEdition ≡ true → LentEdition board
+      go true p q = is-report (eqb-true (board .edition) reportEdition p)
+      go false p q = is-later (eqb-true (board .edition) laterEdition q)
+
+  edition-test : LentEdition board → goodEdition board ≡ true
+  unfolding goodEdition
+  edition-test (is-report e) = rw e
+  edition-test (is-later e) = rw e
+
 -- ---- the number
 
 module _ (board : Board) (revoked : List ℕ) (s : State) where
@@ -148,34 +163,42 @@ module _ (board : Board) (revoked : List ℕ) (s : State) where
   unfolding refusalOf
   refusal-is n =
       go (eqb (length (s .regs)) registerWords) refl (goodMemory board size) refl (goodWindow board size) refl (goodBits board revoked s) refl
-      (goodWords (s .regs)) refl (ltb mostSteps n) refl
+      (goodWords (s .regs)) refl (ltb mostSteps n) refl (goodEdition board) refl
     where
       size : ℕ
       size = length (s .mem)
 
       all-good : eqb (length (s .regs)) registerWords ≡ true → goodMemory board size ≡ true → goodWindow board size ≡ true
-          → goodBits board revoked s ≡ true → goodWords (s .regs) ≡ true → GoodState board revoked s
-      all-good p q w r t =
+          → goodBits board revoked s ≡ true → goodWords (s .regs) ≡ true → goodEdition board ≡ true → GoodState board revoked s
+      all-good p q w r t v =
           record {
             registers = registers-are p;
             memory = memory-is board size q;
             window = window-is board size w;
             bits = bits-are board revoked s r;
             words = words-are (s .regs) t;
+            edition = edition-is board v;
           }
 
       go : (a : Bool) → eqb (length (s .regs)) registerWords ≡ a → (b : Bool) → goodMemory board size ≡ b → (x : Bool) → goodWindow board size ≡ x
           → (c : Bool) → goodBits board revoked s ≡ c → (d : Bool) → goodWords (s .regs) ≡ d → (e : Bool) → ltb mostSteps n ≡ e
-          → Refusal n board revoked s (failIf (not a) 1 (failIf (not b) 2 (failIf (not x) 2 (failIf (not c) 3 (failIf (not d) 4 (failIf e 5 0))))))
-      go false p b q x w c r d t e u = bad-registers (fails _ registers-test p)
-      go true p false q x w c r d t e u = bad-memory (registers-are p) (fails _ (memory-test board size) q)
-      go true p true q false w c r d t e u = bad-window (registers-are p) (memory-is board size q) (fails _ (window-test board size) w)
-      go true p true q true w false r d t e u =
+          → (f : Bool) → goodEdition board ≡ f
+          → Refusal n board revoked s
+          (failIf (not a) 1 (failIf (not b) 2 (failIf (not x) 2 (failIf (not c) 3 (failIf (not d) 4 (failIf e 5 (failIf (not f) 7 0)))))))
+      go false p b q x w c r d t e u f v = bad-registers (fails _ registers-test p)
+      go true p false q x w c r d t e u f v = bad-memory (registers-are p) (fails _ (memory-test board size) q)
+      go true p true q false w c r d t e u f v = bad-window (registers-are p) (memory-is board size q) (fails _ (window-test board size) w)
+      go true p true q true w false r d t e u f v =
           bad-bits (registers-are p) (memory-is board size q) (window-is board size w) (fails _ (bits-test board revoked s) r)
-      go true p true q true w true r false t e u =
+      go true p true q true w true r false t e u f v =
           bad-words (registers-are p) (memory-is board size q) (window-is board size w) (bits-are board revoked s r) (fails _ (words-test (s .regs)) t)
-      go true p true q true w true r true t true u = too-long (all-good p q w r t) (ltb-true mostSteps n u)
-      go true p true q true w true r true t false u = none (all-good p q w r t) (ltb-false mostSteps n u)
+      go true p true q true w true r true t true u f v =
+          too-long (registers-are p) (memory-is board size q) (window-is board size w) (bits-are board revoked s r) (words-are (s .regs) t)
+          (ltb-true mostSteps n u)
+      go true p true q true w true r true t false u false v =
+          bad-edition (registers-are p) (memory-is board size q) (window-is board size w) (bits-are board revoked s r) (words-are (s .regs) t)
+          (ltb-false mostSteps n u) (fails _ (edition-test board) v)
+      go true p true q true w true r true t false u true v = none (all-good p q w r t v) (ltb-false mostSteps n u)
 
   -- and no other: its case is the only one
   pub refusal-only : (n k : ℕ) → Refusal n board revoked s k → refusalOf n board revoked s ≡ k
@@ -188,6 +211,7 @@ module _ (board : Board) (revoked : List ℕ) (s : State) where
         bits-test board revoked s (g .bits),
         words-test (s .regs) (g .words),
         le-ltb mostSteps n few,
+        edition-test board (g .edition),
       )
   refusal-only n k (bad-registers h) = rw (failed _ registers-are h)
   refusal-only n k (bad-memory r h) = rw (registers-test r, failed _ (memory-is board (length (s .mem))) h)
@@ -208,14 +232,24 @@ module _ (board : Board) (revoked : List ℕ) (s : State) where
         bits-test board revoked s b,
         failed _ (words-are (s .regs)) h,
       )
-  refusal-only n k (too-long g many) =
+  refusal-only n k (too-long r m w b d many) =
       rw (
-        registers-test (g .registers),
-        memory-test board (length (s .mem)) (g .memory),
-        window-test board (length (s .mem)) (g .window),
-        bits-test board revoked s (g .bits),
-        words-test (s .regs) (g .words),
+        registers-test r,
+        memory-test board (length (s .mem)) m,
+        window-test board (length (s .mem)) w,
+        bits-test board revoked s b,
+        words-test (s .regs) d,
         lt-ltb mostSteps n many,
+      )
+  refusal-only n k (bad-edition r m w b d few h) =
+      rw (
+        registers-test r,
+        memory-test board (length (s .mem)) m,
+        window-test board (length (s .mem)) w,
+        bits-test board revoked s b,
+        words-test (s .regs) d,
+        le-ltb mostSteps n few,
+        failed _ (edition-is board) h,
       )
 
   -- nothing is refused exactly where the buffers are good and the steps few enough
@@ -229,7 +263,8 @@ module _ (board : Board) (revoked : List ℕ) (s : State) where
       at k (bad-window r m x) e = absurd (omega arith)
       at k (bad-bits r m w x) e = absurd (omega arith)
       at k (bad-words r m w b x) e = absurd (omega arith)
-      at k (too-long g many) e = g
+      at k (too-long r m w b d many) e = absurd (omega arith)
+      at k (bad-edition r m w b d few x) e = absurd (omega arith)
 
   pub good-of : stepRefusal board revoked s ≡ 0 → GoodState board revoked s
   good-of h = good-for 1 h
@@ -248,18 +283,23 @@ module _ (board : Board) (revoked : List ℕ) (s : State) where
     unfolding stepAnswer
     refused-step-answer = rw (ne-eqb (stepRefusal board revoked s) 0 refused)
 
-    -- a run refuses what a step refuses, with the same number
-    pub refused-alike : (n : ℕ) → refusalOf n board revoked s ≡ stepRefusal board revoked s
-    refused-alike n = refusal-only n (stepRefusal board revoked s) (alike (stepRefusal board revoked s) (refusal-is 1) refused)
+    -- a run is refused where a step is
+    pub refused-too : (n : ℕ) → refusalOf n board revoked s ≡ 0 → ⊥
+    refused-too n h = refused (of-good (good-for n h) 1 (omega arith))
+
+    -- and with the same number, but that 5 stands before 7
+    pub refused-alike : (n : ℕ) → n ≤ mostSteps → refusalOf n board revoked s ≡ stepRefusal board revoked s
+    refused-alike n few = refusal-only n (stepRefusal board revoked s) (alike (stepRefusal board revoked s) (refusal-is 1) refused)
       where
         alike : (k : ℕ) → Refusal 1 board revoked s k → (k ≡ 0 → ⊥) → Refusal n board revoked s k
-        alike k (none g few) h = absurd (h refl)
+        alike k (none g one) h = absurd (h refl)
         alike k (bad-registers x) h = bad-registers x
         alike k (bad-memory r x) h = bad-memory r x
         alike k (bad-window r m x) h = bad-window r m x
         alike k (bad-bits r m w x) h = bad-bits r m w x
         alike k (bad-words r m w b x) h = bad-words r m w b x
-        alike k (too-long g many) h = absurd (omega arith)
+        alike k (too-long r m w b d many) h = absurd (omega arith)
+        alike k (bad-edition r m w b d one x) h = bad-edition r m w b d few x
 
   pub refused-run : (n : ℕ) → (refusalOf n board revoked s ≡ 0 → ⊥) → runAfter n board revoked s ≡ s
   unfolding runAfter
@@ -272,7 +312,9 @@ module _ (board : Board) (revoked : List ℕ) (s : State) where
   -- 5 where nothing else is refused and too many steps are asked; else a run of good buffers is not refused
   module _ (good : stepRefusal board revoked s ≡ 0) where
     pub too-many : (n : ℕ) → mostSteps < n → refusalOf n board revoked s ≡ 5
-    too-many n h = refusal-only n 5 (too-long (good-of good) h)
+    too-many n h =
+        let g = good-of good in
+        refusal-only n 5 (too-long (g .registers) (g .memory) (g .window) (g .bits) (g .words) h)
 
     pub not-too-many : (n : ℕ) → n ≤ mostSteps → refusalOf n board revoked s ≡ 0
     not-too-many n h = of-good (good-of good) n h

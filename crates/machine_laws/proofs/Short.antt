@@ -24,22 +24,22 @@ use Rattle.machine_laws.specs.Short.{asLong, asHalf, AsLong}
 
 module _ (n k : ℕ) (regs : List ℕ) (m : Lent) where
   -- the word itself counts for mtval of an illegal one alone
-  effect-length : (i : Instruction) → isLegal i ≡ true → (v w : ℕ) → LengthOnly n k (pccOf regs) (mstatusOf regs) (effectOf n i v regs m)
+  effect-length : (i : Instruction) → isLegal i ≡ true → (v w : ℕ) → LengthOnly n k (m .board .edition) (pccOf regs) (mstatusOf regs) (effectOf n i v regs m)
       (effectOf k i w regs m)
   unfolding effectOf isLegal
   effect-length (Integer i) h v w = alike
-  effect-length (Jump i) h v w = jump-length n k i regs
+  effect-length (Jump i) h v w = jump-length n k (m .board .edition) i regs
   effect-length (Memory i) h v w = alike
   effect-length (Capabilities i) h v w = alike
   effect-length (System i) h v w = alike
   effect-length Illegal h v w = absurd (true≢false (sym h))
 
-module _ {n k : ℕ} {pcc : Capability} {mstatus : ℕ} where
-  same-stores : (d e : Effect) → LengthOnly n k pcc mstatus d e → storedBy e ≡ storedBy d
+module _ {n k edition : ℕ} {pcc : Capability} {mstatus : ℕ} where
+  same-stores : (d e : Effect) → LengthOnly n k edition pcc mstatus d e → storedBy e ≡ storedBy d
   same-stores d _ alike = refl
   same-stores _ _ links = refl
 
-  same-retire : (d e : Effect) → LengthOnly n k pcc mstatus d e → retires e ≡ retires d
+  same-retire : (d e : Effect) → LengthOnly n k edition pcc mstatus d e → retires e ≡ retires d
   unfolding retires
   same-retire d _ alike = refl
   same-retire _ _ links = refl

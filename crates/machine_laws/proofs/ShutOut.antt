@@ -25,7 +25,7 @@ use Rattle.machine.specs.declared.RunAnswer.{RunAnswer}
 use Rattle.machine.specs.declared.RunAnswer.the-variants as RunAnswer
 use Rattle.machine_laws.specs.Cases.{Case, boardIn, put, before, top-of-memory, untagged-load, environment-call}
 use Rattle.machine_laws.specs.Steps.{stepsAfter, retiredIn, trappedIn}
-use Rattle.machine_laws.proofs.Refusals.{refused-step, refused-alike, refused-run, too-many, good-of}
+use Rattle.machine_laws.proofs.Refusals.{refused-step, refused-too, refused-run, too-many, good-of}
 use Rattle.machine_laws.proofs.Runs.{answers-counted, run-after, run-answer, run-of-none}
 use Rattle.machine_laws.proofs.Worked.{Worked, word-at, top-worked, load-worked, call-worked}
 use Rattle.state.specs.Timer.{timeOf}
@@ -177,7 +177,7 @@ module _ (board : Board) (revoked : List ℕ) (from after : State) where
       by-test (eqb (stepRefusal board revoked from) 0)
       (λ t. run-after board revoked 1 from (eqb-true (stepRefusal board revoked from) 0 t) (omega arith))
       (λ t. let h = eqb-false (stepRefusal board revoked from) 0 t in
-      refused-run board revoked from 1 (λ e. h (sym (refused-alike board revoked from h 1) ∙ e)) ∙ sym (refused-step board revoked from h))
+      refused-run board revoked from 1 (refused-too board revoked from h 1) ∙ sym (refused-step board revoked from h))
 
   -- of every start state: a run of one leaves what the promise of a step says
   pub run-of-one : (a : RunAnswer) → RunPromise 1 board revoked from after a → StepPromise board revoked from after (stepAnswer board revoked from)
@@ -199,7 +199,7 @@ module _ (board : Board) (revoked : List ℕ) (from after : State) where
     ran-good : stepRefusal board revoked from ≡ 0
     ran-good =
         by-test (eqb (stepRefusal board revoked from) 0) (eqb-true (stepRefusal board revoked from) 0)
-        (λ t. let h = eqb-false (stepRefusal board revoked from) 0 t in absurd (h (sym (refused-alike board revoked from h n) ∙ not-refused)))
+        (λ t. let h = eqb-false (stepRefusal board revoked from) 0 t in absurd (refused-too board revoked from h n not-refused))
 
     ran-few : n ≤ mostSteps
     ran-few =

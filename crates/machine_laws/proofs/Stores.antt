@@ -91,7 +91,8 @@ memory-held word (Access.StoreCapability rs1 rs2 offset) regs m d =
 effect-held : (n word standing : ℕ) (i : Instruction) (regs : List ℕ) (m : Lent) → decodeOf word ≡ i → HeldBy word regs (effectOf n i standing regs m)
 unfolding effectOf
 effect-held n word w (Decoded.Integer i) regs m d = storeless-held word regs (integerEffect i regs) (integer-storeless i regs)
-effect-held n word w (Decoded.Jump i) regs m d = storeless-held word regs (jumpEffect n i regs) (jump-storeless n i regs)
+effect-held n word w (Decoded.Jump i) regs m d =
+    storeless-held word regs (jumpEffect n (m .board .edition) i regs) (jump-storeless n (m .board .edition) i regs)
 effect-held n word w (Decoded.Memory i) regs m d = memory-held word i regs m d
 effect-held n word w (Decoded.Capability i) regs m d = storeless-held word regs (capabilityEffect i regs) (capability-storeless i regs)
 effect-held n word w (Decoded.System i) regs m d = storeless-held word regs (systemEffect i regs) (system-storeless i regs)

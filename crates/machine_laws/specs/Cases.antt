@@ -13,7 +13,7 @@ use Rattle.state.specs.Layout.{capabilityWords, registerWords, pccIndex, mtccIn
 use Rattle.instructions.specs.declared.Csr.the-variants.{Mstatus, Mcause, Mtval, Mshwm, Mshwmb}
 use Rattle.state.specs.declared.Board.{Board}
 use Rattle.state.specs.Registers.{setCapability}
-use Rattle.state.specs.Lent.{State, state}
+use Rattle.state.specs.Lent.{State, state, reportEdition}
 use Rattle.machine.specs.Run.{stepAnswer, stepAfter, stepNumber, stepRetired, stepTrapped}
 
 -- word `place` of the register file has a value
@@ -61,7 +61,7 @@ handler = execute 0x20000020
 
 -- the window is all of memory
 abbrev pub boardIn : Case → Board
-boardIn c = record { start = c .start; window = record { start = 0; size = 64 } }
+boardIn c = record { start = c .start; window = record { start = 0; size = 64 }; edition = reportEdition }
 
 -- a register file with further words
 unfoldable pub put : List Word → (regs : List ℕ) → List ℕ

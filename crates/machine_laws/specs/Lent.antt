@@ -1,10 +1,10 @@
--- What a call asks of the lent buffers, said without tests. Document 01, "What is lent" and "Answers"; document 02, 5. Assumes nothing.
+-- What a call asks of the lent buffers, said without tests. Document 01, "What is lent" and "Answers"; document 02, 5 and 8. Assumes nothing.
 use mathlib.Core.List.{List}
 use mathlib.Core.Path.{_≡_}
 use Prim.Native.Nat.{ℕ, _+_, _/_, _%_, _^_, _≤_, _<_}
 use lib.ListN.{getD, length}
 use Rattle.state.specs.Layout.{registerWords, capabilityWords}
-use Rattle.state.specs.Lent.{State}
+use Rattle.state.specs.Lent.{State, reportEdition, laterEdition}
 use Rattle.state.specs.Memory.{granuleBytes}
 use Rattle.state.specs.Effects.{GoodTags}
 use Rattle.state.specs.declared.Board.{Board}
@@ -42,6 +42,11 @@ pub record LentWords (regs : List ℕ) : Type 0 where
   pub tag-words : GoodTags regs
   pub c0-words : ZeroRegister regs
 
+-- the edition is one of the two
+pub data LentEdition (board : Board) : Type 0 where
+  is-report : board .edition ≡ reportEdition → LentEdition board
+  is-later : board .edition ≡ laterEdition → LentEdition board
+
 -- all that is lent is as it must be
 pub record GoodState (board : Board) (revoked : List ℕ) (s : State) : Type 0 where
   pub registers : LentRegisters s
@@ -49,6 +54,7 @@ pub record GoodState (board : Board) (revoked : List ℕ) (s : State) : Type 0 w
   pub window : LentWindow board (length (s .mem))
   pub bits : LentBits board revoked s
   pub words : LentWords (s .regs)
+  pub edition : LentEdition board
 
 -- the number of a refusal of n steps, by its cases: the lowest wins
 pub data Refusal (n : ℕ) (board : Board) (revoked : List ℕ) (s : State) : ℕ → Type 0 where
@@ -60,4 +66,7 @@ pub data Refusal (n : ℕ) (board : Board) (revoked : List ℕ) (s : State) : �
       → Refusal n board revoked s 3
   bad-words : LentRegisters s → LentMemory board (length (s .mem)) → LentWindow board (length (s .mem)) → LentBits board revoked s
       → (LentWords (s .regs) → ⊥) → Refusal n board revoked s 4
-  too-long : GoodState board revoked s → mostSteps < n → Refusal n board revoked s 5
+  too-long : LentRegisters s → LentMemory board (length (s .mem)) → LentWindow board (length (s .mem)) → LentBits board revoked s → LentWords (s .regs)
+      → mostSteps < n → Refusal n board revoked s 5
+  bad-edition : LentRegisters s → LentMemory board (length (s .mem)) → LentWindow board (length (s .mem)) → LentBits board revoked s → LentWords (s .regs)
+      → n ≤ mostSteps → (LentEdition board → ⊥) → Refusal n board revoked s 7

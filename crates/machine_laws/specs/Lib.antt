@@ -1,5 +1,6 @@
 pub mod Lent
 pub mod Window
+pub mod Editions
 pub mod Steps
 pub mod Memory
 pub mod Integers

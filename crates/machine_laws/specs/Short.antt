@@ -24,6 +24,6 @@ asHalf h regs m = effectIn (Half h) regs m
 -- Of a legal half they are the same, links apart: so they store the same, and both retire or both trap. (PCC's next address is what `registersAfter` makes of
 -- the length: law `next-alone` of crate commit. An illegal half differs in mtval.)
 pub record AsLong (h : ℕ) (regs : List ℕ) (m : Lent) : Type 0 where
-  pub effects : LengthOnly longBytes halfBytes (pccOf regs) (mstatusOf regs) (asLong h regs m) (asHalf h regs m)
+  pub effects : LengthOnly longBytes halfBytes (m .board .edition) (pccOf regs) (mstatusOf regs) (asLong h regs m) (asHalf h regs m)
   pub stores : storedBy (asHalf h regs m) ≡ storedBy (asLong h regs m)
   pub retire : retires (asHalf h regs m) ≡ retires (asLong h regs m)

@@ -7,7 +7,7 @@ use Prim.Native.Nat.{ℕ, _+_, _-_, _/_}
 use lib.Dec.{eqb, leb, ltb}
 use lib.ListN.{length}
 use Rattle.words.specs.Words.{bitAt}
-use Rattle.state.specs.Lent.{State}
+use Rattle.state.specs.Lent.{State, reportEdition}
 use Rattle.state.specs.Memory.{granuleBytes, revocationAt}
 use Rattle.state.specs.declared.Board.{Board}
 use Rattle.state.specs.declared.Revocation.{Revocation}
@@ -47,7 +47,8 @@ told (l ∷ ls) = eqb (number (revocationAt (l .board) (l .revoked) (l .address)
 
 -- memory from a start, and its window
 abbrev windowed : (start windowStart windowSize : ℕ) → Board
-windowed start windowStart windowSize = record { start = start; window = record { start = windowStart; size = windowSize } }
+windowed start windowStart windowSize =
+    record { start = start; window = record { start = windowStart; size = windowSize }; edition = reportEdition }
 
 -- in [0x20000040, 0x200000C0) the first and the last granule are marked
 abbrev heap : (address : ℕ) → Revocation → Lookup

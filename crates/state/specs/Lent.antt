@@ -1,4 +1,4 @@
--- What is lent: numbers and bits that no step changes, and the buffers that a step may change. Document 01, "What is lent". Assumes nothing.
+-- What is lent: numbers and bits that no step changes, and the buffers that a step may change. Document 01, "What is lent"; document 02, 8. Assumes nothing.
 use mathlib.Core.List.{List}
 use Prim.Native.Nat.{ℕ}
 use Rattle.state.specs.declared.Board.{Board}
@@ -21,3 +21,10 @@ pub record Lent : Type 0 where
 
 abbrev pub lent : Board → (mem tags revoked : List ℕ) → Lent
 lent board mem tags revoked = record { board = board; mem = mem; tags = tags; revoked = revoked }
+
+-- the editions of the architecture, by their numbers: the report, and the later one
+abbrev pub reportEdition : ℕ
+reportEdition = 0
+
+abbrev pub laterEdition : ℕ
+laterEdition = 1

@@ -144,11 +144,17 @@ pub struct Window {
     pub size: u32,
 }
 
-// What is lent as numbers: memory's start, and the window of the revocation bits.
+// What is lent as numbers: memory's start, the window of the revocation bits, and the edition of the architecture.
 pub struct Board {
     pub start: u32,
     pub window: Window,
+    pub edition: u32,
 }
+
+// The editions: the report, and the later one.
+pub const REPORT_EDITION: u32 = 0;
+
+pub const LATER_EDITION: u32 = 1;
 
 // What the revocation bits say of an address: it lies outside their window, or its granule is clear or marked.
 pub enum Revocation {

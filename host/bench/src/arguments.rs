@@ -1,5 +1,6 @@
 //! The command line.
 
+use crate::edition::Edition;
 use crate::image::Format;
 use clap::{Args, Parser, Subcommand};
 use std::path::PathBuf;
@@ -66,6 +67,9 @@ pub struct Run {
     /// The time from which on the timer interrupts where MIE is set [default: 2^64 - 1, or the saved state's]
     #[arg(long, value_name = "NUMBER", value_parser = number)]
     pub compare: Option<u64>,
+    /// The edition of the architecture [default: report]
+    #[arg(long, value_enum, conflicts_with = "state")]
+    pub edition: Option<Edition>,
     /// The address of the first instruction, even [default: the image's, else memory's start]
     #[arg(long, value_parser = even, conflicts_with = "state")]
     pub entry: Option<u32>,

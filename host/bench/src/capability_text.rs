@@ -22,21 +22,23 @@ pub fn rights(metadata: u32) -> Vec<&'static str> {
         .collect()
 }
 
-/// The type in words (the CHERIoT report, 7.13.2).
+/// The type in words (the CHERIoT report, 7.13.2, and document 02, 8).
 pub fn type_words(metadata: u32) -> String {
     match (probe::seal_type(metadata), is_sentry(metadata)) {
         (0, _) => "unsealed".into(),
         (1, true) => "sentry".into(),
         (2, true) => "sentry, interrupts off".into(),
         (3, true) => "sentry, interrupts on".into(),
+        (4, true) => "return sentry, interrupts off".into(),
+        (5, true) => "return sentry, interrupts on".into(),
         (number, _) => format!("sealed {number}"),
     }
 }
 
-/// Whether a metadata word is a sentry's.
+/// Whether a metadata word is a sentry's, or a return sentry's.
 pub fn is_sentry(metadata: u32) -> bool {
     let executable = probe::rights(metadata) & EX != 0;
-    executable && (1..=3).contains(&probe::seal_type(metadata))
+    executable && (1..=5).contains(&probe::seal_type(metadata))
 }
 
 /// What the revocation bits say, in a word.

@@ -4,6 +4,7 @@ use crate::capability_text::{revocation_word, rights, type_words};
 use crate::command::fit::{Beside, Chosen};
 use crate::command::sheet::Pair;
 use crate::drive::{End, Outcome};
+use crate::edition;
 use crate::listing::Part;
 use crate::memory_rows::rows;
 use crate::names::Names;
@@ -189,6 +190,7 @@ fn state(state: &State) -> Value {
         "start": state.start,
         "size": state.mem.len(),
         "window": { "start": state.window.start, "size": state.window.size },
+        "edition": edition::name(state.edition),
     })
 }
 

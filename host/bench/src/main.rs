@@ -5,6 +5,7 @@ mod capability_text;
 mod command;
 mod digits;
 mod drive;
+mod edition;
 mod file;
 mod image;
 mod json;

@@ -40,6 +40,7 @@ impl Refusal {
             4 => "a tag word is above 1, or c0 is not all zero",
             5 => "a run asks more than 1,000,000 steps",
             6 => "the request ends past 2^32",
+            7 => "the edition is neither 0, the report, nor 1, the later one",
             _ => "a number that document 01 does not have",
         }
     }

@@ -3,6 +3,7 @@
 use crate::capability_text::{count, grouped, is_integer, length, region};
 use crate::capability_text::{revocation_words, rights, type_words};
 use crate::drive::{End, Outcome};
+use crate::edition;
 use crate::listing::Part;
 use crate::memory_rows::{rows, Row, ROW};
 use crate::names::Names;
@@ -11,7 +12,7 @@ use crate::request::digits;
 use crate::stack::{Stack, Used};
 use crate::trap::{Action, Asked, Authority, Trap};
 use lent::{place_name, Capability, State, CAPABILITIES, GRANULE};
-use lent::{COMPARE, MCAUSE, MIE, MSHWM, MSHWMB, MSTATUS, MTVAL, PCC, TIME};
+use lent::{COMPARE, MCAUSE, MIE, MSHWM, MSHWMB, MSTATUS, MTVAL, PCC, REPORT_EDITION, TIME};
 use std::fmt::Write;
 
 /// The counts of a run, and how it ended.
@@ -239,6 +240,9 @@ pub fn registers(state: &State) -> String {
         text,
         "  mshwm {mark:08x}, mshwmb {base:08x}, time {time}, compare {compare}"
     );
+    if state.edition != REPORT_EDITION {
+        let _ = writeln!(text, "  edition {}", edition::name(state.edition));
+    }
     text
 }
 

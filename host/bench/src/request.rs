@@ -97,6 +97,15 @@ pub fn destination(word: u32) -> usize {
     register as usize
 }
 
+/// The register that a jump by a register links: of a short one c1, where bit 12 tells C.JALR.
+pub fn linked(word: u32) -> usize {
+    let register = match instruction_bytes(word) {
+        2 => word >> 12 & 1,
+        _ => word >> 7 & 15,
+    };
+    register as usize
+}
+
 /// The digits of a word, four or eight by its length.
 pub fn digits(word: u32) -> String {
     match instruction_bytes(word) {

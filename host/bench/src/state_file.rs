@@ -1,14 +1,16 @@
-//! State files, version 3: text that holds all that a run is lent, with a check word at its end.
+//! State files, version 4: text that holds all that a run is lent, with a check word at its end.
 //! The format is docs/STATE.md's. A file is read only if writing what was read gives the same
-//! bytes; one of version 2 too, which has no stack mark and no timer, and one of version 1, which also has no
-//! window: the bits are of all of memory.
+//! bytes; those of older versions too. Version 1 has no window: the bits are of all of memory. Versions
+//! before 3 have no stack mark and no timer: their words are 0. Versions before 4 have no edition: it is
+//! the report's.
 
 #[cfg(test)]
 mod tests;
 
 use crate::digits::{pairs, word};
 use crate::file;
-use lent::{place_name, State, Window, CAPABILITIES, CONTROL, MSHWM, MSTATUS, WORDS};
+use lent::{place_name, State, Window};
+use lent::{CAPABILITIES, CONTROL, MSHWM, MSTATUS, REPORT_EDITION, WORDS};
 use std::fmt::Write;
 
 /// The first line, before the version.
@@ -20,6 +22,7 @@ enum Version {
     One,
     Two,
     Three,
+    Four,
 }
 
 impl Version {
@@ -28,6 +31,7 @@ impl Version {
             Version::One => 1,
             Version::Two => 2,
             Version::Three => 3,
+            Version::Four => 4,
         };
         format!("{FORMAT} {number}")
     }
@@ -36,7 +40,7 @@ impl Version {
     fn words(self) -> usize {
         match self {
             Version::One | Version::Two => MSHWM,
-            Version::Three => WORDS,
+            Version::Three | Version::Four => WORDS,
         }
     }
 }
@@ -48,7 +52,7 @@ const MOST: usize = 1 << 24;
 
 /// The text of a state.
 pub fn write(state: &State) -> String {
-    write_as(Version::Three, state)
+    write_as(Version::Four, state)
 }
 
 fn write_as(version: Version, state: &State) -> String {
@@ -56,6 +60,9 @@ fn write_as(version: Version, state: &State) -> String {
     if version >= Version::Two {
         let Window { start, size } = state.window;
         let _ = writeln!(text, "window {start:08x} {size:08x}");
+    }
+    if version >= Version::Four {
+        let _ = writeln!(text, "edition {:08x}", state.edition);
     }
     let _ = writeln!(text, "registers {}", state.regs.len());
     let mut place = 0;
@@ -117,12 +124,14 @@ fn checksum(bytes: &[u8]) -> u32 {
 /// The state of a file's bytes, or what is wrong with them.
 pub fn read(bytes: &[u8]) -> Result<State, String> {
     let text = file::text(bytes)?;
-    let mut versions = [Version::Three, Version::Two, Version::One].into_iter();
-    let version = versions.find(|version| text.lines().next() == Some(&version.header()));
+    let versions = [Version::Four, Version::Three, Version::Two, Version::One];
+    let first = text.lines().next();
+    let mut versions = versions.into_iter();
+    let version = versions.find(|version| first == Some(&version.header()));
     let Some(version) = version else {
-        let (old, new) = (Version::One.header(), Version::Three.header());
+        let (old, new) = (Version::One.header(), Version::Four.header());
         return Err(format!(
-            "line 1 is not \"{new}\", nor an older one down to \"{old}\""
+            "line 1 is neither \"{new}\" nor that of an older version from \"{old}\" on"
         ));
     };
     check(text)?;
@@ -175,7 +184,11 @@ impl<'a> Lines<'a> {
         let start = word(self.after("start")?).ok_or(())?;
         let window = match version {
             Version::One => None,
-            Version::Two | Version::Three => Some(self.window()?),
+            Version::Two | Version::Three | Version::Four => Some(self.window()?),
+        };
+        let edition = match version {
+            Version::One | Version::Two | Version::Three => REPORT_EDITION,
+            Version::Four => word(self.after("edition")?).ok_or(())?,
         };
         let regs = self.registers(version)?;
         let mem = self.bytes("memory")?;
@@ -189,6 +202,7 @@ impl<'a> Lines<'a> {
             mem,
             tags,
             revoked,
+            edition,
         })
     }
 

@@ -1,7 +1,7 @@
 //! A step on one line: where, the word, its instruction, and what it changed; of a load of a tagged capability also
 //! what the revocation bits said of its low bound.
 
-use crate::capability_text::{is_integer, region, revocation_words};
+use crate::capability_text::{is_integer, region, revocation_words, type_words};
 use crate::probe;
 use crate::proved::{bounds, instruction, Counts};
 use crate::request::{destination, digits, Request};
@@ -85,7 +85,11 @@ fn shown(value: Capability) -> String {
         return format!("{:08x}", value.address);
     }
     let tag = if value.tag == 1 { "" } else { " no tag" };
-    format!("{:08x}{tag} {}", value.address, region(bounds(value)))
+    let kind = match type_words(value.metadata).as_str() {
+        "unsealed" => String::new(),
+        kind => format!(" ({kind})"),
+    };
+    format!("{:08x}{tag} {}{kind}", value.address, region(bounds(value)))
 }
 
 /// The granule that a store changed, with its address and its bytes.

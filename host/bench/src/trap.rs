@@ -6,12 +6,13 @@
 mod tests;
 
 use crate::capability_text::{is_integer, is_sentry};
+use crate::edition;
 use crate::probe::{self, CAPABILITY_CHECK};
 use crate::proved::{bounds, Region};
-use crate::request::Request;
+use crate::request::{linked, Request};
 use lent::{
-    instruction_bytes, place_name, Capability, Revocation, State, MCAUSE, MEPCC, MTCC, MTVAL, PCC,
-    TIMER_INTERRUPT,
+    instruction_bytes, place_name, Capability, Revocation, State, LATER_EDITION, MCAUSE, MEPCC,
+    MTCC, MTVAL, PCC, TIMER_INTERRUPT,
 };
 
 /// The name of PCC in mtval; a special register n is named by this plus n (the CHERIoT report,
@@ -126,8 +127,8 @@ impl Trap {
             gone_on: false,
         };
         trap.asked = trap.asked(after);
-        if let Some(sentry) = trap.sentry() {
-            trap.cause = format!("jump at an offset by {sentry}, which is a sentry");
+        if let Some(cause) = trap.by_a_sentry(after.edition) {
+            trap.cause = cause;
         }
         trap
     }
@@ -145,13 +146,31 @@ impl Trap {
         }
     }
 
-    /// The sentry that a jump was refused by. It is sealed, but so it would be without the offset,
-    /// where the jump is made.
-    fn sentry(&self) -> Option<&str> {
+    /// Why a jump by a sentry was refused. It is sealed, but so it would be where the jump is made:
+    /// without an offset, and in the later edition by the jump that takes its type.
+    fn by_a_sentry(&self, edition: u32) -> Option<String> {
         let Authority { name, value, .. } = self.authority.as_ref()?;
         let sealed = self.mcause == CAPABILITY_CHECK && self.mtval % 32 == SEAL;
         let refused = sealed && self.action == Action::Jump && value.tag == 1;
-        (refused && is_sentry(value.metadata)).then_some(name)
+        let word = self.word.filter(|_| refused && is_sentry(value.metadata))?;
+        let (kind, what) = match probe::seal_type(value.metadata) {
+            kind @ 1..=3 => (kind, "a sentry"),
+            kind => (kind, "a return sentry"),
+        };
+        let offset = || format!("jump at an offset by {name}, which is {what}");
+        match edition {
+            LATER_EDITION => {
+                let cs1 = Request::of(word).register()?;
+                let wanted = edition::wanted(kind, linked(word), cs1);
+                Some(wanted.map_or_else(offset, |wanted| {
+                    format!("jump by {name}, which is {what}: {wanted}")
+                }))
+            }
+            _ if kind <= 3 => Some(offset()),
+            _ => Some(format!(
+                "jump by {name}, which is {what}: the later edition alone has those"
+            )),
+        }
     }
 
     /// The bytes that were asked for, as far as the cause has any.

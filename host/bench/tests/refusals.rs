@@ -23,6 +23,7 @@ fn states() -> Vec<(&'static str, State)> {
         ("3, revocation bits", changed(|state| state.revoked.clear())),
         ("4, tag word", changed(|state| state.regs[5] = 2)),
         ("4, c0", changed(|state| state.regs[0] = 1)),
+        ("7, edition", changed(|state| state.edition = 2)),
         (
             "lowest first",
             changed(|state| {

@@ -116,7 +116,7 @@ fn damaged_states_are_refused() {
     for (name, damaged) in [
         ("a digit", text.replacen("5e3e0000", "5e3e0001", 1)),
         ("cut short", text[..200].into()),
-        ("another version", text.replacen("state 3", "state 4", 1)),
+        ("another version", text.replacen("state 4", "state 5", 1)),
         ("empty", String::new()),
     ] {
         std::fs::write(directory.join("start"), damaged).unwrap();
@@ -184,8 +184,8 @@ fn the_trace_shows_new_bounds_of_pcc_and_no_word_that_was_not_fetched() {
     let answer = bench_in(&directory, &["run", "--state", "start", "--trace"]);
     let lines: Vec<&str> = answer.out.lines().take(3).collect();
     let said = [
-        "       1  20000000  000100e7  cjalr 1 2 0              c1 := 20000004 [00000000, 100000000), \
-         PCC := 20000004 [20000004, 20000008)",
+        "       1  20000000  000100e7  cjalr 1 2 0              c1 := 20000004 [00000000, 100000000) \
+         (sentry, interrupts off), PCC := 20000004 [20000004, 20000008)",
         "       2  20000004  00700513  addi 10 0 7              c10 := 00000007",
         "       3  20000008  --------                           trap: fetch outside the bounds of PCC",
     ];
@@ -205,8 +205,8 @@ fn the_trace_shows_short_words_by_four_digits_and_their_names() {
     let lines: Vec<&str> = answer.out.lines().take(4).collect();
     let said = [
         "       1  20000002  451d      c.li 10 7                c10 := 00000007",
-        "       2  20000004  2011      c.jal 4                  c1 := 20000006 [00000000, 100000000), \
-         PCC := 20000008 [00000000, 100000000)",
+        "       2  20000004  2011      c.jal 4                  c1 := 20000006 [00000000, 100000000) \
+         (sentry, interrupts off), PCC := 20000008 [00000000, 100000000)",
         "       3  20000008  00950513  addi 10 10 9             c10 := 00000010",
         "       4  2000000c  9002      c.ebreak                 trap: breakpoint (EBREAK)",
     ];

@@ -50,7 +50,7 @@ fn a_link_stays_a_link() {
     let link = std::fs::symlink_metadata(directory.join("link")).unwrap();
     assert!(link.is_symlink());
     let saved = std::fs::read_to_string(directory.join("end")).unwrap();
-    assert!(saved.starts_with("oddersnow state 3\n"), "{saved}");
+    assert!(saved.starts_with("oddersnow state 4\n"), "{saved}");
     assert_eq!(names_in(&directory), ["end", "link", "start"]);
 }
 

@@ -275,7 +275,20 @@ impl Scene<'_> {
         } else {
             wide(self.random, self.layout, Rights::Executable, from)
         };
+        self.pair();
         self.set_first(source);
+    }
+
+    /// Names, half of the time, registers that the later edition tells apart: a return's, a call's, or a
+    /// link in c1 or a target in c1 alone.
+    fn pair(&mut self) {
+        if !matches!(self.form, Form::Short(_)) && self.random.one_in(2) {
+            let any = self.random.below(16);
+            let (rd, rs1) =
+                self.random
+                    .pick([(0, 1), (0, 1), (1, any), (1, 1), (any, 1), (0, any)]);
+            (self.operands.rd, self.operands.rs1) = (rd, rs1);
+        }
     }
 
     /// A capability to write to a special register, at any address in memory.

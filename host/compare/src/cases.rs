@@ -22,6 +22,7 @@ use second::Capability;
 /// Makes a case of a seed, in place of the one before.
 pub fn make(table: &Table, seed: u64, number: u64, case: &mut Case) {
     let mut random = Random::new(seed, number);
+    case.state.edition = random.below(2);
     match random.below(100) {
         0..=2 => {
             single(table, &mut random, case);

@@ -8,7 +8,7 @@ use crate::filter::{self, PLACES, QUESTIONS};
 use crate::instructions::{BOUNDS, EXECUTE, FETCH_ACCESS, FETCH_MISALIGNED, ILLEGAL, SEAL, TAG};
 use crate::machines::second;
 use crate::mark::{self, CSR_SOURCES, STORE_PLACES};
-use crate::refusals::{memory_allowed, reasons, window_faults, WINDOW_FAULTS};
+use crate::refusals::{memory_allowed, reasons, window_faults, NUMBERS, REASONS, WINDOW_FAULTS};
 use crate::rows::{Aim, Outcome, Row, Table, COLUMNS, EXTREMES};
 use crate::state::{as_second, Call, Case};
 use crate::timer::{Times, TURNS};
@@ -31,13 +31,14 @@ const HALVES: [u32; 12] = [
 const PAIRS: usize = EXTREMES.len() * EXTREMES.len();
 
 /// What a bad window comes with: nothing, another reason, or memory that is refused by the same number.
-const WITH: [&str; 6] = [
+const WITH: [&str; 7] = [
     "alone",
     "with reason 1",
     "with memory's own limits",
     "with reason 3",
     "with reason 4",
     "with reason 5",
+    "with reason 7",
 ];
 
 /// Kinds of runs.
@@ -70,8 +71,8 @@ pub struct Coverage {
     second_half_at_top: [u64; COLUMNS],
     unknown: [u64; OPCODES.len()],
     unknown_halves: [u64; HALVES.len()],
-    refused: [u64; 6],
-    refused_also: [[u64; 6]; 6],
+    refused: [u64; NUMBERS],
+    refused_also: [[u64; NUMBERS]; NUMBERS],
     /// Windows that break one limit, with nothing else or with each other reason.
     windows: [[u64; WITH.len()]; WINDOW_FAULTS.len()],
     runs: [u64; RUNS.len()],
@@ -166,8 +167,8 @@ impl Coverage {
             second_half_at_top: [0; COLUMNS],
             unknown: [0; OPCODES.len()],
             unknown_halves: [0; HALVES.len()],
-            refused: [0; 6],
-            refused_also: [[0; 6]; 6],
+            refused: [0; NUMBERS],
+            refused_also: [[0; NUMBERS]; NUMBERS],
             windows: [[0; WITH.len()]; WINDOW_FAULTS.len()],
             runs: [0; RUNS.len()],
             lengths: [0; LENGTHS.len()],
@@ -240,7 +241,7 @@ impl Coverage {
         }
     }
 
-    fn count_refusal(&mut self, number: usize, reasons: [bool; 6]) {
+    fn count_refusal(&mut self, number: usize, reasons: [bool; NUMBERS]) {
         self.refused[number] += 1;
         for (count, also) in self.refused_also[number].iter_mut().zip(reasons) {
             *count += u64::from(also);
@@ -248,15 +249,15 @@ impl Coverage {
     }
 
     /// Counts a window that breaks one of its limits.
-    fn count_window(&mut self, case: &Case, reasons: [bool; 6]) {
+    fn count_window(&mut self, case: &Case, reasons: [bool; NUMBERS]) {
         let faults = window_faults(&case.state);
         let [fault] = faults[..] else {
             return;
         };
-        let [_, one, _, three, four, five] = reasons;
-        let others = [one, !memory_allowed(&case.state), three, four, five];
+        let [_, one, _, three, four, five, _, seven] = reasons;
+        let others = [one, !memory_allowed(&case.state), three, four, five, seven];
         let counts = &mut self.windows[fault];
-        counts[0] += u64::from(others == [false; 5]);
+        counts[0] += u64::from(others == [false; 6]);
         for (count, also) in counts[1..].iter_mut().zip(others) {
             *count += u64::from(also);
         }
@@ -439,8 +440,8 @@ impl Coverage {
         for (opcode, &count) in OPCODES.iter().zip(&self.unknown) {
             cells.push((format!("no instruction, opcode {opcode:02x}"), count));
         }
-        for number in 1..=5 {
-            for also in number..=5 {
+        for number in REASONS {
+            for also in REASONS.into_iter().filter(|&also| also >= number) {
                 let cell = format!("refused {number} with reason {also}");
                 cells.push((cell, self.refused_also[number][also]));
             }
@@ -552,8 +553,9 @@ impl Coverage {
         for (opcode, count) in OPCODES.iter().zip(&self.unknown) {
             let _ = writeln!(text, "no instruction, opcode {opcode:02x}   {count}");
         }
-        for number in 1..=5 {
-            let also: Vec<_> = (number + 1..=5)
+        for number in REASONS {
+            let later = REASONS.into_iter().filter(|&also| also > number);
+            let also: Vec<_> = later
                 .map(|also| format!(" with-{also} {}", self.refused_also[number][also]))
                 .collect();
             let _ = writeln!(

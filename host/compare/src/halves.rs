@@ -100,6 +100,7 @@ fn make(seed: u64, number: u64, case: &mut Case) {
     let random = &mut Random::new(seed, number);
     let layout = layout(random, about.edge);
     let state = &mut case.state;
+    state.edition = random.below(2);
     fill(random, layout, state);
     fill_registers(random, layout, state);
     for place in 1..16 {

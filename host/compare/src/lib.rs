@@ -13,6 +13,7 @@ pub mod cases;
 pub mod coverage;
 pub mod cuts;
 pub mod derivations;
+pub mod editions;
 pub mod filter;
 pub mod halves;
 pub mod held;

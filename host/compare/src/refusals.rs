@@ -1,16 +1,16 @@
-//! Buffers that are refused (document 01, "Answers"; document 02, 5): each reason in each of its
+//! Buffers that are refused (document 01, "Answers"; document 02, 5 and 8): each reason in each of its
 //! ways, and several reasons at once.
 
 use crate::random::Random;
 use crate::state::{Call, Case};
-use lent::{State, Window, BLOCK, CAPABILITIES, MOST_MEMORY, MOST_STEPS, WORDS};
+use lent::{State, Window, BLOCK, CAPABILITIES, LATER_EDITION, MOST_MEMORY, MOST_STEPS, WORDS};
 
 /// Breaks a good case in one way, or in several at once.
 pub fn spoil(random: &mut Random, case: &mut Case) {
     let reasons = if random.one_in(2) {
-        1 << random.below(5)
+        1 << random.below(6)
     } else {
-        1 + random.below(31)
+        1 + random.below(63)
     };
     let wanted = |reason: u32| reasons >> (reason - 1) & 1 == 1;
     if wanted(4) {
@@ -36,6 +36,10 @@ pub fn spoil(random: &mut Random, case: &mut Case) {
     if wanted(5) {
         let steps = random.pick([MOST_STEPS + 1, MOST_STEPS + 2, 1 << 24, 1 << 31, u32::MAX]);
         case.call = Call::Run(steps);
+    }
+    // Reason 6 is none of a step's: the sixth here is 7.
+    if wanted(6) {
+        case.state.edition = random.pick([2, 2, 3, 7, 0x100, 0x8000_0000, u32::MAX]);
     }
 }
 
@@ -149,8 +153,14 @@ pub fn memory_allowed(state: &State) -> bool {
     fits && size.is_multiple_of(64) && state.start.is_multiple_of(8)
 }
 
-/// Which of the reasons 1 to 5 there are to refuse a case; number 0 is never used.
-pub fn reasons(case: &Case) -> [bool; 6] {
+/// The numbers of the reasons that there are to refuse a case; 0 and 6 are none.
+pub const REASONS: [usize; 6] = [1, 2, 3, 4, 5, 7];
+
+/// How many numbers there are, with those that are none.
+pub const NUMBERS: usize = 8;
+
+/// Which of the reasons there are to refuse a case.
+pub fn reasons(case: &Case) -> [bool; NUMBERS] {
     let state = &case.state;
     let wanted = [state.mem.len(), state.window.size as usize].map(|size| size / BLOCK);
     let bits_fit = [state.tags.len(), state.revoked.len()] == wanted;
@@ -166,5 +176,7 @@ pub fn reasons(case: &Case) -> [bool; 6] {
         !bits_fit,
         !(tags_fit && zero),
         matches!(case.call, Call::Run(steps) if steps > MOST_STEPS),
+        false,
+        state.edition > LATER_EDITION,
     ]
 }

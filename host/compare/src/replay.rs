@@ -1,4 +1,4 @@
-//! A case as text that anyone can rerun: the call, the start, the window, and the size of each
+//! A case as text that anyone can rerun: the call, the start, the window, the edition, and the size of each
 //! buffer with its words or bytes that are not zero.
 
 use crate::state::{Call, Case};
@@ -19,6 +19,7 @@ pub fn write(case: &Case) -> String {
     let _ = writeln!(text, "start {:08x}", state.start);
     let Window { start, size } = state.window;
     let _ = writeln!(text, "window {start:08x} {size:08x}");
+    let _ = writeln!(text, "edition {:08x}", state.edition);
     let _ = writeln!(text, "words {:x}", state.regs.len());
     for (index, word) in state.regs.iter().enumerate().filter(|(_, &word)| word != 0) {
         let _ = writeln!(text, "word {index:x} {word:08x} # {}", word_name(index));
@@ -65,6 +66,7 @@ fn read_line(case: &mut Case, filling: &mut usize, parts: &[&str]) -> Option<()>
                 size: number(size)?,
             };
         }
+        ["edition", edition] => state.edition = number(edition)?,
         ["words", count] => state.regs.resize(number(count)? as usize, 0),
         ["word", index, word] => *state.regs.get_mut(number(index)? as usize)? = number(word)?,
         ["bytes", at, digits] => read_bytes(buffer(state, *filling), number(at)? as usize, digits)?,

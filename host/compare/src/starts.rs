@@ -97,6 +97,7 @@ struct Scene<'a> {
 /// Makes a start, in place of the one before.
 pub fn make(mix: &Mix, random: &mut Random, state: &mut State) {
     let memory = layout(random);
+    state.edition = random.below(2);
     cases::fill(random, memory, state);
     cases::fill_registers(random, memory, state);
     let parts = Parts::of(random, memory);

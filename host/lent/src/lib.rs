@@ -1,4 +1,4 @@
-//! What is lent to a machine (document 01, "What is lent"; document 02, 5), good or bad, and the
+//! What is lent to a machine (document 01, "What is lent"; document 02, 5 and 8), good or bad, and the
 //! answer. It knows no machine: each is a function on slices.
 
 #![forbid(unsafe_code)]
@@ -40,11 +40,16 @@ impl Window {
     }
 }
 
-/// What is lent as numbers: memory's start, and the window.
+/// The editions of the architecture: the report, and the later one.
+pub const REPORT_EDITION: u32 = 0;
+pub const LATER_EDITION: u32 = 1;
+
+/// What is lent as numbers: memory's start, the window, and the edition.
 #[derive(Clone, Copy, PartialEq, Eq, Debug, Default)]
 pub struct Board {
     pub start: u32,
     pub window: Window,
+    pub edition: u32,
 }
 
 /// What the revocation bits say of an address.
@@ -70,6 +75,7 @@ pub struct State {
     pub tags: Vec<u8>,
     pub window: Window,
     pub revoked: Vec<u8>,
+    pub edition: u32,
 }
 
 /// The byte among the tags, and the bit in it, of the granule that holds an offset into memory; the
@@ -89,8 +95,9 @@ pub fn instruction_bytes(instruction: u32) -> u32 {
 }
 
 impl State {
-    /// Memory with null registers, without tags or revoked granules; the window is all of it. Time is 0
-    /// and compare the last number, so that a program that sets MIE is not interrupted.
+    /// Memory with null registers, without tags or revoked granules; the window is all of it, and the
+    /// edition is the report's. Time is 0 and compare the last number, so that a program that sets MIE is
+    /// not interrupted.
     pub fn new(start: u32, mem: Vec<u8>) -> State {
         let bytes = mem.len() / BLOCK;
         let mut state = State {
@@ -100,6 +107,7 @@ impl State {
             mem,
             tags: vec![0; bytes],
             revoked: vec![0; bytes],
+            edition: REPORT_EDITION,
         };
         state.set_long(COMPARE, u64::MAX);
         state
@@ -145,6 +153,7 @@ impl State {
         Board {
             start: self.start,
             window: self.window,
+            edition: self.edition,
         }
     }
 

@@ -44,6 +44,7 @@ macro_rules! machine_function {
                 window_size: u32,
                 revoked: *const u8,
                 revoked_len: usize,
+                edition: u32,
                 $($steps: $number,)?
             ) -> u64;
         }
@@ -69,6 +70,7 @@ macro_rules! machine_function {
                     board.window.size,
                     revoked.as_ptr(),
                     revoked.len(),
+                    board.edition,
                     $($steps,)?
                 )
             }

@@ -63,6 +63,10 @@ impl Running {
                     self.theirs.revoke(granule);
                 }
             }
+            Line::Edition(edition) => {
+                self.ours.edition = *edition;
+                self.theirs.edition = *edition;
+            }
             Line::Run(steps) => self.run(*steps)?,
             Line::Expect(place, values) => {
                 let found = self.found(place)?;

@@ -6,6 +6,7 @@
 //! // lend: PLACE = VALUE         what a register or a control word holds
 //! // window: FIRST END           the bytes that have revocation bits, all of them clear; else memory's
 //! // revoke: FIRST END           the revocation bits of those bytes
+//! // edition: NUMBER             the edition of the architecture; else the report's
 //! // run: STEPS
 //! // expect: PLACE = VALUE
 //! ```
@@ -41,6 +42,7 @@ pub enum Line {
     Lend(Place, Vec<u32>),
     Window(u32, u32),
     Revoke(u32, u32),
+    Edition(u32),
     Run(u32),
     Expect(Place, Vec<u32>),
 }
@@ -69,6 +71,7 @@ fn line(kind: &str, rest: &str, symbols: &Symbols) -> Result<Option<Line>, Strin
         "memory" => two(rest).map(|(start, size)| Line::Memory(start, size))?,
         "window" => two(rest).map(|(first, end)| Line::Window(first, end))?,
         "revoke" => two(rest).map(|(first, end)| Line::Revoke(first, end))?,
+        "edition" => Line::Edition(value(rest, symbols)?),
         "run" => Line::Run(value(rest, symbols)?),
         "lend" => assigned(rest, symbols).map(|(place, values)| Line::Lend(place, values))?,
         "expect" => assigned(rest, symbols).map(|(place, values)| Line::Expect(place, values))?,

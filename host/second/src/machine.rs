@@ -1,5 +1,5 @@
 //! The machine: lent state and its refusals, fetch, every instruction, traps, a step and a
-//! run (document 01, "What is lent", "Answers" and "Traps"; document 02, 5 and 6; the CHERIoT report, 7
+//! run (document 01, "What is lent", "Answers" and "Traps"; document 02, 5, 6 and 8; the CHERIoT report, 7
 //! and 9).
 
 #[cfg(test)]
@@ -80,6 +80,13 @@ const PCC_NAME: u32 = 32;
 // Sentry types (CHERIoT report, 7.13.2); 1 is the sentry that leaves MIE alone.
 const DISABLING_SENTRY: u32 = 2;
 const ENABLING_SENTRY: u32 = 3;
+
+// Return sentries, which the later edition alone has (document 02, 8).
+const DISABLING_RETURN: u32 = 4;
+const ENABLING_RETURN: u32 = 5;
+
+/// The later edition's number, and the greatest that is one.
+const LATER: u32 = 1;
 
 const CAPABILITY_BYTES: u32 = 8;
 
@@ -169,6 +176,7 @@ struct Machine<'a> {
     /// The first address that has a revocation bit, and the first after those that have one.
     window: (u64, u64),
     revoked: &'a [u8],
+    edition: u32,
 }
 
 /// What the revocation bits say of an address (document 02, 5).
@@ -228,6 +236,7 @@ impl<'a> Machine<'a> {
             tags,
             window: (first, first + u64::from(window.size)),
             revoked,
+            edition: board.edition,
         })
     }
 
@@ -444,12 +453,17 @@ impl<'a> Machine<'a> {
     }
 
     /// The link of an instruction of so many bytes: the next one's PCC, sealed as a sentry that
-    /// brings back the present interrupt state (CHERIoT report, CJAL).
+    /// brings back the present interrupt state (CHERIoT report, CJAL), in the later edition as a
+    /// return sentry.
     fn link(&self, bytes: u32) -> Capability {
+        let (disabling, enabling) = match self.edition {
+            LATER => (DISABLING_RETURN, ENABLING_RETURN),
+            _ => (DISABLING_SENTRY, ENABLING_SENTRY),
+        };
         let sentry = if self.interrupts_enabled() {
-            ENABLING_SENTRY
+            enabling
         } else {
-            DISABLING_SENTRY
+            disabling
         };
         let next = self.next(bytes);
         Capability {
@@ -467,6 +481,18 @@ impl<'a> Machine<'a> {
         Ok(move_address(pcc, target))
     }
 
+    /// Whether CJALR takes a sealed target of a type. The report: each sentry. The later edition, by
+    /// the registers: a return (c0, c1) the return sentries, a call that links c1 the other three, any
+    /// other jump the one that leaves MIE alone.
+    fn accepts(&self, seal: u32, cd: Register, cs1: Register) -> bool {
+        match (self.edition, cd.number(), cs1.number()) {
+            (LATER, 0, 1) => matches!(seal, DISABLING_RETURN | ENABLING_RETURN),
+            (LATER, 1, _) => matches!(seal, 1..=3),
+            (LATER, _, _) => seal == 1,
+            _ => matches!(seal, 1..=3),
+        }
+    }
+
     /// CJALR; a sentry is unsealed before the jump, and only a jump without offset takes one.
     fn jump_register(
         &mut self,
@@ -477,7 +503,7 @@ impl<'a> Machine<'a> {
     ) -> Result<Capability, Trap> {
         let (source, name) = (self.register(cs1), cs1.number());
         let target = source.address.wrapping_add(offset) & !1;
-        let sentry = matches!(seal_type(source.metadata), 1..=3);
+        let sentry = self.accepts(seal_type(source.metadata), cd, cs1);
         let seal_allowed = !is_sealed(source.metadata) || (sentry && offset == 0);
         require(source.tag != 0, capability_trap(name, TAG))?;
         require(seal_allowed, capability_trap(name, SEAL))?;
@@ -486,8 +512,8 @@ impl<'a> Machine<'a> {
         // The link holds the interrupt state from before the sentry changes it.
         self.set_register(cd, self.link(bytes));
         match seal_type(source.metadata) {
-            DISABLING_SENTRY => self.set_status(MIE, false),
-            ENABLING_SENTRY => self.set_status(MIE, true),
+            DISABLING_SENTRY | DISABLING_RETURN => self.set_status(MIE, false),
+            ENABLING_SENTRY | ENABLING_RETURN => self.set_status(MIE, true),
             _ => {}
         }
         let unsealed = Capability {
@@ -896,6 +922,9 @@ pub fn run(
     };
     if steps > MOST_STEPS {
         return answer(5, 0, 0);
+    }
+    if machine.edition > LATER {
+        return answer(7, 0, 0);
     }
     let mut retired = 0;
     for _ in 0..steps {

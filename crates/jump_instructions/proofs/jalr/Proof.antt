@@ -13,17 +13,19 @@ returns c =
       c .before .aligned-effect .ensures,
       c .before .before .jalr-cause .ensures,
       c3 .jump-status .ensures,
-      c3 .before .move-address .ensures,
-      c3 .before .before .with-object-type .ensures,
-      c6 .link-of .ensures,
-      c6 .before .pcc-of .ensures,
-      c6 .before .before .csr-at .ensures,
+      c3 .before .otype .ensures .0,
+      c3 .before .before .move-address .ensures,
+      c6 .with-object-type .ensures,
+      c6 .before .link-of .ensures,
+      c6 .before .before .pcc-of .ensures,
+      c6 .before .before .before .csr-at .ensures,
     )
 
 pub jalr-spec : {M : Type 1} → statement M
 jalr-spec =
     tie.close
     (tie.spec
+    (λ c κs. search needs)
     (λ c κs. search needs)
     (λ c κs. search needs)
     (λ c κs. search needs)

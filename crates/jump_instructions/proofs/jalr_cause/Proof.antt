@@ -13,7 +13,7 @@ returns c =
       c .before .target-cause .ensures,
       c .before .before .has-right .ensures,
       c3 .is-shut .ensures,
-      c3 .before .is-sentry .ensures,
+      c3 .before .accepts .ensures,
       c3 .before .before .is-sealed .ensures,
       c6 .is-tagged .ensures,
     )

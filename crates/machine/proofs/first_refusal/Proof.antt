@@ -35,12 +35,37 @@ returns-6 c =
     let memory = bits .before .before in
     simp (c .if6 .taken, c .before .if5 .left, bits .if4 .left, bits .before .if3 .left, memory .if2 .left, memory .before .if1 .left)
 
--- nothing is refused
+-- the edition
 returns-7 : tie.Need-returns-7
 returns-7 c =
-    let bits = c .before .before in
-    let memory = bits .before .before in
-    simp (c .if6 .left, c .before .if5 .left, bits .if4 .left, bits .before .if3 .left, memory .if2 .left, memory .before .if1 .left)
+    let words = c .before .before in
+    let window = words .before .before in
+    let registers = window .before .before in
+    simp (
+      c .if7 .taken,
+      c .before .if6 .left,
+      words .if5 .left,
+      words .before .if4 .left,
+      window .if3 .left,
+      window .before .if2 .left,
+      registers .if1 .left,
+    )
+
+-- nothing is refused
+returns-8 : tie.Need-returns-8
+returns-8 c =
+    let words = c .before .before in
+    let window = words .before .before in
+    let registers = window .before .before in
+    simp (
+      c .if7 .left,
+      c .before .if6 .left,
+      words .if5 .left,
+      words .before .if4 .left,
+      window .if3 .left,
+      window .before .if2 .left,
+      registers .if1 .left,
+    )
 
 pub first-refusal-spec : {M : Type 1} → statement M
-first-refusal-spec = tie.close (tie.spec returns returns-2 returns-3 returns-4 returns-5 returns-6 returns-7)
+first-refusal-spec = tie.close (tie.spec returns returns-2 returns-3 returns-4 returns-5 returns-6 returns-7 returns-8)

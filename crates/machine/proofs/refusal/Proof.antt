@@ -1,4 +1,4 @@
--- The six tests are those of the definition.
+-- The seven tests are those of the definition.
 use Rattle.machine.specs.Refusals.{goodBits, refusalOf}
 use borrow.Author.Needs.{needs}
 use Rattle.machine.proofs.refusal.Statement.{statement}
@@ -7,11 +7,12 @@ use Rattle.machine.proofs.refusal.Tie as tie
 returns : tie.Need-returns
 unfolding refusalOf goodBits
 returns c =
-    let sizes = c .before .before in
+    let sizes = c .before .before .before in
     let judged = sizes .before .before in
     simp (
       c .first-refusal .ensures,
-      c .before .good-words .ensures,
+      c .before .good-edition .ensures,
+      c .before .before .good-words .ensures,
       sizes .good-lengths .ensures,
       judged .good-window .ensures,
       judged .before .good-memory .ensures,
@@ -24,6 +25,7 @@ refusal-spec =
     (λ c κs. search needs)
     (λ c κs. search needs)
     (λ c. search needs)
+    (λ c κs. search needs)
     (λ c κs. search needs)
     (λ c κs. search needs)
     (λ c κs. search needs)

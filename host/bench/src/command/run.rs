@@ -4,6 +4,7 @@ use super::fit::{rows, verdict, Beside, Board, Labelled};
 use super::{read_state, refused, say, say_json};
 use crate::arguments::Run;
 use crate::drive::{self, End, Outcome, Plan};
+use crate::edition::Edition;
 use crate::image::{self, Image, DEFAULT_START};
 use crate::names::Names;
 use crate::proved::sheets::NEITHER;
@@ -142,7 +143,8 @@ fn start(asked: &Run, files: &[Vec<u8>], map: Option<&Sheet>) -> Result<(State, 
         return Err(format!("the image's start, {entry:08x}, is {odd}"));
     }
     let size = asked.size.unwrap_or(map_size).min(MOST_SIZE);
-    let state = State::reset(start, vec![0; size as usize], entry);
+    let mut state = State::reset(start, vec![0; size as usize], entry);
+    state.edition = asked.edition.unwrap_or(Edition::Report).number();
     Ok(match window(asked, map, start)? {
         Some(window) => (windowed(state, window), images),
         None => (state, images),

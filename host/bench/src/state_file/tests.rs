@@ -26,6 +26,7 @@ fn what_is_written_is_read_again() {
         tags: vec![1; tags],
         window: Window { start: 7, size: !0 },
         revoked: Vec::new(),
+        edition: 9,
     };
     let states = [
         sample(),
@@ -65,11 +66,14 @@ fn a_file_of_version_2_is_read_with_zeros_for_the_mark_and_the_timer() {
 }
 
 #[test]
-fn a_file_of_version_3_with_66_words_stays_one() {
+fn a_file_of_version_3_or_4_with_66_words_stays_one() {
     let (old, _) = old_sample();
-    let text = write(&old);
-    assert!(text.starts_with("oddersnow state 3\n"));
-    assert_eq!(read(text.as_bytes()), Ok(old));
+    for version in [Version::Three, Version::Four] {
+        let text = write_as(version, &old);
+        assert!(text.contains("registers 66\n"));
+        assert_eq!(read(text.as_bytes()), Ok(old.clone()), "{version:?}");
+    }
+    assert!(write(&old).starts_with("oddersnow state 4\n"));
 }
 
 #[test]
@@ -101,6 +105,36 @@ fn a_file_of_version_1_has_the_bits_of_all_of_memory() {
 }
 
 #[test]
+fn a_file_before_version_4_has_the_reports_edition() {
+    let state = sample();
+    let text = write_as(Version::Three, &state);
+    assert!(text.starts_with(
+        "oddersnow state 3\nstart 20000000\nwindow 00000000 00000100\nregisters 72\n"
+    ));
+    assert_eq!(read(text.as_bytes()), Ok(state));
+    let (old, as_read) = old_sample();
+    assert_eq!(as_read.edition, REPORT_EDITION);
+    for version in [Version::One, Version::Two] {
+        let text = write_as(
+            version,
+            &State {
+                edition: 1,
+                ..old.clone()
+            },
+        );
+        assert!(!text.contains("edition"), "{text}");
+        assert_eq!(read(text.as_bytes()), Ok(as_read.clone()), "{version:?}");
+    }
+    let later = State {
+        edition: 1,
+        ..sample()
+    };
+    let text = write(&later);
+    assert!(text.contains("\nedition 00000001\n"));
+    assert_eq!(read(text.as_bytes()), Ok(later));
+}
+
+#[test]
 fn every_changed_bit_and_every_cut_is_told() {
     let text = write(&sample()).into_bytes();
     for place in 0..text.len() {
@@ -124,9 +158,12 @@ fn a_right_check_word_does_not_make_another_form_good() {
     let body = &text[..text.rfind("check").unwrap()];
     assert!(read(&checked(body)).is_ok());
     for (old, new) in [
-        ("state 3", "state 1"),
-        ("state 3", "state 2"),
-        ("state 3", "state 4"),
+        ("state 4", "state 1"),
+        ("state 4", "state 2"),
+        ("state 4", "state 3"),
+        ("state 4", "state 5"),
+        ("edition 00000000\n", ""),
+        ("edition 00000000", "edition 0"),
         ("start 2", "start  2"),
         ("window 00000000 00000100", "window 00000000"),
         ("window 00000000 00000100", "window 0 100"),
@@ -160,7 +197,7 @@ fn a_line_with_a_word_too_few_or_too_many_is_named() {
         let changed = body.replacen(line, &format!("{}{more}", &line[..kept]), 1);
         assert_ne!(changed, body);
         let reason = read(&checked(&changed)).unwrap_err();
-        assert!(reason.starts_with("line 12 "), "{reason}");
+        assert!(reason.starts_with("line 13 "), "{reason}");
     }
 }
 

@@ -31,19 +31,27 @@ pub fn with_code(code: &[u32]) -> State {
 
 /// The text of a state's file.
 pub fn text(state: &State) -> String {
-    windowed(3, state)
+    let mut text = windowed(4, state);
+    let _ = writeln!(text, "edition {:08x}", state.edition);
+    body(text, state)
 }
 
-/// The text of a state's file of version 2, which has no stack mark and no timer.
+/// The text of a state's file of version 3, which has no edition.
+pub fn text_of_version_3(state: &State) -> String {
+    body(windowed(3, state), state)
+}
+
+/// The text of a state's file of version 2, which has no stack mark and no timer either.
 pub fn text_of_version_2(state: &State) -> String {
-    windowed(2, &without_new_words(state))
+    body(windowed(2, state), &without_new_words(state))
 }
 
+/// The lines before the edition's.
 fn windowed(version: u32, state: &State) -> String {
     let mut text = format!("oddersnow state {version}\nstart {:08x}\n", state.start);
     let Window { start, size } = state.window;
     let _ = writeln!(text, "window {start:08x} {size:08x}");
-    body(text, state)
+    text
 }
 
 /// The text of a state's file of version 1, which has no window either.

@@ -6,6 +6,7 @@
 use compare::authority;
 use compare::conclude;
 use compare::cuts::{self, CutAnswer, Label};
+use compare::editions;
 use compare::halves;
 use compare::images;
 use compare::instructions::table;
@@ -95,6 +96,7 @@ fn told_apart(comparison: &str, table: &Table, seed: u64, cases: u64) -> Option<
         "lists" => lists::compare(calls, seed, cases)
             .err()
             .map(|found| found.case),
+        "editions" => editions::compare(machine).err().map(|found| found.number),
         // A round of all halves, for there are mistakes in a single one.
         "halves" => halves::compare(machine, seed, halves::CASES, None)
             .err()
@@ -121,7 +123,7 @@ fn told_apart(comparison: &str, table: &Table, seed: u64, cases: u64) -> Option<
 fn run(options: &Options) -> Result<String, String> {
     let table = table();
     let mut faults = Vec::new();
-    let right = ["cuts", "lists", "machine", "halves", "listing"];
+    let right = ["cuts", "lists", "machine", "editions", "halves", "listing"];
     let right = right.map(|comparison| (comparison, RIGHT_CASES));
     let fewer = [
         ("authority", RIGHT_STARTS),

@@ -4,6 +4,7 @@ mod bench;
 mod capabilities;
 mod compressed;
 mod control;
+mod editions;
 mod integers;
 mod mark;
 mod memory;

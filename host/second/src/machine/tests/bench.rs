@@ -71,6 +71,7 @@ pub struct Bench {
     pub tags: Vec<u8>,
     pub window: Window,
     pub revoked: Vec<u8>,
+    pub edition: u32,
 }
 
 impl Bench {
@@ -84,6 +85,7 @@ impl Bench {
             tags: vec![0; 4],
             window: Window::whole(256),
             revoked: vec![0; 4],
+            edition: 0,
         };
         bench.set(PCC, tagged(START, EXECUTABLE_ROOT));
         bench.set(MTCC, tagged(HANDLER, EXECUTABLE_ROOT));
@@ -148,6 +150,7 @@ impl Bench {
         Board {
             start: self.start,
             window: self.window,
+            edition: self.edition,
         }
     }
 

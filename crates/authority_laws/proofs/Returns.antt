@@ -1,0 +1,61 @@
+-- A step whose instruction is no jump makes no return sentry: where none stands in registers and memory, none stands there after it. Assumes nothing.
+use mathlib.Core.Path.{_≡_, refl}
+use mathlib.Core.List.{List}
+use Prim.Native.Nat.{ℕ, _*_}
+use native.Mathlib.Omega.{arith}
+use lib.ListN.{length}
+use Rattle.capability.specs.declared.Capability.{Capability}
+use Rattle.instructions.specs.Decode.{decodeOf}
+use Rattle.state.specs.Registers.{capabilityAt}
+use Rattle.state.specs.Lent.{State}
+use Rattle.state.specs.Memory.{capabilityIn, granuleBytes}
+use Rattle.state.specs.Effects.{EachCapability}
+use Rattle.state.specs.Fits.{FitsRegisters}
+use Rattle.state.specs.declared.Board.{Board}
+use Rattle.execution.specs.Step.{seen, stepOf}
+use Rattle.machine.specs.Run.{stepRefusal}
+use Rattle.machine_laws.specs.Editions.{NoJump}
+use Rattle.machine_laws.specs.Fits.{InType}
+use Rattle.machine_laws.specs.Lent.{GoodState}
+use Rattle.machine_laws.specs.Steps.{lengthAt, standingAt, wordAt}
+use Rattle.machine_laws.proofs.Refusals.{good-of}
+use Rattle.machine_laws.proofs.Fetch.{fetched-holds}
+use Rattle.authority_laws.specs.Gain.{Stands, in-register, in-granule}
+use Rattle.authority_laws.specs.Returns.{ReturnSentry, NoReturns}
+use Rattle.authority_laws.proofs.Closed.{Carried, Everywhere}
+use Rattle.authority_laws.proofs.Effects.{other-carried}
+use Rattle.authority_laws.proofs.Runs.{carried-keeps, at-granule, in-place}
+
+abbrev NoReturn : Capability → Type 0
+NoReturn c = ReturnSentry c → ⊥
+
+no-return-carried : Carried NoReturn
+no-return-carried =
+    record { untagged = λ c z r. omega (arith, z, r .is-tagged); derived = λ m h r. h (m .of-return r) }
+
+module _ (board : Board) (revoked : List ℕ) (s : State) (good : stepRefusal board revoked s ≡ 0) (t : InType s) where
+  state-good : GoodState board revoked s
+  state-good = good-of board revoked s good
+
+  nowhere : NoReturns s → Everywhere NoReturn s
+  nowhere h =
+      record {
+        registers =
+            record { long = omega (arith, state-good .registers); file = λ i l. h (capabilityAt (s .regs) i) (in-register i l refl) };
+        memory = λ i w. h (capabilityIn (s .mem) (s .tags) i) (in-place s i w);
+      }
+
+  ended : (a : State) → Everywhere NoReturn a → NoReturns a
+  ended a e c (in-register i l q) = rw q (e .registers .file i l)
+  ended a e c (in-granule g l q) = rw q (e .memory (g * granuleBytes) (at-granule (length (a .mem)) g l))
+
+  pub only-jumps-make : NoJump (decodeOf (wordAt board s)) → NoReturns s → NoReturns (stepOf board revoked s)
+  only-jumps-make other h =
+      let fits : FitsRegisters (s .regs) = record { words = t .registers-in; tags = state-good .words .tag-words } in
+      let e = nowhere h in
+      ended (stepOf board revoked s)
+      (carried-keeps NoReturn no-return-carried board revoked s state-good t
+      (fetched-holds (EachCapability NoReturn) board revoked s (λ n v. tt)
+      (other-carried NoReturn no-return-carried (s .regs) fits (e .registers) (seen board revoked s) (state-good .memory .start-aligned) (e .memory)
+      (lengthAt board s) (decodeOf (wordAt board s)) (standingAt board s) other))
+      e)
