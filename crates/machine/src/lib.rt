@@ -40,7 +40,7 @@ const SPACE: usize = 0x1_0000_0000;
 // ---- the refusals
 
 // The limits of memory's start and size.
-fn good_memory(board: Board, size: usize) -> bool
+pub fn good_memory(board: Board, size: usize) -> bool
     ensures { λ r. ⌜ r ≡ goodMemory board size ⌝ }
 {
     let start = board.start;
@@ -60,7 +60,7 @@ fn good_memory(board: Board, size: usize) -> bool
 }
 
 // The limits of the window, which may be empty, also at memory's end.
-fn good_window(board: Board, size: usize) -> bool
+pub fn good_window(board: Board, size: usize) -> bool
     ensures { λ r. ⌜ r ≡ goodWindow board size ⌝ }
 {
     let from = board.window.start as usize;
@@ -75,7 +75,7 @@ fn good_window(board: Board, size: usize) -> bool
 }
 
 // Whether the tag buffer is as long as memory asks, and the revocation buffer as the window does.
-fn good_lengths(size: usize, window: usize, tags: usize, revoked: usize) -> bool
+pub fn good_lengths(size: usize, window: usize, tags: usize, revoked: usize) -> bool
     ensures { λ r. ⌜ r ≡ (eqb tags (size / blockBytes) && eqb revoked (window / blockBytes)) ⌝ }
 {
     if tags != size / BLOCK_BYTES {
