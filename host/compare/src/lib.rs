@@ -33,6 +33,7 @@ pub mod short;
 pub mod shrink;
 pub mod starts;
 pub mod state;
+pub mod sweeps;
 pub mod told;
 
 use options::Options;

@@ -32,7 +32,8 @@ fn loses_tag(value: Capability, board: Board, revoked: &[u8]) -> bool {
 
 /// The tagged capability of eight bytes of memory.
 fn stored(bytes: &[u8; GRANULE_BYTES]) -> Capability {
-    let word = |at: usize| u32::from_le_bytes([bytes[at], bytes[at + 1], bytes[at + 2], bytes[at + 3]]);
+    let word =
+        |at: usize| u32::from_le_bytes([bytes[at], bytes[at + 1], bytes[at + 2], bytes[at + 3]]);
     Capability {
         address: word(0),
         metadata: word(4),
