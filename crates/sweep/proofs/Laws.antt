@@ -158,10 +158,12 @@ module _ (board : Board) (revoked mem before : List ℕ) (g : ℕ) where
         go true false = omega arith
         go false b = refusal-small board revoked mem before g
 
-    -- each tag stays or goes: refused or not
+  -- what any visit leaves, refused or not
+  module _ (after : List ℕ) (left : after ≡ tagsAfter board revoked mem before g) where
+    -- each tag stays or goes
     pub tag-falls : (h : ℕ) → (bitAt after h ≡ bitAt before h) ⊎ (bitAt after h ≡ 0)
     unfolding tagsAfter
-    tag-falls h = rw (p .tags-are) (go (eqb (visitRefusal board revoked mem before g) 0) refl)
+    tag-falls h = rw left (go (eqb (visitRefusal board revoked mem before g) 0) refl)
       where
         Falls : List ℕ → Type 0
         Falls t = (bitAt t h ≡ bitAt before h) ⊎ (bitAt t h ≡ 0)
@@ -179,7 +181,7 @@ module _ (board : Board) (revoked mem before : List ℕ) (g : ℕ) where
     pub bytes-stay : Bytes before → Bytes after
     unfolding tagsAfter
     bytes-stay b =
-        rw (p .tags-are)
+        rw left
         (cond-holds Bytes (eqb (visitRefusal board revoked mem before g) 0) (sweptTags board revoked mem before g) before
         (swept-bytes board revoked mem before g b) b)
 

@@ -20,6 +20,7 @@ mod save;
 mod sequence;
 mod sheet;
 mod state_file;
+mod sweep;
 mod trace;
 mod trap;
 
