@@ -63,6 +63,13 @@ done
 log=$work/table check "sheets are read and written at 50 MB a second" at_least 50
 cat "$work/table"
 
+swept_at() { # MILLIONS: granules a second of the proved sweeper where nothing is tagged
+  host/target/release/speed sweep | tee "$work/sweeps"
+  awk -v least="$1" '$1 == "untagged" && $2 >= least { good = 1 } END { exit !good }' "$work/sweeps"
+}
+log=$work/table check "1 MiB without a tag is swept at 20 million granules a second" swept_at 20
+cat "$work/table"
+
 # So many instructions for a byte are 20 million bytes a second on a core that does six thousand million in that time;
 # for code that is half long words and half short ones.
 most=300

@@ -191,7 +191,7 @@ module _ (b a : State) (same : Unwritten b a) (falls : (g : ℕ) → (bitAt (a .
           absurd (omega (arith, k .is-tagged, ap (λ (x : Capability). x .tag) q, stored-tag (a .mem) g (a .tags), e))
 
       at : Stands a c → Stands b c
-      at (in-register i l q) = in-register i l (rw (same .same-registers) at q)
+      at (in-register i l q) = in-register i l (q ∙ ap (λ (r : List ℕ). capabilityAt r i) (same .same-registers))
       at (in-granule g l q) = in-granule g (rw (same .same-memory) at l) (stayed g q (falls g))
 
   pub falls-gain-none : SoundState b → NoGain b a
@@ -202,15 +202,17 @@ kept-by-visit : {s b : State} → Kept s b → (board : Board) (revoked : List �
     → a .tags ≡ tagsAfter board revoked (b .mem) (b .tags) g → Kept s a
 kept-by-visit {s} {b} k board revoked a g same left =
     let fallen = falls-gain-none b a same (tag-falls board revoked (b .mem) (b .tags) g (a .tags) left) (k .1 .sound) in
-    let in-type = k .1 .in-type in
-    (gain-both (k .0) fallen, record {
-      in-type = record {
-        registers-in = rw (same .same-registers) (in-type .registers-in);
-        memory-in = rw (same .same-memory) (in-type .memory-in);
-        tags-in = bytes-stay board revoked (b .mem) (b .tags) g (a .tags) left (in-type .tags-in);
-      };
-      sound = fallen .sound;
-    })
+    let in-type = k .1 .in-type in (
+      gain-both (k .0) fallen,
+      record {
+        in-type = record {
+          registers-in = rw (same .same-registers) (in-type .registers-in);
+          memory-in = rw (same .same-memory) (in-type .memory-in);
+          tags-in = bytes-stay board revoked (b .mem) (b .tags) g (a .tags) left (in-type .tags-in);
+        };
+        sound = fallen .sound;
+      },
+    )
 
 -- all calls together; what they leave can start again
 pub reached-gains-none : (s a : State) → Start s → Reached s a → NoGain s a × Start a
