@@ -5,7 +5,7 @@
 # more than the second program's and than the tuned one. Map sheets: the proved reader and writer need no more
 # for a byte than the second program's. The lister and the assembler need few enough for 20 million bytes of
 # code or text a second. Callgrind counts them, so that what else the computer does changes nothing. By time,
-# sheets are read and written at 50 MB a second or more. The proved libraries are built by rt, or lie in the
+# sheets are read and written at 50 MB a second or more, and memory without tags is swept at 20 million granules a second or more. The proved libraries are built by rt, or lie in the
 # directory that ODDERSNOW_STATICLIB names.
 set -u
 source "$(dirname "$0")/lib/check.sh"

@@ -53,7 +53,7 @@ pub fn swept(state: &State, went: &[Went], names: &Names) -> Value {
     json!({
         "granules": sweep::granules(state),
         "went": went.collect::<Vec<Value>>(),
-        "stay": sweep::tags(state),
+        "kept": sweep::tags(state),
         "state": self::state(state),
     })
 }

@@ -88,7 +88,7 @@ fn json_has_each_tag_that_went() {
     assert_eq!((said.status, said.err.as_str()), (0, ""));
     let value = said.json();
     assert_eq!(
-        (&value["granules"], &value["stay"]),
+        (&value["granules"], &value["kept"]),
         (&json!(32), &json!(4))
     );
     let went = value["went"].as_array().unwrap();
