@@ -1,6 +1,6 @@
 -- A step keeps every closed property of all that stands in a state. Being sound and derived from the start is one: so no step gains authority, and, one after
 -- another, no run and no calls do. Document 02, 9. Assumes nothing.
-use mathlib.Core.Path.{_≡_, refl, sym, ap, _∙_}
+use mathlib.Core.Path.{_≡_, refl, ap, _∙_}
 use mathlib.Core.Logic.{_⊎_, inl, inr}
 use mathlib.Core.Bool.{Bool, true, false, cond}
 use mathlib.Core.List.{List}

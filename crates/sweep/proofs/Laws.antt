@@ -9,7 +9,7 @@ use lib.Dec.{eqb, ltb}
 use lib.ListN.{length}
 use borrow.Author.Tests.{eqb-true, eqb-false, eq-eqb, ne-eqb, ltb-true, lt-ltb}
 use Rattle.words.specs.Words.{Bytes, bitAt, putBit}
-use Rattle.words.proofs.Bits.{length-putBit, bitAt-putBit-same, bitAt-putBit-other, bitAt-bit, putBit-Bytes}
+use Rattle.words.proofs.Bits.{length-putBit, bitAt-putBit-same, bitAt-putBit-other, putBit-Bytes}
 use Rattle.capability.specs.declared.Capability.{Capability}
 use Rattle.state.specs.Lent.{state}
 use Rattle.state.specs.Checks.{failIf}

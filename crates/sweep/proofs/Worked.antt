@@ -1,5 +1,5 @@
 -- The worked visits are the definition's, and so no program keeps the promise that refuses them or that leaves the tag. Assumes nothing.
-use mathlib.Core.Path.{_≡_, ap, _∙_}
+use mathlib.Core.Path.{_≡_, ap}
 use mathlib.Core.List.{List, [], _∷_}
 use Prim.Native.Nat.{ℕ}
 use native.Mathlib.Omega.{arith}

@@ -1,5 +1,4 @@
 -- Each return has the number of the first test that failed: those before it passed.
-use borrow.Author.Needs.{needs}
 use Rattle.sweep.proofs.first_refusal.Statement.{statement}
 use Rattle.sweep.proofs.first_refusal.Tie as tie
 

@@ -1,7 +1,5 @@
 -- What has no tag is not taken by the test; of the rest the test itself is asked.
-use mathlib.Core.Path.{sym, _∙_, ap}
-use Rattle.capability.specs.declared.Capability.{Capability}
-use Rattle.memory_instructions.specs.Access.{revokedValue}
+use mathlib.Core.Path.{sym, _∙_}
 use Rattle.sweep.proofs.Laws.{untagged-stays}
 use borrow.Author.Needs.{needs}
 use Rattle.sweep.proofs.is_swept.Statement.{statement}

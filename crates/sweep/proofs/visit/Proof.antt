@@ -1,6 +1,5 @@
 -- Refused; or not refused, so that the granule is one of memory, and its number small.
 use mathlib.Core.Path.{sym, _∙_}
-use native.Mathlib.Omega.{arith}
 use Rattle.sweep.proofs.Laws as laws
 use borrow.Author.Needs.{needs}
 use Rattle.sweep.proofs.visit.Statement.{statement}
