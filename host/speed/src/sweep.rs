@@ -94,3 +94,19 @@ pub fn compare_all() {
         );
     }
 }
+
+#[cfg(test)]
+mod tests {
+    use super::*;
+
+    /// Each sweeper visits every granule of each kind of memory and leaves the right tags; `pass` asserts it.
+    #[test]
+    fn both_sweepers_leave_the_same_tags() {
+        for name in ["proved", "second"] {
+            for kind in KINDS {
+                assert_eq!(count(name, kind, 2), Some(131_072), "{name}, {kind}");
+            }
+        }
+        assert_eq!(count("proved", "other", 1), None);
+    }
+}
