@@ -2,6 +2,7 @@
 //! program.
 
 use lent::{Capability, State, Sweep, GRANULE, MEMORY_ROOT, MOST_MEMORY};
+use std::hint::black_box;
 use std::time::Instant;
 
 /// How many passes of each are tried, turn by turn: the best counts. A pass is short, so that some are made
@@ -44,8 +45,10 @@ fn memory(kind: &str) -> Option<(State, u32)> {
     Some((state, left))
 }
 
-/// A whole pass; it must visit every granule, and leave so many tags.
+/// A whole pass; it must visit every granule, and leave so many tags. Each visit is a call, as it is for C:
+/// neither sweeper is compiled into the loop.
 fn pass(sweep: Sweep, state: &mut State, left: u32) -> u64 {
+    let sweep = black_box(sweep);
     let mut visits = 1;
     let mut answer = state.sweep(sweep, 0);
     while answer >> 32 == 0 {
