@@ -2,12 +2,12 @@
  *
  * Numbers and slices only. A slice is a pointer and a count of elements. Every function takes any
  * numbers and any slices, answers by a number, and keeps nothing between calls; a slice may be empty, and
- * slices of one call do not overlap. What each function answers is proved; "number" below is document
- * 01's number of an answer, 0 where nothing is refused.
+ * one that is written overlaps no other of the same call. What each function answers is proved; "number"
+ * below is document 01's number of an answer, 0 where nothing is refused.
  *
  *   libraries: `rt staticlib label` has the first six functions (target/staticlib/liblabel.a),
  *   `rt staticlib call_lists` oddersnow_calls (target/staticlib/libcall_lists.a), `rt staticlib bench_api`
- *   oddersnow_step and oddersnow_run (target/staticlib/libbench_api.a), `rt staticlib sheet_api` the
+ *   oddersnow_step, oddersnow_run and oddersnow_sweep (target/staticlib/libbench_api.a), `rt staticlib sheet_api` the
  *   functions about sheets (target/staticlib/libsheet_api.a), `rt staticlib listing_api` oddersnow_list and
  *   oddersnow_assemble (target/staticlib/liblisting_api.a). A program may link all of them.
  */
@@ -93,6 +93,22 @@ uint64_t oddersnow_run(uint32_t *regs, size_t regs_len, uint32_t start,
                        uint32_t window_start, uint32_t window_size, const uint8_t *revoked, size_t revoked_len,
                        uint32_t edition, uint32_t steps);
 
+/* The sweeper: one granule of 8 bytes a call, by its number from 0. Lent are memory, tags, window and revocation bits as for a
+ * step; memory is only read, and no registers are lent: they are not swept. The granule's tag is cleared where the load filter
+ * would take the tag of the capability that the granule holds because it is revoked. The answer is number * 2^48 + last * 2^32 +
+ * next: next is the number of the granule to visit after this one, and after the last granule last is 1 and next 0. The
+ * number is 2 or 3 as for a step, or
+ *
+ *   9  mem has no granule of that number
+ *
+ * and the lowest wins. Where it is not 0, nothing is changed and the rest is 0. After all calls from granule 0 to the last, with
+ * the same buffers and window and nothing else writing them between, mem holds no tagged capability that is revoked so, and no
+ * byte and no other tag has changed.
+ */
+uint64_t oddersnow_sweep(uint32_t start, const uint8_t *mem, size_t mem_len, uint8_t *tags, size_t tags_len,
+                         uint32_t window_start, uint32_t window_size, const uint8_t *revoked, size_t revoked_len,
+                         uint32_t granule);
+
 /* Map sheets. A sheet is text, a line a region:
  *
  *   region<TAB>name<TAB>start<TAB>length<TAB>rights
@@ -136,6 +152,8 @@ static inline uint64_t oddersnow_rest(uint64_t answer) { return answer & 0xfffff
 static inline uint32_t oddersnow_number(uint64_t answer) { return (uint32_t)(answer >> 48); }
 static inline uint32_t oddersnow_trapped(uint64_t answer) { return (uint32_t)(answer >> 24) & 0xffffff; }
 static inline uint32_t oddersnow_retired(uint64_t answer) { return (uint32_t)answer & 0xffffff; }
+static inline uint32_t oddersnow_last(uint64_t answer) { return (uint32_t)(answer >> 32) & 1; }
+static inline uint32_t oddersnow_next(uint64_t answer) { return (uint32_t)answer; }
 
 /* The listing of code: a line a word, as docs/LISTING.md has it; and the assembly of such lines. out takes the text, or the
  * code, from its start on; bytes past it stay as they are. The answer is number * 2^48 + rest:

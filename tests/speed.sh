@@ -5,8 +5,8 @@
 # more than the second program's and than the tuned one. Map sheets: the proved reader and writer need no more
 # for a byte than the second program's. The lister and the assembler need few enough for 20 million bytes of
 # code or text a second. Callgrind counts them, so that what else the computer does changes nothing. By time,
-# sheets are read and written at 50 MB a second or more. The proved libraries are built by rt, or lie in the
-# directory that ODDERSNOW_STATICLIB names.
+# sheets are read and written at 50 MB a second or more, and memory without tags is swept at 20 million granules
+# a second or more. The proved libraries are built by rt, or lie in the directory that ODDERSNOW_STATICLIB names.
 set -u
 source "$(dirname "$0")/lib/check.sh"
 each=1000000
@@ -61,6 +61,13 @@ for way in read write; do
   check "the proved library takes no more instructions to $way sheets" no_more ".sheets.proved.$way.64" ".sheets.second.$way.64"
 done
 log=$work/table check "sheets are read and written at 50 MB a second" at_least 50
+cat "$work/table"
+
+swept_at() { # MILLIONS: granules a second of the proved sweeper where nothing is tagged
+  host/target/release/speed sweep | tee "$work/sweeps"
+  awk -v least="$1" '$1 == "untagged" && $2 >= least { good = 1 } END { exit !good }' "$work/sweeps"
+}
+log=$work/table check "1 MiB without a tag is swept at 20 million granules a second" swept_at 20
 cat "$work/table"
 
 # So many instructions for a byte are 20 million bytes a second on a core that does six thousand million in that time;

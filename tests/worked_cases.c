@@ -1,5 +1,6 @@
 /* The worked cases of document 01 that are run and not proved: moves from the first of the 0x20000001 cuts, by the list
-   runner, and the no-op at the end of the address space, by the machine. One line for each check. */
+   runner, and the no-op at the end of the address space, by the machine; and a pass of the sweeper (document 02, 10). One
+   line for each check. */
 #include <stdio.h>
 #include <string.h>
 
@@ -44,11 +45,34 @@ static void last_instruction(void)
     check("and nothing else changed", memcmp(regs, before, sizeof regs) == 0);
 }
 
+/* A pass over 64 bytes: granule 1 holds [0x20000010, 0x20000020), granule 7 the same, and the granule of that low bound is revoked. */
+static void pass(void)
+{
+    uint32_t held[2] = {0x20000018, 0x7E004010}, granule = 0;
+    uint8_t mem[64] = {0}, before[64], tags[1] = {0x83}, revoked[1] = {1 << 2};
+    uint64_t answer = 0;
+    int visits = 0;
+    memcpy(&mem[8], held, 8);
+    memcpy(&mem[56], held, 8);
+    memcpy(before, mem, sizeof mem);
+    do {
+        answer = oddersnow_sweep(0x20000000, mem, 64, tags, 1, 0, 64, revoked, 1, granule);
+        granule = oddersnow_next(answer);
+        visits++;
+    } while (oddersnow_number(answer) == 0 && !oddersnow_last(answer) && visits < 9);
+    check("a pass visits eight granules, and the last one says so", visits == 8 && answer == 0x100000000);
+    check("it takes the tags of what is revoked, and no other", tags[0] == 1);
+    check("and no byte", memcmp(mem, before, sizeof mem) == 0 && revoked[0] == 1 << 2);
+    answer = oddersnow_sweep(0x20000000, mem, 64, tags, 1, 0, 64, revoked, 1, 8);
+    check("a number with no granule is refusal 9", answer == (uint64_t)9 << 48);
+}
+
 int main(void)
 {
     check("a move to 0x20000200 keeps the tag", tag_after_move(0x20000200) == 1);
     check("a move to 0x20000201 clears it", tag_after_move(0x20000201) == 0);
     check("a move to 0x20000000 clears it", tag_after_move(0x20000000) == 0);
     last_instruction();
+    pass();
     return failed;
 }

@@ -1,6 +1,7 @@
 -- A step keeps every closed property of all that stands in a state. Being sound and derived from the start is one: so no step gains authority, and, one after
 -- another, no run and no calls do. Document 02, 9. Assumes nothing.
 use mathlib.Core.Path.{_≡_, refl, ap, _∙_}
+use mathlib.Core.Logic.{_⊎_, inl, inr}
 use mathlib.Core.Bool.{Bool, true, false, cond}
 use mathlib.Core.List.{List}
 use Prim.Native.Nat.{ℕ, zero, suc, _*_, _/_, _<_}
@@ -8,6 +9,7 @@ use native.Mathlib.Omega.{arith}
 use lib.Dec.{eqb}
 use lib.ListN.{length}
 use borrow.Author.Tests.{eqb-true}
+use Rattle.words.specs.Words.{bitAt}
 use Rattle.capability.specs.Capability.{Good}
 use Rattle.capability.specs.declared.Capability.{Capability}
 use Rattle.capability_laws.proofs.Derived.{inside-refl, inside-trans}
@@ -22,6 +24,8 @@ use Rattle.commit.specs.Commit.{applyEffect}
 use Rattle.execution.specs.Step.{seen, effectAt, stepOf, lengthIn, fetchedIn}
 use Rattle.machine.specs.Refusals.{refusalOf}
 use Rattle.machine.specs.Run.{stepRefusal, stepAfter, Ran, ran, oneMore, iterate, ranFrom, runAfter}
+use Rattle.sweep.specs.Visits.{tagsAfter}
+use Rattle.sweep.proofs.Laws.{stored-tag, stored-alike, tag-falls, bytes-stay}
 use Rattle.machine_laws.specs.Fits.{InType}
 use Rattle.machine_laws.specs.Lent.{GoodState}
 use Rattle.machine_laws.specs.Steps.{lengthAt, standingAt, wordAt}
@@ -31,7 +35,7 @@ use Rattle.machine_laws.proofs.Kept.{good-stays, lengths-stay}
 use Rattle.machine_laws.proofs.Stores.{store-changes-only}
 use Rattle.machine_laws.proofs.Fits.{next-fits, in-type-stays, step-in-type, run-in-type}
 use Rattle.authority_laws.specs.Gain.{Stands, in-register, in-granule, Held, Sound, SoundState, Start, Derived, NoGain}
-use Rattle.authority_laws.specs.Gain.{Reached, at-start, by-step, by-run, by-c-step, by-c-run, AuthorityClaim}
+use Rattle.authority_laws.specs.Gain.{Reached, at-start, by-step, by-run, by-c-step, by-c-run, by-visit, by-c-visit, Unwritten, AuthorityClaim}
 use Rattle.authority_laws.proofs.Closed.{Closed, Carried, carried-of, Everywhere}
 use Rattle.authority_laws.proofs.Effects.{effect-carried}
 use Rattle.authority_laws.proofs.Registers.{files-left}
@@ -182,6 +186,43 @@ module _ {s b : State} (k : Kept s b) (board : Board) (revoked : List ℕ) (a : 
       let g = gain-both (k .0) (run-gains-none board revoked n b (k .1)) in
       rw e (g, record { in-type = run-in-type board revoked b (k .1 .in-type) n; sound = g .sound })
 
+-- ---- a visit of the sweeper
+
+-- where registers and memory stay and tags stay or go, what is held was held
+module _ (b a : State) (same : Unwritten b a) (falls : (g : ℕ) → (bitAt (a .tags) g ≡ bitAt (b .tags) g) ⊎ (bitAt (a .tags) g ≡ 0)) where
+  was-held : (c : Capability) → Held a c → Held b c
+  was-held c k = record { stands = at (k .stands); is-tagged = k .is-tagged }
+    where
+      stayed : (g : ℕ) → c ≡ capabilityIn (a .mem) (a .tags) (g * granuleBytes) → (bitAt (a .tags) g ≡ bitAt (b .tags) g) ⊎ (bitAt (a .tags) g ≡ 0)
+          → c ≡ capabilityIn (b .mem) (b .tags) (g * granuleBytes)
+      stayed g q (inl e) = rw (same .same-memory) at (q ∙ stored-alike (a .mem) g (a .tags) (b .tags) e)
+      stayed g q (inr e) =
+          absurd (omega (arith, k .is-tagged, ap (λ (x : Capability). x .tag) q, stored-tag (a .mem) g (a .tags), e))
+
+      at : Stands a c → Stands b c
+      at (in-register i l q) = in-register i l (q ∙ ap (λ (r : List ℕ). capabilityAt r i) (same .same-registers))
+      at (in-granule g l q) = in-granule g (rw (same .same-memory) at l) (stayed g q (falls g))
+
+  pub falls-gain-none : SoundState b → NoGain b a
+  falls-gain-none h =
+      record { derived = λ c k. itself b h c (was-held c k .stands) (k .is-tagged) .1; sound = λ c k. h c (was-held c k) }
+
+kept-by-visit : {s b : State} → Kept s b → (board : Board) (revoked : List ℕ) (a : State) (g : ℕ) → Unwritten b a
+    → a .tags ≡ tagsAfter board revoked (b .mem) (b .tags) g → Kept s a
+kept-by-visit {s} {b} k board revoked a g same left =
+    let fallen = falls-gain-none b a same (tag-falls board revoked (b .mem) (b .tags) g (a .tags) left) (k .1 .sound) in
+    let in-type = k .1 .in-type in (
+      gain-both (k .0) fallen,
+      record {
+        in-type = record {
+          registers-in = rw (same .same-registers) (in-type .registers-in);
+          memory-in = rw (same .same-memory) (in-type .memory-in);
+          tags-in = bytes-stay board revoked (b .mem) (b .tags) g (a .tags) left (in-type .tags-in);
+        };
+        sound = fallen .sound;
+      },
+    )
+
 -- all calls together; what they leave can start again
 pub reached-gains-none : (s a : State) → Start s → Reached s a → NoGain s a × Start a
 reached-gains-none s a h at-start = (gain-none (h .sound), h)
@@ -193,6 +234,10 @@ reached-gains-none s a h (by-c-step {b} board revoked answer r p) =
     kept-by-step (reached-gains-none s b h r) board revoked a (same-state a _ (p .registers-are) (p .memory-is) (p .tags-are))
 reached-gains-none s a h (by-c-run {b} n board revoked answer r p) =
     kept-by-run (reached-gains-none s b h r) board revoked a n (same-state a _ (p .registers-are) (p .memory-is) (p .tags-are))
+reached-gains-none s a h (by-visit {b} g board revoked answer r same p) =
+    kept-by-visit (reached-gains-none s b h r) board revoked a g same (p .tags-are)
+reached-gains-none s a h (by-c-visit {b} g board revoked answer r same p) =
+    kept-by-visit (reached-gains-none s b h r) board revoked a g same (p .tags-are)
 
 -- no run gains authority
 pub authority-claim : (s : State) → Start s → AuthorityClaim s

@@ -1,4 +1,4 @@
--- What a state holds, what is derived from it, and that steps and runs gain no authority. Document 02, 9. Assumes nothing.
+-- What a state holds, what is derived from it, and that steps, runs and sweeps gain no authority. Document 02, 9 and 10. Assumes nothing.
 use mathlib.Core.List.{List}
 use mathlib.Core.Path.{_≡_}
 use Prim.Native.Nat.{ℕ, _*_, _/_, _^_, _≤_, _<_}
@@ -14,8 +14,10 @@ use Rattle.state.specs.declared.Board.{Board}
 use Rattle.machine.specs.Run.{stepRefusal, ranFrom, StepPromise, RunPromise}
 use Rattle.machine.specs.declared.StepAnswer.{StepAnswer}
 use Rattle.machine.specs.declared.RunAnswer.{RunAnswer}
+use Rattle.sweep.specs.Visits.{VisitPromise}
+use Rattle.sweep.specs.declared.SweepAnswer.{SweepAnswer}
 use Rattle.machine_laws.specs.Fits.{InType}
-use Rattle.bench_api.specs.Packing.{StepPacked, RunPacked}
+use Rattle.bench_api.specs.Packing.{StepPacked, RunPacked, VisitPacked}
 
 -- ---- what a state holds
 
@@ -57,6 +59,11 @@ pub record NoGain (before after : State) : Type 0 where
   pub derived : (c : Capability) → Held after c → Derived before c
   pub sound : SoundState after
 
+-- registers, which the sweeper is not lent, and memory, which it may only read
+pub record Unwritten (before after : State) : Type 0 where
+  pub same-registers : after .regs ≡ before .regs
+  pub same-memory : after .mem ≡ before .mem
+
 -- What calls leave, one after another and whatever they answer: a constructor for each function that changes what is lent, with its promise. Board and
 -- revocation bits may differ from call to call. A caller's own write to registers, memory or tags is none of them: it begins a new start.
 pub data Reached (s : State) : State → Type 0 where
@@ -65,6 +72,10 @@ pub data Reached (s : State) : State → Type 0 where
   by-run : {b a : State} (n : ℕ) (board : Board) (revoked : List ℕ) (answer : RunAnswer) → Reached s b → RunPromise n board revoked b a answer → Reached s a
   by-c-step : {b a : State} (board : Board) (revoked : List ℕ) (answer : ℕ) → Reached s b → StepPacked board revoked b a answer → Reached s a
   by-c-run : {b a : State} (n : ℕ) (board : Board) (revoked : List ℕ) (answer : ℕ) → Reached s b → RunPacked n board revoked b a answer → Reached s a
+  by-visit : {b a : State} (g : ℕ) (board : Board) (revoked : List ℕ) (answer : SweepAnswer) → Reached s b → Unwritten b a
+      → VisitPromise board revoked (b .mem) g (b .tags) (a .tags) answer → Reached s a
+  by-c-visit : {b a : State} (g : ℕ) (board : Board) (revoked : List ℕ) (answer : ℕ) → Reached s b → Unwritten b a
+      → VisitPacked board revoked (b .mem) g (b .tags) (a .tags) answer → Reached s a
 
 -- No run gains authority, of every Start (law `authority-claim`): after any number of steps of good buffers, by the definition; and after any
 -- calls of code that keeps its promises.

@@ -1,4 +1,4 @@
--- The answers of a step and a run as one number for C. Document 01, "Answers". Assumes nothing.
+-- The answers of a step, a run and a visit of the sweeper as one number for C. Document 01, "Answers"; document 02, 10. Assumes nothing.
 use mathlib.Core.List.{List}
 use mathlib.Core.Path.{_≡_}
 use Prim.Native.Nat.{ℕ, _+_, _*_, _^_}
@@ -6,6 +6,8 @@ use Rattle.state.specs.Lent.{State}
 use Rattle.machine.specs.Refusals.{refusalOf}
 use Rattle.machine.specs.Run.{stepRefusal, stepAfter, retiredOf, trappedOf, runAfter, retiredBy, trappedBy}
 use Rattle.state.specs.declared.Board.{Board}
+use Rattle.sweep.specs.Visits.{visitAnswer, tagsAfter, visitNumber, visitLast, visitNext}
+use Rattle.sweep.specs.declared.SweepAnswer.{SweepAnswer}
 
 -- number * 2^48 + trapped * 2^24 + retired
 abbrev pub packed : (number trapped retired : ℕ) → ℕ
@@ -34,3 +36,14 @@ pub record RunPacked (n : ℕ) (board : Board) (revoked : List ℕ) (before afte
 -- the board of plain numbers
 abbrev pub boardOf : (start windowStart windowSize edition : ℕ) → Board
 boardOf start windowStart windowSize edition = record { start = start; window = record { start = windowStart; size = windowSize }; edition = edition }
+
+-- ---- the sweeper
+
+-- number * 2^48 + last * 2^32 + next
+abbrev pub packedVisit : SweepAnswer → ℕ
+packedVisit a = visitNumber a * 2 ^ 48 + visitLast a * 2 ^ 32 + visitNext a
+
+-- what oddersnow_sweep promises: its answer, and the tags as it leaves them; nothing else is lent to it for writing
+pub record VisitPacked (board : Board) (revoked mem : List ℕ) (granule : ℕ) (before after : List ℕ) (answer : ℕ) : Type 0 where
+  pub answer-is : answer ≡ packedVisit (visitAnswer board revoked mem before granule)
+  pub tags-are : after ≡ tagsAfter board revoked mem before granule

@@ -1,18 +1,23 @@
-// A step and a run for C: slices and numbers, the answer packed into one number.
+// A step, a run and the sweeper for C: slices and numbers, the answer packed into one number.
 ghost use mathlib.Core.Path.{_≡_};
 ghost use Prim.Native.Nat.{_<_, _≤_, _^_};
-ghost use Rattle.state.specs.Lent.{state};
+ghost use Rattle.state.specs.Lent.{state, reportEdition};
 ghost use Rattle.machine.specs.Run.{stepNumber, stepRetired, stepTrapped, runNumber, runRetired, runTrapped};
-ghost use Rattle.bench_api.specs.Packing.{packed, boardOf, StepPacked, RunPacked};
+ghost use Rattle.sweep.specs.Visits.{visitNumber};
+ghost use Rattle.bench_api.specs.Packing.{packed, boardOf, StepPacked, RunPacked, packedVisit, VisitPacked};
 use machine::RunAnswer;
 use machine::StepAnswer;
 use state::Board;
+use state::REPORT_EDITION;
 use state::Window;
+use sweep::SweepAnswer;
 
-// The places of a number, 2^48, and of the trapped steps, 2^24, in an answer.
+// The places of a number, 2^48, of the trapped steps, 2^24, and of the word that says which granule was the last, 2^32, in an answer.
 pub const NUMBER_PLACE: u64 = 0x1_0000_0000_0000;
 
 pub const TRAPPED_PLACE: u64 = 0x100_0000;
+
+pub const LAST_PLACE: u64 = 0x1_0000_0000;
 
 // number * 2^48 + trapped * 2^24 + retired.
 fn pack(number: u32, trapped: u32, retired: u32) -> u64
@@ -141,4 +146,42 @@ pub extern "C" fn oddersnow_run(
     };
     let a = machine::run(regs, board, mem, tags, revoked, steps);
     pack(run_number(a), run_trapped(a), run_retired(a))
+}
+
+// number * 2^48 + last * 2^32 + next.
+fn pack_visit(a: SweepAnswer) -> u64
+    requires { ⌜ visitNumber a < 2 ^ 15 ⌝ }
+    ensures { λ r. ⌜ r ≡ packedVisit a ⌝ }
+{
+    match a {
+        SweepAnswer::Next(n) => n as u64,
+        SweepAnswer::Last => LAST_PLACE,
+        SweepAnswer::Refused(n) => n as u64 * NUMBER_PLACE,
+    }
+}
+
+// A visit of the sweeper to one granule.
+#[no_mangle]
+pub extern "C" fn oddersnow_sweep(
+    start: u32,
+    mem: &[u8],
+    tags: &mut [u8],
+    window_start: u32,
+    window_size: u32,
+    revoked: &[u8],
+    granule: u32,
+) -> u64
+    ensures { λ r. ⌜ VisitPacked (boardOf start «window_start» «window_size» reportEdition) (now (revoked .entry)) (now (mem .entry)) granule
+        (now (tags .entry)) (now (tags .exit)) r ⌝ }
+{
+    let board = Board {
+        start,
+        window: Window {
+            start: window_start,
+            size: window_size,
+        },
+        // A sweep knows no edition.
+        edition: REPORT_EDITION,
+    };
+    pack_visit(sweep::visit(board, mem, tags, revoked, granule))
 }

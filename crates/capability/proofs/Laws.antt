@@ -15,7 +15,7 @@ use Rattle.capability.specs.declared.Capability.{Capability}
 use Rattle.capability.specs.Capability.{Good, integer, low, high, rights, sealed, unsealed, grants, tagged, covers, sameBounds}
 use Rattle.capability.specs.Capability.{clearTag, moveOf, setBoundsOf, setBoundsExactOf, narrowOf}
 use Rattle.capability.specs.Sealing.{dataTypes, objectType, authorizes, permittedType, withObjectType, globalMask, sealOf, unsealOf}
-use Rattle.capability.specs.Loading.{loseGlobal, loseMutable, loseTag, loadedOf, without}
+use Rattle.capability.specs.Loading.{loseGlobal, loseMutable, loseTag, loadedOf, without, revocable}
 
 -- ---- limits
 
@@ -156,3 +156,10 @@ loaded-good a v g =
     let u = loseGlobal a v in
     let lost = tagged u && (not (grants a LM) && not (sealed u)) in
     good v (loadedOf a v) g (global-address a v g) (narrowed-word lost (u .metadata) (without SD LM) (global-word a v g)) (loaded-kept a v)
+
+-- ---- revocation
+
+-- the test is for what is tagged
+pub untagged-spared : (v : Capability) → v .tag ≡ 0 → revocable v ≡ false
+unfolding revocable tagged
+untagged-spared v h = rw h

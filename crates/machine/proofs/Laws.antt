@@ -1,19 +1,19 @@
 -- Laws of the machine's definitions that the proofs of `step` and `run` cite. Assumes nothing.
-use Prim.Native.Nat.{ℕ, zero, suc, _+_, _-_, _*_, _^_, _≤_, _<_}
+use Prim.Native.Nat.{ℕ, zero, suc, _+_, _-_, _*_, _/_, _%_, _^_, _≤_, _<_}
 use mathlib.Core.Path.{_≡_, refl, sym, ap, ap₂, _∙_}
-use mathlib.Core.Bool.{Bool, true, false, cond, not, _&&_}
+use mathlib.Core.Bool.{Bool, true, false, cond, not, _&&_, true≢false}
 use mathlib.Core.List.{List}
 use native.Mathlib.Omega.{arith}
 use lib.Dec.{ltb, leb, eqb}
 use lib.ListN.{getD, length}
-use borrow.Author.Tests.{eqb-true, eq-eqb, ne-eqb, ltb-false}
+use borrow.Author.Tests.{eqb-true, eq-eqb, ne-eqb, ltb-false, leb-true}
 use Rattle.state.specs.Layout.{registerWords, capabilityCount, capabilityWords}
 use Rattle.state.specs.Lent.{State}
 use Rattle.state.specs.Checks.{failIf}
 use Rattle.state.specs.declared.Board.{Board}
 use Rattle.commit.specs.Commit.{retires}
 use Rattle.execution.specs.Step.{effectAt, stepOf}
-use Rattle.machine.specs.Refusals.{mostSteps, goodMemory, goodWindow, goodBits, goodTags, goodWords, goodEdition, refusalOf}
+use Rattle.machine.specs.Refusals.{blockBytes, mostMemory, mostSteps, goodMemory, goodWindow, goodBits, goodTags, goodWords, goodEdition, refusalOf}
 use Rattle.machine.specs.Run.{Ran, ran, oneMore, iterate, ranFrom, stepRefusal, stepAnswer, stepAfter, StepPromise, runAnswer, runAfter, RunPromise}
 use Rattle.machine.specs.Run.{stepNumber, stepRetired, stepTrapped, runNumber, runRetired, runTrapped, retiredBy, trappedBy}
 use Rattle.machine.specs.declared.StepAnswer.{StepAnswer}
@@ -27,14 +27,22 @@ pub tags-turn : (regs : List ℕ) (i : ℕ) → i < capabilityCount
 unfolding goodTags
 tags-turn regs i h = let e : capabilityCount - i ≡ suc (capabilityCount - (i + 1)) = omega arith in rw e refl
 
--- one turn of a run
-pub run-turn : (board : Board) (n k : ℕ) (revoked : List ℕ) (s after : State) (r t one : ℕ) → k < n → after ≡ stepOf board revoked s
-    → (one ≡ cond (retires (effectAt board revoked s)) 1 0) → (1 - one ≡ cond (retires (effectAt board revoked s)) 0 1)
-    → iterate (n - (k + 1)) board revoked (ran after (r + one) (t + (1 - one))) ≡ iterate (n - k) board revoked (ran s r t)
-unfolding iterate oneMore
-run-turn board n k revoked s after r t one h e f g =
-    let d : n - k ≡ suc (n - (k + 1)) = omega arith in
-    rw (d, e, g, f) refl
+-- one turn of a run, which retires or traps
+module _ (board : Board) (n k : ℕ) (revoked : List ℕ) (s after : State) (r t : ℕ) (more : k < n) (left : after ≡ stepOf board revoked s) where
+  turn-either : (b : Bool) → b ≡ retires (effectAt board revoked s)
+      → iterate (n - (k + 1)) board revoked (ran after (r + cond b 1 0) (t + cond b 0 1)) ≡ iterate (n - k) board revoked (ran s r t)
+  unfolding iterate oneMore
+  turn-either b h =
+      let d : n - k ≡ suc (n - (k + 1)) = omega arith in
+      rw (d, left, h) refl
+
+  pub turn-retired : true ≡ retires (effectAt board revoked s)
+      → iterate (n - (k + 1)) board revoked (ran after (r + 1) t) ≡ iterate (n - k) board revoked (ran s r t)
+  turn-retired h = let z : t + 0 ≡ t = omega arith in rw z at (turn-either true h)
+
+  pub turn-trapped : false ≡ retires (effectAt board revoked s)
+      → iterate (n - (k + 1)) board revoked (ran after r (t + 1)) ≡ iterate (n - k) board revoked (ran s r t)
+  turn-trapped h = let z : r + 0 ≡ r = omega arith in rw z at (turn-either false h)
 
 -- ---- the promise of a step, by how it ends
 
@@ -216,3 +224,38 @@ run-small n board revoked before after a p =
     let m = refusal-le n board revoked before in
     let k = run-counts-le n board revoked before in
     (omega (arith, m, p .number-is), omega (arith, k, p .trapped-is), omega (arith, k, p .retired-is))
+
+-- ---- what the tests of memory and of the bits say
+
+first-holds : (a b : Bool) → a && b ≡ true → a ≡ true
+first-holds true b h = refl
+first-holds false b h = absurd (true≢false (sym h))
+
+rest-holds : (a b : Bool) → a && b ≡ true → b ≡ true
+rest-holds true b h = h
+rest-holds false b h = absurd (true≢false (sym h))
+
+-- memory is no larger than allowed, and made of whole blocks
+pub good-size : (board : Board) (size : ℕ) → goodMemory board size ≡ true → (size ≤ mostMemory) × (size % blockBytes ≡ 0)
+unfolding goodMemory
+good-size board size h =
+    let a = rest-holds (leb blockBytes size) _ h in
+    let b = rest-holds (leb size mostMemory) _ a in
+    (leb-true size mostMemory (first-holds (leb size mostMemory) _ a), eqb-true (size % blockBytes) 0 (first-holds (eqb (size % blockBytes) 0) _ b))
+
+-- a byte of tags for each block
+pub good-tag-bytes : (board : Board) (revoked : List ℕ) (s : State) → goodBits board revoked s ≡ true → length (s .tags) ≡ length (s .mem) / blockBytes
+unfolding goodBits
+good-tag-bytes board revoked s h = eqb-true _ _ (first-holds (eqb (length (s .tags)) (length (s .mem) / blockBytes)) _ h)
+
+-- the test of the bits goes by lengths alone
+pub bits-alike : (board : Board) (revoked : List ℕ) (s t : State) → length (s .mem) ≡ length (t .mem) → length (s .tags) ≡ length (t .tags)
+    → goodBits board revoked s ≡ goodBits board revoked t
+unfolding goodBits
+bits-alike board revoked s t m g = rw (m, g)
+
+-- it is the test of `good_lengths`
+pub bits-by-lengths : (board : Board) (revoked : List ℕ) (s : State)
+    → goodBits board revoked s ≡ (eqb (length (s .tags)) (length (s .mem) / blockBytes) && eqb (length revoked) (board .window .size / blockBytes))
+unfolding goodBits
+bits-by-lengths board revoked s = refl

@@ -42,7 +42,7 @@ const SPACE: usize = 0x1_0000_0000;
 // ---- the refusals
 
 // The limits of memory's start and size.
-fn good_memory(board: Board, size: usize) -> bool
+pub fn good_memory(board: Board, size: usize) -> bool
     ensures { λ r. ⌜ r ≡ goodMemory board size ⌝ }
 {
     let start = board.start;
@@ -62,7 +62,7 @@ fn good_memory(board: Board, size: usize) -> bool
 }
 
 // The limits of the window, which may be empty, also at memory's end.
-fn good_window(board: Board, size: usize) -> bool
+pub fn good_window(board: Board, size: usize) -> bool
     ensures { λ r. ⌜ r ≡ goodWindow board size ⌝ }
 {
     let from = board.window.start as usize;
@@ -77,7 +77,7 @@ fn good_window(board: Board, size: usize) -> bool
 }
 
 // Whether the tag buffer is as long as memory asks, and the revocation buffer as the window does.
-fn good_lengths(size: usize, window: usize, tags: usize, revoked: usize) -> bool
+pub fn good_lengths(size: usize, window: usize, tags: usize, revoked: usize) -> bool
     ensures { λ r. ⌜ r ≡ (eqb tags (size / blockBytes) && eqb revoked (window / blockBytes)) ⌝ }
 {
     if tags != size / BLOCK_BYTES {
@@ -236,23 +236,20 @@ fn take_steps(
         ≡ iterate n board (now (revoked .entry)) (ran (state (now (regs .entry)) (now (mem .entry)) (now (tags .entry))) 0 0) ⌝ }
 {
     let mut retired: u32 = 0;
+    let mut trapped: u32 = 0;
     let mut k: u32 = 0;
     while k < n {
-        // Two calls, not one function of both: that would be too large to be compiled into the loop.
+        // Two calls, not one function of both: that would be too large to be compiled into the loop. And a branch, not a sum: what is written and what is
+        // counted are compiled as one.
         let turn = execution::turn_at(regs, board, mem, tags, revoked);
         let effect = turn.effect;
-        retired += choices::one_if(commit::commit_effect(
-            regs,
-            board.start,
-            mem,
-            tags,
-            turn.bytes,
-            effect,
-        ));
         k += 1;
+        if commit::commit_effect(regs, board.start, mem, tags, turn.bytes, effect) {
+            retired += 1;
+        } else {
+            trapped += 1;
+        }
     }
-    // Each step retires or traps: the loop counts the one kind.
-    let trapped = n - retired;
     Counts { retired, trapped }
 }
 

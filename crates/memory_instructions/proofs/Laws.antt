@@ -1,27 +1,30 @@
 -- A store of this family touches one granule of memory, and no tag other than 0 or 1 is loaded or stored. Assumes nothing.
-use mathlib.Core.Path.{_≡_}
-use mathlib.Core.Bool.{Bool, not}
+use mathlib.Core.Path.{_≡_, refl}
+use mathlib.Core.Bool.{Bool, false, not}
 use mathlib.Core.List.{List}
 use Prim.Native.Nat.{ℕ, _%_}
 use native.Mathlib.Omega.{arith}
 use lib.ListN.{length}
-use Rattle.capability.specs.Capability.{keepTagIf}
+use Rattle.capability.specs.Capability.{keepTagIf, low}
 use Rattle.capability.specs.Loading.{loadedOf}
 use Rattle.capability.specs.declared.Capability.{Capability}
-use Rattle.capability.proofs.Laws.{kept, loaded-kept}
+use Rattle.capability.proofs.Laws.{kept, loaded-kept, untagged-spared}
 use Rattle.instructions.specs.declared.LoadKind.{LoadKind}
 use Rattle.instructions.specs.declared.StoreKind.{StoreKind}
 use Rattle.instructions.specs.declared.MemoryInstruction.{MemoryInstruction}
 use Rattle.instructions.specs.declared.MemoryInstruction.the-variants as Instruction
 use Rattle.state.specs.Registers.{registerAt}
 use Rattle.state.specs.Lent.{Lent}
-use Rattle.state.specs.Memory.{placeOf, capabilityIn, storeWidth, granuleBytes}
+use Rattle.state.specs.Memory.{placeOf, capabilityIn, storeWidth, revocationAt, granuleBytes}
 use Rattle.state.specs.Effects.{StoresWithin, GoodTag, GoodTags, GoodEffect}
+use Rattle.state.specs.declared.Board.{Board}
 use Rattle.state.specs.declared.Place.{Place}
 use Rattle.state.specs.declared.Place.the-variants.{At, Misaligned, Outside}
+use Rattle.state.specs.declared.Revocation.{Revocation}
+use Rattle.state.specs.declared.Revocation.the-variants as Revocation
 use Rattle.state.proofs.Laws.{Placed, checked-holds, place-within, store-width, granule-width, kept-good, register-tag, capability-in-tag}
-use Rattle.memory_instructions.specs.Access.{loadAt, loadEffect, storeAt, storeEffect, filtered, revokedValue, loadCapabilityAt, loadCapabilityEffect}
-use Rattle.memory_instructions.specs.Access.{storeCapabilityAt, storeCapabilityEffect, memoryEffect}
+use Rattle.memory_instructions.specs.Access.{loadAt, loadEffect, storeAt, storeEffect, filtered, loadCapabilityAt, loadCapabilityEffect}
+use Rattle.memory_instructions.specs.Access.{storeCapabilityAt, storeCapabilityEffect, memoryEffect, revokedBy, revokedValue}
 
 -- ---- stores
 
@@ -108,3 +111,15 @@ memory-good (Instruction.Store kind rs1 rs2 offset) regs m h = checked-holds Goo
 memory-good (Instruction.LoadCapability rd rs1 offset) regs m h = checked-holds GoodEffect _ _ _ (λ n v. tt) (load-capability-good _ rd _ _ m)
 memory-good (Instruction.StoreCapability rs1 rs2 offset) regs m h =
     checked-holds GoodEffect _ _ _ (λ n v. tt) (store-capability-good _ _ (registerAt regs rs2) (register-tag regs rs2 h))
+
+-- ---- revocation
+
+-- the test never takes what is not tagged
+pub untagged-unrevoked : (board : Board) (revoked : List ℕ) (v : Capability) → v .tag ≡ 0 → revokedValue board revoked v ≡ false
+unfolding revokedValue
+untagged-unrevoked board revoked v h = by (revocationAt board revoked (low v))
+  where
+    by : (r : Revocation) → revokedBy r v ≡ false
+    by Revocation.Outside = refl
+    by Revocation.Clear = refl
+    by Revocation.Marked = untagged-spared v h

@@ -7,8 +7,10 @@ use Prim.Native.Nat.{ℕ, _+_, _-_, _*_, _/_, _%_, _≤_, _<_}
 use native.Mathlib.Omega.{arith}
 use lib.Dec.{eqb, leb}
 use borrow.Author.Tests.{eqb-true, leb-true, leb-false, eq-eqb, ne-eqb, le-leb, lt-leb}
+use Rattle.words.specs.Words.{le32, bitAt}
 use Rattle.words.proofs.Bits.{bitAt-bit}
 use Rattle.words.proofs.Word.{by-test}
+use Rattle.capability.specs.Capability.{capability}
 use Rattle.capability.specs.declared.Capability.{Capability}
 use Rattle.capability.proofs.Laws.{Kept, kept-le, move-kept}
 use Rattle.instructions.specs.declared.StoreKind.{StoreKind}
@@ -160,3 +162,11 @@ legalized-tag unit c h = kept-good c (legalized unit c) (move-kept c _) h
 pub capability-in-tag : (mem tags : List ℕ) (i : ℕ) → GoodTag (capabilityIn mem tags i)
 unfolding capabilityIn
 capability-in-tag mem tags i = omega (arith, bitAt-bit tags (i / granuleBytes))
+
+-- ---- a granule by its number
+
+-- what stands in it: its bytes, with its own tag
+pub capability-in-granule : (mem tags : List ℕ) (g : ℕ)
+    → capabilityIn mem tags (g * granuleBytes) ≡ capability (le32 mem (g * granuleBytes)) (le32 mem (g * granuleBytes + 4)) (bitAt tags g)
+unfolding capabilityIn
+capability-in-granule mem tags g = let e : g * granuleBytes / granuleBytes ≡ g = omega arith in rw e

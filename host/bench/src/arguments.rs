@@ -24,6 +24,8 @@ pub enum Command {
     Run(Run),
     /// Shows a saved state: its last trap and its registers
     Explain(Explain),
+    /// Sweeps a saved state's memory: takes the tags of revoked capabilities, and shows which
+    Sweep(Sweep),
     /// Cuts the request [BASE, BASE + LENGTH)
     Cut(Cut),
     /// Shows the capability with an address and a metadata word
@@ -76,6 +78,9 @@ pub struct Run {
     /// The most steps to run
     #[arg(long, value_parser = number, default_value = "1000000")]
     pub steps: u64,
+    /// Sweep all of memory after every so many steps
+    #[arg(long, value_name = "STEPS", value_parser = not_zero)]
+    pub sweep: Option<u64>,
     /// A map sheet that names the board's regions; memory is then what they span
     #[arg(long, value_name = "SHEET")]
     pub map: Option<PathBuf>,
@@ -106,6 +111,21 @@ pub struct Explain {
     /// A map sheet that names the board's regions
     #[arg(long, value_name = "SHEET")]
     pub map: Option<PathBuf>,
+    /// Write the result as JSON
+    #[arg(long)]
+    pub json: bool,
+}
+
+#[derive(Args)]
+pub struct Sweep {
+    /// The saved state
+    pub state: PathBuf,
+    /// A map sheet that names the board's regions
+    #[arg(long, value_name = "SHEET")]
+    pub map: Option<PathBuf>,
+    /// Where to save the swept state
+    #[arg(long, value_name = "FILE")]
+    pub save: Option<PathBuf>,
     /// Write the result as JSON
     #[arg(long)]
     pub json: bool,
@@ -213,6 +233,13 @@ fn number(text: &str) -> Result<u64, String> {
     u64::from_str_radix(digits, radix).map_err(|_| "not below 2^64".into())
 }
 
+fn not_zero(text: &str) -> Result<u64, String> {
+    match number(text)? {
+        0 => Err("not 1 or more".into()),
+        number => Ok(number),
+    }
+}
+
 fn word(text: &str) -> Result<u32, String> {
     u32::try_from(number(text)?).map_err(|_| "not below 2^32".into())
 }
@@ -263,6 +290,12 @@ mod tests {
         assert_eq!(word("0x100000000"), Err("not below 2^32".into()));
         assert_eq!(size("0x100000001"), Err("more than 2^32".into()));
         assert_eq!(size("0x100000000"), Ok(1 << 32));
+    }
+
+    #[test]
+    fn steps_between_sweeps_are_some() {
+        assert_eq!((not_zero("1"), not_zero("0x10")), (Ok(1), Ok(16)));
+        assert!(not_zero("0").is_err() && not_zero("x").is_err());
     }
 
     #[test]

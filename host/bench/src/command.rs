@@ -4,6 +4,7 @@ pub mod fit;
 mod listing;
 mod run;
 pub mod sheet;
+mod sweep;
 
 use crate::arguments::{Cap, Command, Cut, Explain};
 use crate::capability_text::{length, region, rights, type_words};
@@ -23,6 +24,7 @@ pub fn obey(command: Command) -> Result<Status, String> {
     match command {
         Command::Run(run) => run::run(run),
         Command::Explain(explain) => explained(&explain),
+        Command::Sweep(asked) => sweep::obey(&asked),
         Command::Cut(cut) => cut_shown(&cut),
         Command::Cap(cap) => capability_shown(&cap),
         Command::Sheet(asked) => sheet::obey(&asked),

@@ -5,6 +5,7 @@
 mod tests;
 
 use crate::proved::{self, Counts, Refusal, MOST_STEPS};
+use crate::sweep;
 use lent::{State, COMPARE, MIE, MSTATUS, TIME};
 
 /// Why a run ended.
@@ -18,10 +19,18 @@ pub enum End {
     Trap(Box<State>),
 }
 
+/// How often memory was swept during a run, and how many tags went.
+#[derive(Clone, Copy, Default, PartialEq, Eq, Debug)]
+pub struct Swept {
+    pub passes: u64,
+    pub tags: u64,
+}
+
 #[derive(Clone, PartialEq, Eq, Debug)]
 pub struct Outcome {
     pub counts: Counts,
     pub end: End,
+    pub swept: Swept,
 }
 
 /// What is asked of a run, and who is shown each call's counts, with the states before and after
@@ -31,6 +40,8 @@ pub struct Plan<'a> {
     pub through_traps: bool,
     /// The most steps of one call.
     pub call: u64,
+    /// After how many steps all of memory is swept, again and again.
+    pub sweep: Option<u64>,
     pub watch: &'a mut dyn FnMut(&State, &State, Counts) -> bool,
 }
 
@@ -40,14 +51,20 @@ pub fn run(state: &mut State, plan: Plan) -> Result<Outcome, Refusal> {
     let mut counts = Counts::default();
     let most = plan.call.clamp(1, MOST_STEPS);
     let (mut left, mut call) = (plan.steps, 1);
+    let mut swept = Swept::default();
     while left > 0 {
-        let steps = left.min(call);
+        let steps = left.min(call).min(until_sweep(&plan, counts));
         let before = state.clone();
         let made = proved::run(state, steps)?;
         let wanted = (plan.watch)(&before, state, made);
         if stops(state, made, plan.through_traps, left - steps)? {
             *state = before;
-            return first_stop(state, (steps, left), plan.through_traps, counts);
+            let (counts, end) = first_stop(state, (steps, left), plan.through_traps, counts)?;
+            return Ok(Outcome { counts, end, swept });
+        }
+        if steps == until_sweep(&plan, counts) {
+            swept.passes += 1;
+            swept.tags += sweep::pass(state, |_| ())?.len() as u64;
         }
         counts = sum(counts, made);
         left = if wanted { left - steps } else { 0 };
@@ -56,7 +73,14 @@ pub fn run(state: &mut State, plan: Plan) -> Result<Outcome, Refusal> {
     Ok(Outcome {
         counts,
         end: End::Steps,
+        swept,
     })
+}
+
+/// How many steps are left to the next sweep, after some.
+fn until_sweep(plan: &Plan, made: Counts) -> u64 {
+    let made = made.retired + made.trapped;
+    plan.sweep.map_or(u64::MAX, |every| every - made % every)
 }
 
 /// Whether a run stops at the latest after steps with these counts, which left this state and so many
@@ -88,7 +112,7 @@ fn first_stop(
     (mut steps, mut left): (u64, u64),
     through_traps: bool,
     mut counts: Counts,
-) -> Result<Outcome, Refusal> {
+) -> Result<(Counts, End), Refusal> {
     while steps > 1 {
         let half = steps / 2;
         let mut trial = state.clone();
@@ -110,7 +134,7 @@ fn first_stop(
         End::Still
     };
     counts = sum(counts, made);
-    Ok(Outcome { counts, end })
+    Ok((counts, end))
 }
 
 fn sum(first: Counts, second: Counts) -> Counts {

@@ -3,7 +3,7 @@
 use crate::capability_text::{revocation_word, rights, type_words};
 use crate::command::fit::{Beside, Chosen};
 use crate::command::sheet::Pair;
-use crate::drive::{End, Outcome};
+use crate::drive::{End, Outcome, Swept};
 use crate::edition;
 use crate::listing::Part;
 use crate::memory_rows::rows;
@@ -12,6 +12,7 @@ use crate::proved::sheets::{Record, NEITHER};
 use crate::proved::{bounds, instruction, Region};
 use crate::sheet::{letters, Bad};
 use crate::stack::{Stack, Used};
+use crate::sweep::{self, Went};
 use crate::trap::{Action, Asked, Authority, Trap};
 use lent::{
     instruction_bytes, place_name, Capability, State, CAPABILITIES, COMPARE, MCAUSE, MSHWM, MSHWMB,
@@ -32,6 +33,30 @@ pub fn run(state: &State, outcome: &Outcome, trap: Option<&Trap>, names: &Names)
         "trapped": outcome.counts.trapped,
         "end": end,
         "trap": trap.map(|trap| self::trap(trap, state, names)),
+        "state": self::state(state),
+    })
+}
+
+/// The sweeps of a run.
+pub fn sweeps(swept: Swept) -> Value {
+    json!({ "passes": swept.passes, "tags": swept.tags })
+}
+
+/// A pass of the sweeper, with each tag that went and the named stretches that its low bound lies in.
+pub fn swept(state: &State, went: &[Went], names: &Names) -> Value {
+    let went = went.iter().map(|went| {
+        let low = bounds(went.value).low;
+        json!({
+            "granule": went.granule,
+            "at": went.address,
+            "held": capability(went.value),
+            "names": places(low, names),
+        })
+    });
+    json!({
+        "granules": sweep::granules(state),
+        "went": went.collect::<Vec<Value>>(),
+        "kept": sweep::tags(state),
         "state": self::state(state),
     })
 }

@@ -22,6 +22,7 @@ mod sequence;
 mod sheet;
 mod stack;
 mod state_file;
+mod sweep;
 mod trace;
 mod trap;
 

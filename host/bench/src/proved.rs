@@ -1,4 +1,4 @@
-//! The proved libraries: the machine's run (libbench_api.a), the cut and the bounds lookup
+//! The proved libraries: the machine's run and the sweeper (libbench_api.a), the cut and the bounds lookup
 //! (liblabel.a), map sheets (libsheet_api.a), the lister and the assembler (liblisting_api.a).
 //! Everything that the command says about the machine, about bounds, of an instruction or about
 //! whether a sheet is good comes through here.
@@ -8,7 +8,7 @@ pub mod sheets;
 pub use ::proved::{assemble, list, Refused};
 
 use ::proved::{bounds_high, bounds_low, cut_exact, cut_high, cut_low, cut_number};
-use lent::{instruction_bytes, Answer, Capability, State};
+use lent::{instruction_bytes, number_and_rest, Answer, Capability, State};
 
 /// The most steps that one call runs (document 01, refusal 5).
 pub const MOST_STEPS: u64 = lent::MOST_STEPS as u64;
@@ -41,6 +41,7 @@ impl Refusal {
             5 => "a run asks more than 1,000,000 steps",
             6 => "the request ends past 2^32",
             7 => "the edition is neither 0, the report, nor 1, the later one",
+            9 => "no granule of memory has the number",
             _ => "a number that document 01 does not have",
         }
     }
@@ -56,6 +57,16 @@ pub fn run(state: &mut State, steps: u64) -> Result<Counts, Refusal> {
             trapped: answer.trapped,
         }),
         number => Err(Refusal(number)),
+    }
+}
+
+/// Sweeps one granule: the number of the next one, none after the last. A refused visit changes nothing.
+pub fn sweep(state: &mut State, granule: u32) -> Result<Option<u32>, Refusal> {
+    let (number, rest) = number_and_rest(state.sweep(::proved::sweep, granule));
+    match (number, rest >> 32) {
+        (0, 0) => Ok(Some(rest as u32)),
+        (0, _) => Ok(None),
+        _ => Err(Refusal(number)),
     }
 }
 

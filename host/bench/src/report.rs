@@ -2,7 +2,7 @@
 
 use crate::capability_text::{count, grouped, is_integer, length, region};
 use crate::capability_text::{revocation_words, rights, type_words};
-use crate::drive::{End, Outcome};
+use crate::drive::{End, Outcome, Swept};
 use crate::edition;
 use crate::listing::Part;
 use crate::memory_rows::{rows, Row, ROW};
@@ -10,6 +10,7 @@ use crate::names::Names;
 use crate::proved::{bounds, instruction};
 use crate::request::digits;
 use crate::stack::{Stack, Used};
+use crate::sweep::{self, Went};
 use crate::trap::{Action, Asked, Authority, Trap};
 use lent::{place_name, Capability, State, CAPABILITIES, GRANULE};
 use lent::{COMPARE, MCAUSE, MIE, MSHWM, MSHWMB, MSTATUS, MTVAL, PCC, REPORT_EDITION, TIME};
@@ -59,6 +60,51 @@ pub fn stack(state: &State, stack: Option<Stack>) -> String {
         }
         None => format!("Stack: used down to {mark:08x}{above}.\n"),
     }
+}
+
+/// The sweeps of a run.
+pub fn sweeps(swept: Swept) -> String {
+    let (passes, tags) = (count(swept.passes, "time"), count(swept.tags, "tag"));
+    format!("Memory was swept {passes}; {tags} went.\n")
+}
+
+/// The most tags that are shown one by one.
+const SHOWN: usize = 64;
+
+/// A pass of the sweeper: how many granules, the tags that went, and how many stay.
+pub fn swept(state: &State, went: &[Went], names: &Names) -> String {
+    let visited = count(sweep::granules(state), "granule");
+    let gone = count(went.len() as u64, "tag");
+    let stay = grouped(sweep::tags(state));
+    let mut text =
+        format!("{visited} visited; {gone} went, {stay} stay. Registers are not swept.\n");
+    if !went.is_empty() {
+        text.push_str(
+            "\n  granule  address   held      bounds                 rights                type\n",
+        );
+    }
+    for one in went.iter().take(SHOWN) {
+        text.push_str(&went_line(one, names));
+    }
+    if let Some(more) = went.len().checked_sub(SHOWN).filter(|&more| more > 0) {
+        let more = grouped(more as u64);
+        let _ = writeln!(text, "  and {more} more; --json has them all");
+    }
+    text
+}
+
+/// One of them: where it stood, the capability, and the named stretch that its low bound lies in.
+fn went_line(went: &Went, names: &Names) -> String {
+    let Went {
+        granule,
+        address,
+        value,
+    } = went;
+    let bounds = bounds(*value);
+    let (low_high, held) = (region(bounds), rights(value.metadata).join(" "));
+    let (kind, place) = (type_words(value.metadata), names.place(bounds.low));
+    let start = format!("  {granule:>7}  {address:08x}  {:08x}", value.address);
+    format!("{start}  {low_high:<22} {held:<21} {kind}{place}\n")
 }
 
 /// A trap: where, the word, its instruction, the cause, what was asked beside its bounds, and what lies there.

@@ -7,7 +7,7 @@ use std::fmt::Write;
 use std::path::{Path, PathBuf};
 use std::{env, fs};
 
-const SOURCES: [&str; 10] = [
+const SOURCES: [&str; 11] = [
     "calls",
     "capability",
     "compressed",
@@ -17,6 +17,7 @@ const SOURCES: [&str; 10] = [
     "listing",
     "machine",
     "sheet",
+    "sweep",
     "text",
 ];
 

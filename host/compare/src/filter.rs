@@ -5,6 +5,7 @@
 use crate::state::as_second;
 use lent::{Revocation, State, GRANULE};
 use second::capability::{bounds, has, rights, MC, SE, U0, US};
+use second::Capability;
 
 /// The rights that spare a value, each alone and together.
 const SPARED: [&str; 8] = [
@@ -43,14 +44,11 @@ const EDGES: [&str; 12] = [
 /// How many such places there are.
 pub const PLACES: usize = EDGES.len();
 
-/// A value that a CLC reads: which of the rights it has that spare it, and its low bound.
-struct Read {
-    spared: u32,
-    low: u32,
-}
+/// How many bytes into the window a low bound lies far into it: as many as memory once had at most.
+pub const FAR: u32 = 1 << 16;
 
 /// The value that a CLC reads, where it is tagged and the authority leaves it its tag.
-fn read(before: &State, word: u32) -> Option<Read> {
+fn read(before: &State, word: u32) -> Option<Capability> {
     let authority = before.capability((word >> 15 & 31) as usize);
     let address = authority.address.wrapping_add((word as i32 >> 20) as u32);
     if !has(authority.metadata, MC) || !before.tagged(address.into()) {
@@ -61,22 +59,28 @@ fn read(before: &State, word: u32) -> Option<Read> {
         metadata: before.word(address.wrapping_add(GRANULE as u32 / 2))?,
         tag: 1,
     };
-    let value = as_second(value);
-    let (low, _) = bounds(value.address, value.metadata);
-    // US is the lowest of the three.
-    let spared = (rights(value.metadata) & (US | SE | U0)) / US;
-    Some(Read { spared, low })
+    Some(as_second(value))
+}
+
+/// Which of the rights that spare it a value has; US is the lowest of the three.
+fn spared(value: Capability) -> u32 {
+    (rights(value.metadata) & (US | SE | U0)) / US
 }
 
 /// The number of the question that a CLC asks.
 pub fn question(before: &State, word: u32) -> Option<usize> {
-    let Read { spared, low } = read(before, word)?;
+    Some(question_of(before, read(before, word)?))
+}
+
+/// The number of the question that a tagged value asks.
+pub fn question_of(before: &State, value: Capability) -> usize {
+    let (low, _) = bounds(value.address, value.metadata);
     let bit = match before.revocation(low) {
         Revocation::Outside => 0,
         Revocation::Clear => 1,
         Revocation::Marked => 2,
     };
-    Some(spared as usize * BITS.len() + bit)
+    spared(value) as usize * BITS.len() + bit
 }
 
 /// A question in words.
@@ -87,9 +91,15 @@ pub fn question_name(question: usize) -> String {
 
 /// The number of the place of a low bound, where the bits decide about the value.
 pub fn place(before: &State, word: u32) -> Option<usize> {
-    let Read { spared: 0, low } = read(before, word)? else {
+    place_of(before, read(before, word)?)
+}
+
+/// The number of the place of a tagged value's low bound, where the bits decide about it.
+pub fn place_of(before: &State, value: Capability) -> Option<usize> {
+    if spared(value) != 0 {
         return None;
-    };
+    }
+    let (low, _) = bounds(value.address, value.metadata);
     let Some(offset) = low.checked_sub(before.start) else {
         return Some(7);
     };
@@ -104,7 +114,7 @@ pub fn place(before: &State, word: u32) -> Option<usize> {
         _ if offset == first => Some(1 + marked),
         _ if offset + 1 == end => Some(3 + marked),
         _ if offset == end => Some(5 + usize::from(at_end)),
-        _ if offset >= first + (1 << 16) && offset < end => Some(10 + marked),
+        _ if offset >= first + u64::from(FAR) && offset < end => Some(10 + marked),
         _ => None,
     }
 }

@@ -35,6 +35,7 @@ pub mod short;
 pub mod shrink;
 pub mod starts;
 pub mod state;
+pub mod sweeps;
 pub mod timer;
 pub mod told;
 

@@ -44,7 +44,7 @@ pub fn spoil(random: &mut Random, case: &mut Case) {
 }
 
 /// A start or a size that breaks a limit; the window and the bits keep to the size.
-fn spoil_memory(random: &mut Random, state: &mut State) {
+pub fn spoil_memory(random: &mut Random, state: &mut State) {
     let size = match random.below(10) {
         0 => 0,
         1 => 32,
@@ -72,7 +72,7 @@ fn spoil_memory(random: &mut Random, state: &mut State) {
 }
 
 /// A window that breaks one of its limits, or any; the bits keep to its size unless that is huge.
-fn spoil_window(random: &mut Random, state: &mut State) {
+pub fn spoil_window(random: &mut Random, state: &mut State) {
     let size = state.mem.len() as u32;
     let odd = 1 + random.below(63);
     let odd = random.pick([odd, 8, 32]);
@@ -104,7 +104,7 @@ fn spoil_window(random: &mut Random, state: &mut State) {
 }
 
 /// Tags or revocation bits that are too short or too long.
-fn spoil_bits(random: &mut Random, state: &mut State) {
+pub fn spoil_bits(random: &mut Random, state: &mut State) {
     let bits = if random.one_in(2) {
         &mut state.tags
     } else {

@@ -66,6 +66,10 @@ pub type Step = fn(&mut [u32], Board, &mut [u8], &mut [u8], &[u8]) -> u64;
 /// A machine's run, with its number of steps after the rest.
 pub type Run = fn(&mut [u32], Board, &mut [u8], &mut [u8], &[u8], u32) -> u64;
 
+/// A machine's sweeper: the board's numbers, memory, tags, revocation bits, the granule to visit; its
+/// answer.
+pub type Sweep = fn(Board, &[u8], &mut [u8], &[u8], u32) -> u64;
+
 /// Everything that is lent.
 #[derive(Clone, PartialEq, Eq, Debug, Default)]
 pub struct State {
@@ -146,6 +150,12 @@ impl State {
         let board = self.board();
         let (mem, tags) = (&mut self.mem, &mut self.tags);
         run(&mut self.regs, board, mem, tags, &self.revoked, steps)
+    }
+
+    /// Makes a machine's sweeper visit a granule. No registers are lent to it.
+    pub fn sweep(&mut self, sweep: Sweep, granule: u32) -> u64 {
+        let board = self.board();
+        sweep(board, &self.mem, &mut self.tags, &self.revoked, granule)
     }
 
     /// What is lent as numbers.

@@ -90,6 +90,43 @@ machine_function! {
 
 // SAFETY: declared as in include/oddersnow.h.
 unsafe extern "C" {
+    fn oddersnow_sweep(
+        start: u32,
+        mem: *const u8,
+        mem_len: usize,
+        tags: *mut u8,
+        tags_len: usize,
+        window_start: u32,
+        window_size: u32,
+        revoked: *const u8,
+        revoked_len: usize,
+        granule: u32,
+    ) -> u64;
+}
+
+/// One granule swept, by its number. The answer is number * 2^48 + last * 2^32 + next: the number of the
+/// granule to visit next, or 0 with last 1 after the last granule.
+#[inline]
+pub fn sweep(board: Board, mem: &[u8], tags: &mut [u8], revoked: &[u8], granule: u32) -> u64 {
+    // SAFETY: as for the machine; memory is read and not written.
+    unsafe {
+        oddersnow_sweep(
+            board.start,
+            mem.as_ptr(),
+            mem.len(),
+            tags.as_mut_ptr(),
+            tags.len(),
+            board.window.start,
+            board.window.size,
+            revoked.as_ptr(),
+            revoked.len(),
+            granule,
+        )
+    }
+}
+
+// SAFETY: declared as in include/oddersnow.h.
+unsafe extern "C" {
     fn oddersnow_calls(
         address: u32,
         metadata: u32,

@@ -15,12 +15,14 @@ pub mod fit;
 pub mod listing;
 pub mod machine;
 pub mod sheet;
+pub mod sweep;
 pub mod text;
 
 pub use calls::calls;
 pub use capability::{bounds, cut, Capability, Cut};
 pub use listing::{assemble, list};
 pub use machine::{run, step};
+pub use sweep::sweep;
 pub use text::cutting_program;
 
 #[cfg(test)]

@@ -187,7 +187,7 @@ enum Revocation {
 }
 
 /// Whether the memory's start and size keep the limits.
-fn memory_allowed(start: u32, size: usize) -> bool {
+pub(crate) fn memory_allowed(start: u32, size: usize) -> bool {
     (64..=MOST_MEMORY).contains(&size)
         && size.is_multiple_of(64)
         && start.is_multiple_of(8)
@@ -196,7 +196,7 @@ fn memory_allowed(start: u32, size: usize) -> bool {
 
 /// Whether the window's start and size keep theirs: multiples of 64, inside a memory of this size.
 /// A window of no bytes is one too.
-fn window_allowed(start: u32, size: u32, memory: usize) -> bool {
+pub(crate) fn window_allowed(start: u32, size: u32, memory: usize) -> bool {
     start.is_multiple_of(64)
         && size.is_multiple_of(64)
         && u64::from(start) + u64::from(size) <= memory as u64
@@ -832,7 +832,7 @@ impl<'a> Machine<'a> {
 }
 
 /// The bit for the granule at an offset: the lowest bit of a byte is the first granule's.
-fn bit(bits: &[u8], offset: u64) -> u32 {
+pub(crate) fn bit(bits: &[u8], offset: u64) -> u32 {
     let byte = bits.get(offset as usize / 64).copied().unwrap_or(0);
     u32::from(byte >> (offset / 8 % 8) & 1)
 }

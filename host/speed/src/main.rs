@@ -1,6 +1,6 @@
 //! Steps a second of the proved machine and of the second program on long programs, in one process,
-//! lookups of bounds by the proved routine and by plain ones, map sheets read and written by both, and
-//! bytes a second of lister and assembler.
+//! lookups of bounds by the proved routine and by plain ones, map sheets read and written by both,
+//! bytes a second of lister and assembler, and granules a second of the sweeper.
 //!
 //!   speed                      all programs on both, with their ratio
 //!   speed ENGINE PROGRAM STEPS one run and no times, for an instruction count by callgrind;
@@ -17,11 +17,16 @@
 //!   speed listing ENGINE FUNCTION KIND ROUNDS
 //!                              so many rounds and no times, and the bytes of one; FUNCTION is list or assemble,
 //!                              KIND mixed, long or short
+//!   speed sweep                passes of the sweeper over 1 MiB by both, with their ratio
+//!   speed sweep ENGINE KIND PASSES
+//!                              so many passes and no times, and the granules of one; KIND is untagged, kept or
+//!                              revoked
 
 mod listing;
 mod lookup;
 mod programs;
 mod sheets;
+mod sweep;
 
 use lent::{Run, MOST_STEPS};
 use programs::{ready, NAMES};
@@ -97,6 +102,10 @@ fn asked(arguments: &[&str]) -> Option<()> {
                 listing::count(name, what, kind, rounds.parse().ok()?)?
             );
         }
+        ["sweep"] => sweep::compare_all(),
+        ["sweep", name, kind, passes] => {
+            println!("{}", sweep::count(name, kind, passes.parse().ok()?)?);
+        }
         [name, program, millions] => run(engine(name)?, program, millions.parse().ok()?),
         _ => return None,
     }
@@ -107,6 +116,6 @@ fn main() {
     let arguments: Vec<String> = std::env::args().skip(1).collect();
     let arguments: Vec<&str> = arguments.iter().map(String::as_str).collect();
     asked(&arguments).expect(
-        "speed [[lookup ROUTINE KIND | sheets ROUTINE WAY REGIONS | ENGINE PROGRAM] MILLIONS | listing [ENGINE FUNCTION KIND ROUNDS]]",
+        "speed [[lookup ROUTINE KIND | sheets ROUTINE WAY REGIONS | ENGINE PROGRAM] MILLIONS | listing [ENGINE FUNCTION KIND ROUNDS] | sweep [ENGINE KIND PASSES]]",
     );
 }

@@ -222,6 +222,7 @@ fn drive(asked: &Run, state: &mut State) -> Result<Outcome, Refusal> {
         steps: asked.steps,
         through_traps: asked.through_traps,
         call: if asked.trace { 1 } else { MOST_STEPS },
+        sweep: asked.sweep,
         watch: &mut watch,
     };
     let outcome = drive::run(state, plan);
@@ -265,12 +266,16 @@ fn conclude(
     };
     if asked.json {
         let mut value = json::run(state, outcome, trap.as_ref(), names);
+        value["swept"] = asked.sweep.map(|_| json::sweeps(outcome.swept)).into();
         value["fit"] = json::images(fits);
         value["stack"] = json::stack(state, stack);
         say_json(&value)?;
     } else {
         let mut text = report::counts(state, outcome);
         text.push_str(&report::stack(state, stack));
+        if asked.sweep.is_some() {
+            text.push_str(&report::sweeps(outcome.swept));
+        }
         if let Some(trap) = &trap {
             text.push('\n');
             text.push_str(&report::trap(trap, state, names));

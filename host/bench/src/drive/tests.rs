@@ -1,7 +1,7 @@
 //! Runs in calls against runs step by step.
 
 use super::*;
-use lent::{COMPARE, MCAUSE, MIE, MSTATUS, PCC, TIME, TIMER_INTERRUPT};
+use lent::{Capability, COMPARE, MCAUSE, MIE, MSTATUS, PCC, TIME, TIMER_INTERRUPT};
 
 const EBREAK: u32 = 0x0010_0073;
 const JUMP_TO_ITSELF: u32 = 0x0000_006F;
@@ -30,6 +30,7 @@ fn plan(
         steps,
         through_traps,
         call: MOST_STEPS,
+        sweep: None,
         watch,
     }
 }
@@ -150,6 +151,76 @@ fn a_run_that_is_no_longer_wanted_ends() {
     plan.call = 1;
     let outcome = run(&mut state, plan).unwrap();
     assert_eq!(outcome.counts, counts(5, 0));
+}
+
+/// A loop whose memory holds, tagged, a capability of its own that is revoked.
+fn revoked(rounds: u32, last: u32) -> State {
+    let mut state = counting(rounds, last);
+    let value = Capability::tagged(0x2000_0020, 0x7E00_5020);
+    state.write_capability(0x2000_0030, value);
+    state.revoke(0x2000_0020);
+    state
+}
+
+#[test]
+fn memory_is_swept_after_every_so_many_steps() {
+    for (every, steps, passes) in [
+        (1, 10, 10),
+        (3, 10, 3),
+        (10, 10, 1),
+        (11, 10, 0),
+        (64, 1_000, 15),
+        (1_000_000, 2_500_000, 2),
+    ] {
+        let mut state = revoked(3_000_000, EBREAK);
+        let mut unswept = state.clone();
+        let mut watch = |_: &State, _: &State, _: Counts| true;
+        let mut swept = plan(steps, false, &mut watch);
+        swept.sweep = Some(every);
+        let outcome = run(&mut state, swept).unwrap();
+        assert_eq!(outcome.counts, counts(steps, 0));
+        let tags = u64::from(passes > 0);
+        assert_eq!(outcome.swept, Swept { passes, tags });
+        driven(&mut unswept, steps, false);
+        assert_eq!((state.mem, state.regs), (unswept.mem, unswept.regs));
+        assert_eq!(state.tags == unswept.tags, passes == 0);
+    }
+}
+
+#[test]
+fn a_run_that_stops_is_swept_before_and_not_after() {
+    for (last, trapped) in [(EBREAK, 1), (JUMP_TO_ITSELF, 0)] {
+        let mut state = revoked(50, last);
+        let mut watch = |_: &State, _: &State, _: Counts| true;
+        let mut swept = plan(u64::MAX, false, &mut watch);
+        swept.sweep = Some(30);
+        let outcome = run(&mut state, swept).unwrap();
+        assert_eq!(outcome.counts, counts(100, trapped));
+        assert_eq!(outcome.swept, Swept { passes: 3, tags: 1 });
+        let mut state = revoked(50, last);
+        let mut late = plan(u64::MAX, false, &mut watch);
+        late.sweep = Some(200);
+        let outcome = run(&mut state, late).unwrap();
+        assert_eq!(outcome.swept, Swept::default());
+    }
+}
+
+#[test]
+fn memory_is_swept_while_a_program_waits_for_the_timer() {
+    // It stands still from its 20th step on.
+    for (compare, every, passes) in [(100, 30, 3), (100, 100, 1), (4_000, 64, 62), (15, 20, 0)] {
+        let mut state = revoked(10, JUMP_TO_ITSELF);
+        state.regs[MSTATUS] = MIE;
+        state.set_long(COMPARE, compare);
+        let mut watch = |_: &State, _: &State, _: Counts| true;
+        let mut waiting = plan(u64::MAX, false, &mut watch);
+        waiting.sweep = Some(every);
+        let outcome = run(&mut state, waiting).unwrap();
+        assert_eq!(outcome.counts, counts(compare, 1), "{compare} {every}");
+        let tags = u64::from(passes > 0);
+        assert_eq!(outcome.swept, Swept { passes, tags });
+        assert_eq!(state.register(MCAUSE), TIMER_INTERRUPT);
+    }
 }
 
 #[test]

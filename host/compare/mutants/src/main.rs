@@ -17,6 +17,7 @@ use compare::options::Options;
 use compare::rows::Table;
 use compare::sheets::{self, Sheets};
 use compare::state::Call;
+use compare::sweeps;
 use lent::State;
 use mutants::capability::Cut;
 use mutants::{select, sheet, MUTANTS};
@@ -31,11 +32,13 @@ const RIGHT_CASES: u64 = 100_000;
 const STARTS: u64 = 100_000;
 const IDLE_STARTS: u64 = 1000;
 const RIGHT_STARTS: u64 = 10_000;
-/// The same for sheets, of which a case has many, and for images.
+/// The same for sheets, of which a case has many, for images and for the sweeper.
 const SHEETS_CASES: u64 = 20_000;
 const RIGHT_SHEETS: u64 = 2_000;
 const IMAGES_CASES: u64 = 100_000;
 const RIGHT_IMAGES: u64 = 20_000;
+const SWEEP_CASES: u64 = 100_000;
+const RIGHT_SWEEPS: u64 = 20_000;
 
 fn cut(base: u32, length: u32) -> CutAnswer {
     let (number, low, high, exact) = match mutants::capability::cut(base, length) {
@@ -107,6 +110,9 @@ fn told_apart(comparison: &str, table: &Table, seed: u64, cases: u64) -> Option<
         "images" => images::compare(mutants::fit::fit, seed, cases.min(IMAGES_CASES))
             .err()
             .map(|found| found.case),
+        "sweep" => sweeps::compare(mutants::sweep::sweep, seed, cases.min(SWEEP_CASES))
+            .err()
+            .map(|found| found.case),
         "listing" => listing::compare(LISTER, seed, listing::CASES)
             .err()
             .map(|found| found.case),
@@ -129,6 +135,7 @@ fn run(options: &Options) -> Result<String, String> {
         ("authority", RIGHT_STARTS),
         ("sheets", RIGHT_SHEETS),
         ("images", RIGHT_IMAGES),
+        ("sweep", RIGHT_SWEEPS),
     ];
     for (comparison, cases) in right.into_iter().chain(fewer) {
         if let Some(case) = told_apart(comparison, &table, options.seed, cases) {
