@@ -6,6 +6,7 @@ use crate::capabilities::{
     Rights,
 };
 use crate::cuts::request;
+use crate::filter::FAR;
 use crate::mark;
 use crate::operands::{any, encode, Operands};
 use crate::random::Random;
@@ -194,11 +195,23 @@ impl Scene<'_> {
         region(self.random, rights, low, length)
     }
 
-    /// A capability in memory: mostly tagged, with bounds that start in memory or at the window.
+    /// A capability whose low bound lies far into the window.
+    fn far_into_the_window(&mut self, rights: Rights) -> Capability {
+        let window = self.state.window;
+        let first = self.state.start.wrapping_add(window.start);
+        let beyond = FAR + self.random.below(window.size - FAR);
+        let length = self.random.pick([0, 1, 8, 64]);
+        region(self.random, rights, first.wrapping_add(beyond), length)
+    }
+
+    /// A capability in memory: mostly tagged, with bounds that start in memory or at the window. Large
+    /// windows are rare, so that in one they mostly start far into it.
     fn stored(&mut self) -> Capability {
         let rights = rights(self.random);
+        let large = self.state.window.size > FAR;
         let mut value = match self.random.below(8) {
             0 | 1 => register(self.random, self.layout),
+            _ if large => self.far_into_the_window(rights),
             2 | 3 => self.at_the_window(rights),
             _ => sound(self.random, self.layout, rights),
         };

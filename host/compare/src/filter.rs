@@ -43,6 +43,9 @@ const EDGES: [&str; 12] = [
 /// How many such places there are.
 pub const PLACES: usize = EDGES.len();
 
+/// How many bytes into the window a low bound lies far into it: as many as memory once had at most.
+pub const FAR: u32 = 1 << 16;
+
 /// A value that a CLC reads: which of the rights it has that spare it, and its low bound.
 struct Read {
     spared: u32,
@@ -104,7 +107,7 @@ pub fn place(before: &State, word: u32) -> Option<usize> {
         _ if offset == first => Some(1 + marked),
         _ if offset + 1 == end => Some(3 + marked),
         _ if offset == end => Some(5 + usize::from(at_end)),
-        _ if offset >= first + (1 << 16) && offset < end => Some(10 + marked),
+        _ if offset >= first + u64::from(FAR) && offset < end => Some(10 + marked),
         _ => None,
     }
 }
