@@ -46,15 +46,6 @@ pub const PLACES: usize = EDGES.len();
 
 /// How many bytes into the window a low bound lies far into it: as many as memory once had at most.
 pub const FAR: u32 = 1 << 16;
-<<<<<<< HEAD
-=======
-
-/// A value that a CLC reads: which of the rights it has that spare it, and its low bound.
-struct Read {
-    spared: u32,
-    low: u32,
-}
->>>>>>> 9a11fc2af4e3ac852dce43bb11923daf1f6d265e
 
 /// The value that a CLC reads, where it is tagged and the authority leaves it its tag.
 fn read(before: &State, word: u32) -> Option<Capability> {
