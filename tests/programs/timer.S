@@ -1,5 +1,5 @@
 // The timer (document 02, 6). Time is one more after each step, trapped ones too, and is 0 after 2^64 - 1; where MIE is
-// set and time is at least compare, the step is the interrupt, before anything of the fetch: mcause 0x80000007,
+// 1 and compare is not above it, the step is the interrupt, before anything of the fetch: mcause 0x80000007,
 // mtval 0. With MIE clear time goes by compare unseen. There is no CSR of time.
 
 #include "cheriot.inc"

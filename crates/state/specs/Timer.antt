@@ -23,7 +23,7 @@ compareOf regs = longOf (getD regs compareIndex 0) (getD regs (compareIndex + 1)
 abbrev pub timerInterrupt : ℕ
 timerInterrupt = 0x80000007
 
--- it is due where MIE is set and time is at least compare
+-- it is due where MIE is 1 and compare is not above time
 unfoldable pub interrupted : (regs : List ℕ) → Bool
 interrupted regs = eqb (bit (mstatusOf regs) MIE) 1 && leb (compareOf regs) (timeOf regs)
 

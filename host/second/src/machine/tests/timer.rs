@@ -1,5 +1,5 @@
 //! The timer (document 02, 6): time goes on by one a step whatever the step does, and the interrupt comes
-//! before the fetch exactly when MIE is set and time is at least compare.
+//! before anything of a fetch, where MIE is 1 and compare is not above time.
 
 use super::bench::*;
 use crate::assemble as asm;
