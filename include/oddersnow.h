@@ -81,8 +81,8 @@ uint32_t oddersnow_calls(uint32_t address, uint32_t metadata, uint32_t tag,
  *
  * and the lowest wins. Where it is not 0, nothing is changed and both counts are 0.
  *
- * Time is one more after each step, whatever the step did, and 0 after 2^64 - 1. Where MIE is 1 and compare is not above
- * it, a step is the timer interrupt and nothing else: a trapped step with mcause 0x80000007 and mtval 0.
+ * Time is one more after each step, whatever the step did, and 0 after 2^64 - 1. Where at the start of a step MIE is 1
+ * and compare not above time, the step is the timer interrupt and nothing else: it traps with mcause 0x80000007, mtval 0.
  */
 uint64_t oddersnow_step(uint32_t *regs, size_t regs_len, uint32_t start,
                         uint8_t *mem, size_t mem_len, uint8_t *tags, size_t tags_len,

@@ -2,7 +2,7 @@
 use mathlib.Core.Path.{_≡_}
 use Rattle.listing.specs.Claims.{ListingClaim}
 use Rattle.listing.proofs.Again.{chosen-line, line-injective, same-instruction, listed-by-name}
-use Rattle.listing.proofs.Promises.{bad-line}
+use Rattle.listing.proofs.Promises.{text-is, bad-line}
 use Rattle.listing.proofs.Codes.{whole-code, round-trip}
 use Rattle.listing.proofs.Backward.{text-again}
 
@@ -12,6 +12,7 @@ listing-claim =
       whole = λ code h e. whole-code code h e .bytes;
       round-trip = round-trip;
       text-again = text-again;
+      good-lines = text-is;
       bad-line = bad-line;
       listed-by-name = listed-by-name;
       same-instruction = λ w v h g e. (same-instruction w v h g e, line-injective w v h g e);

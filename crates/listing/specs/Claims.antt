@@ -11,8 +11,8 @@ use Rattle.forms.specs.Names.{nameOf}
 use Rattle.forms.specs.ShortShapes.{shapeOf, instructionOf, Word}
 use Rattle.forms.specs.Encoding.{chosen}
 use Rattle.listing.specs.Lines.{operandsText, figures, bodyOf, lineOf}
-use Rattle.listing.specs.Code.{wordsAt, endAt, listingOf}
-use Rattle.listing.specs.Assembling.{badAt, codeOf, assemblyOf}
+use Rattle.listing.specs.Code.{wordsAt, endAt, textOf, listingOf}
+use Rattle.listing.specs.Assembling.{readAt, badAt, codeOf, assemblyOf}
 
 -- a lent slice of bytes
 abbrev pub Bytes : List ℕ → Type 0
@@ -27,7 +27,9 @@ pub record ListingClaim : Type 0 where
   -- the other way: what assembles is whole words, and lists as the same text
   pub text-again : (text : List ℕ) → badAt text 0 ≡ length text
       → (endAt (assemblyOf text) 0 ≡ length (assemblyOf text)) × (listingOf (assemblyOf text) ≡ text)
-  -- the first bad line is no word's listing
+  -- a text is the lines of the words that are read of it, one after another, and what is left from its first bad line on
+  pub good-lines : (text : List ℕ) → textOf (readAt text 0) ++ drop (badAt text 0) text ≡ text
+  -- that line is no word's listing
   pub bad-line : (text : List ℕ) (w : ℕ) (rest : List ℕ) → Word w → drop (badAt text 0) text ≡ lineOf w ++ rest → ⊥
   -- the tie to the machine: a word is listed by a name exactly where the machine's decoder takes it, and else as its digits
   pub listed-by-name : (w : ℕ)

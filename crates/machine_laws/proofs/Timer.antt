@@ -1,4 +1,4 @@
--- Time counts steps, the mark falls, and where no interrupt is due a run is one without a timer. Each by the words that an effect leaves alone. Assumes nothing.
+-- Time counts steps, the mark falls, and where no interrupt is due a run is one without interrupts. Each by the words that an effect leaves alone. Assumes nothing.
 use mathlib.Core.Path.{_≡_, refl, sym, ap, _∙_}
 use mathlib.Core.Bool.{Bool, true, false, cond, _&&_}
 use mathlib.Core.List.{List}
@@ -156,7 +156,7 @@ module _ (board : Board) (revoked : List ℕ) where
   compare-after (suc n) r long =
       compare-after n (oneMore board revoked r) (lengths-stay board revoked (r .at) .same-registers ∙ long) ∙ compare-step (r .at) long
 
-  -- ---- a run without a timer
+  -- ---- a run without interrupts
 
   -- no interrupt is due in the first n states of a run
   abbrev pub Quiet : (n : ℕ) → Ran → Type 0

@@ -89,6 +89,37 @@ module _ (board : Board) (revoked mem : List ℕ) where
         go false false false false = omega arith
 
   -- with as many tags, another granule is refused only for its number
+  -- a refusal's number is not 0, and the number of a next granule is small
+  module _ (tags : List ℕ) (granule : ℕ) where
+    abbrev kind : SweepAnswer → ℕ
+    kind (Next n) = 0
+    kind Last = 1
+    kind (Refused n) = 2
+
+    pub refused-number : (n : ℕ) → visitAnswer board revoked mem tags granule ≡ Refused n → n ≡ 0 → ⊥
+    unfolding visitAnswer nextAfter
+    refused-number n e z = go (eqb (visitRefusal board revoked mem tags granule) 0) refl (eqb (granule + 1) (granulesIn (length mem))) e
+      where
+        r : ℕ
+        r = visitRefusal board revoked mem tags granule
+
+        go : (a : Bool) → eqb r 0 ≡ a → (b : Bool) → cond a (cond b Last (Next (granule + 1))) (Refused r) ≡ Refused n → ⊥
+        go true p true q = let z : _≡_ {A = ℕ} 1 2 = ap kind q in omega (arith, z)
+        go true p false q = let z : _≡_ {A = ℕ} 0 2 = ap kind q in omega (arith, z)
+        go false p b q = eqb-false r 0 p (ap visitNumber q ∙ z)
+
+    pub next-small : (n : ℕ) → visitAnswer board revoked mem tags granule ≡ Next n → n < 2 ^ 32
+    unfolding visitAnswer nextAfter
+    next-small n e = go (eqb (visitRefusal board revoked mem tags granule) 0) refl (eqb (granule + 1) (granulesIn (length mem))) e
+      where
+        r : ℕ
+        r = visitRefusal board revoked mem tags granule
+
+        go : (a : Bool) → eqb r 0 ≡ a → (b : Bool) → cond a (cond b Last (Next (granule + 1))) (Refused r) ≡ Next n → n < 2 ^ 32
+        go true p true q = let z : _≡_ {A = ℕ} 1 0 = ap kind q in absurd (omega (arith, z))
+        go true p false q = let z : granule + 1 ≡ n = ap visitNext q in omega (arith, few-granules tags granule (eqb-true r 0 p), z)
+        go false p b q = let z : _≡_ {A = ℕ} 2 0 = ap kind q in absurd (omega (arith, z))
+
   pub visitable-too : (t u : List ℕ) (g h : ℕ) → visitRefusal board revoked mem t g ≡ 0 → length u ≡ length t → h < granulesIn (length mem)
       → visitRefusal board revoked mem u h ≡ 0
   unfolding visitRefusal
