@@ -1,4 +1,4 @@
--- Time counts steps, the mark falls, and where no interrupt is due a run is one without interrupts. Each by the words that an effect leaves alone. Assumes nothing.
+-- Time counts steps, the mark falls, and where no interrupt is due a run is one without interrupts. By the words that an effect leaves alone. Assumes nothing.
 use mathlib.Core.Path.{_≡_, refl, sym, ap, _∙_}
 use mathlib.Core.Bool.{Bool, true, false, cond, _&&_}
 use mathlib.Core.List.{List}
