@@ -1,4 +1,5 @@
--- A step that meets no jump, an interrupt and a failed fetch among them, makes no return sentry: where none stands in registers and memory, none stands there after it. Assumes nothing.
+-- A step that meets no jump, an interrupt and a failed fetch among them, makes no return sentry: where none stands in registers and memory, none stands there
+-- after it. Assumes nothing.
 use mathlib.Core.Path.{_≡_, refl}
 use mathlib.Core.List.{List}
 use Prim.Native.Nat.{ℕ, _*_}
