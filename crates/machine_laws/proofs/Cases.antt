@@ -8,7 +8,8 @@ use Rattle.capability.specs.Capability.{high, rights, sealed, tagged, covers, s
 use Rattle.capability.specs.Sealing.{isSentry, withObjectType}
 use Rattle.capability.specs.Loading.{loseGlobal, loseMutable, loseTag, loadedOf, revocable}
 use Rattle.instructions.specs.Fields.{immediateI, immediateS, immediateJ}
-use Rattle.instructions.specs.Decode.{csrRegisterOf, csrOf, loadOf, storeOf, aluOf, opImmOf, op32Of, opByOf, opOf, jalOf, jalrOf, capabilityOf, wholeOf, systemOf, decodeOf}
+use Rattle.instructions.specs.Decode.{csrRegisterOf, csrOf}
+use Rattle.instructions.specs.Decode.{loadOf, storeOf, aluOf, opImmOf, op32Of, opByOf, opOf, jalOf, jalrOf, capabilityOf, wholeOf, systemOf, decodeOf}
 use Rattle.capability_instructions.specs.Derivation as Derivations
 use Rattle.state.specs.Registers.{capabilityAt, integerAt, writeRegister}
 use Rattle.state.specs.Addresses.{legalized}
@@ -45,7 +46,8 @@ unfolding all holds found put before cases top-of-memory untagged-load environme
     immediateSix offsetJump longForm longOf wordR wordI wordJ capabilityOf op32Of opByOf opOf Derivations.capabilityEffect effectOf applyEffect
     retires setCapability writeRegister advanced trapped jumped withCsr stored retagged storedCapability systemEffect linkOf aligned targetCause jalEffect
     jumpEffect loadAt loadEffect storeAt storeEffect revokedValue filtered loadCapabilityAt loadCapabilityEffect storeCapabilityCheck
-    storeCapabilityAt storeCapabilityEffect memoryEffect Integers.aluOf Integers.integerEffect checked accessCause systemAccess placeOf capabilityIn revocationAt
+    storeCapabilityAt storeCapabilityEffect memoryEffect Integers.aluOf Integers.integerEffect checked accessCause systemAccess placeOf capabilityIn
+    revocationAt
     capabilityAt integerAt trapStatus legalized loadOf storeOf aluOf opImmOf jalOf wholeOf systemOf decodeOf immediateI immediateS immediateJ
     loseGlobal loseMutable loseTag loadedOf revocable withObjectType low high rights sealed tagged covers sameBounds moveOf exponentOf lowOf highOf
     lowAt highAt rightsOf permissionsOf typeOf scaleOf topOf baseOf withType signExtend leBytes setBytes bitAt withBit putBit

@@ -125,7 +125,8 @@ fit-kept (Trap cause value) h =
 pub words-stay : (board : Board) (revoked : List ℕ) (s : State) → FitsRegisters (s .regs) → Bytes (s .mem) → FitsRegisters (stepOf board revoked s .regs)
 unfolding stepOf applyEffect
 words-stay board revoked s h b =
-    let e = each-applied Fit fit-rule (λ i v l w. fit-above i v (omega arith) w) (board .start) (lengthIn (fetchedIn board s)) (effectAt board revoked s) (s .regs)
+    let e = each-applied Fit fit-rule (λ i v l w. fit-above i v (omega arith) w) (board .start) (lengthIn (fetchedIn board s))
+    (effectAt board revoked s) (s .regs)
     (fit-kept (effectAt board revoked s) (next-fits board revoked s h b))
     (record { word = λ i. (h .words i, λ k l q. rw q (h .tags k l)) }) in
     record { words = λ i. e .word i .0; tags = λ k l. e .word (k * capabilityWords + 2) .1 k l refl }

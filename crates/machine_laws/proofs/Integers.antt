@@ -127,7 +127,8 @@ applied start n rd (Effect.StoreCapability j value) s i h l z = absurd i
 applied start n rd (Effect.Jump r link target mstatus) s i h l z = absurd i
 applied start n rd (Effect.WriteScr r old scr value) s i h l z = absurd i
 applied start n rd (Effect.WriteCsr r old csr value) s i h l z =
-    rw (sym i) (ticked-cleared _ (r % generalCount) (omega arith) (advanced-cleared n (set (writeRegister (s .regs) r (integer old)) (csrIndex csr) value) (r % generalCount) (omega arith)
+    rw (sym i) (ticked-cleared _ (r % generalCount) (omega arith)
+    (advanced-cleared n (set (writeRegister (s .regs) r (integer old)) (csrIndex csr) value) (r % generalCount) (omega arith)
     (csr-cleared (writeRegister (s .regs) r (integer old)) csr (r % generalCount) value (omega arith)
     (write-cleared (s .regs) r (integer old) l z (plain old)))))
 applied start n rd (Effect.Trap cause value) s i h l z = absurd (true≢false (sym h))

@@ -79,7 +79,8 @@ null-kept (Trap cause value) = (λ b. absurd (omega arith), λ b. absurd (omega 
 pub c0-stays : (board : Board) (revoked : List ℕ) (s : State) → ZeroRegister (s .regs) → ZeroRegister (stepOf board revoked s .regs)
 unfolding stepOf applyEffect
 c0-stays board revoked s h =
-    each-applied Null null-rule (λ i v l w b. absurd (omega arith)) (board .start) (lengthIn (fetchedIn board s)) (effectAt board revoked s) (s .regs) (null-kept (effectAt board revoked s))
+    each-applied Null null-rule (λ i v l w b. absurd (omega arith)) (board .start) (lengthIn (fetchedIn board s))
+    (effectAt board revoked s) (s .regs) (null-kept (effectAt board revoked s))
     (record { word = h }) .word
 
 -- ---- tag words
@@ -124,7 +125,8 @@ tag-kept (Trap cause value) h = (λ k b e. absurd (omega arith), λ k b e. absur
 pub tags-stay : (board : Board) (revoked : List ℕ) (s : State) → GoodTags (s .regs) → GoodTags (stepOf board revoked s .regs)
 unfolding stepOf applyEffect
 tags-stay board revoked s h =
-    let e = each-applied Tag tag-rule (λ i v l w k b q. absurd (omega arith)) (board .start) (lengthIn (fetchedIn board s)) (effectAt board revoked s) (s .regs) (tag-kept (effectAt board revoked s)
+    let e = each-applied Tag tag-rule (λ i v l w k b q. absurd (omega arith)) (board .start) (lengthIn (fetchedIn board s))
+    (effectAt board revoked s) (s .regs) (tag-kept (effectAt board revoked s)
     (next-good board revoked s h))
     (record { word = λ i k b q. rw q (h k b) }) in
     λ k b. e .word (k * capabilityWords + 2) k b refl

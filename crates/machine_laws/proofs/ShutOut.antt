@@ -17,7 +17,8 @@ use Rattle.commit.specs.Commit.{retires}
 use Rattle.execution.specs.Step.{effectAt}
 use Rattle.state.specs.declared.Board.{Board}
 use Rattle.machine.specs.Refusals.{refusalOf, mostSteps}
-use Rattle.machine.specs.Run.{stepRefusal, retiredOf, trappedOf, stepTrapped, stepAnswer, stepAfter, StepPromise, runAnswer, runAfter, RunPromise, stepNumber, ran, ranFrom}
+use Rattle.machine.specs.Run.{stepRefusal, retiredOf, trappedOf, stepTrapped, stepAnswer, stepAfter, StepPromise, runAnswer, runAfter, RunPromise, stepNumber}
+use Rattle.machine.specs.Run.{ran, ranFrom}
 use Rattle.machine.specs.Run.{stepRetired, runNumber, runRetired, runTrapped}
 use Rattle.machine.specs.declared.StepAnswer.{StepAnswer}
 use Rattle.machine.specs.declared.StepAnswer.the-variants.{Retired, Trapped, Refused}

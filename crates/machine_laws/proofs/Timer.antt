@@ -181,7 +181,8 @@ module _ (board : Board) (revoked : List ℕ) where
   masked-run n r h = quiet-run n r (λ k l. rw (h k l) refl)
 
   -- and where time does not come to compare
-  pub unreached-run : (n : ℕ) (r : Ran) → length (r .at .regs) ≡ registerWords → timeOf (r .at .regs) < 2 ^ 64 → timeOf (r .at .regs) + n ≤ compareOf (r .at .regs)
+  pub unreached-run : (n : ℕ) (r : Ran) → length (r .at .regs) ≡ registerWords → timeOf (r .at .regs) < 2 ^ 64
+      → timeOf (r .at .regs) + n ≤ compareOf (r .at .regs)
       → iterate n board revoked r ≡ iterateUntimed n board revoked r
   unfolding interrupted
   unreached-run n r long fits h = quiet-run n r (λ k l. due k l)

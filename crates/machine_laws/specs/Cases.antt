@@ -242,8 +242,10 @@ cases =
     -- the same store through an untagged c1 traps and moves nothing
     ∷ timed (execute 0x20000000) (integer 0x20000000) 0 (pair-at 0x20000040 0x20000000 []) 0x0200AA23 0 (pair-at 0x20000040 0x20000000 [])
     -- CSRRS c2, mshwm, c0 writes nothing; CSRRS c2, mshwm, c3 with 0 in c3, and CSRRW c2, mshwmb, c1, write without the low four bits
-    ∷ timed (execute 0x20000000) (integer 0) 0 (pair-at 0x2000003F 0x20000007 []) 0xBC102173 1 (register 2 (integer 0x2000003F) (pair-at 0x2000003F 0x20000007 []))
-    ∷ timed (execute 0x20000000) (integer 0) 0 (pair-at 0x2000003F 0x20000007 []) 0xBC11A173 1 (register 2 (integer 0x2000003F) (pair-at 0x20000030 0x20000007 []))
+    ∷ timed (execute 0x20000000) (integer 0) 0 (pair-at 0x2000003F 0x20000007 []) 0xBC102173 1
+    (register 2 (integer 0x2000003F) (pair-at 0x2000003F 0x20000007 []))
+    ∷ timed (execute 0x20000000) (integer 0) 0 (pair-at 0x2000003F 0x20000007 []) 0xBC11A173 1
+    (register 2 (integer 0x2000003F) (pair-at 0x20000030 0x20000007 []))
     ∷ timed (execute 0x20000000) (integer 0x1234567F) 0 (pair-at 0x2000003F 0x20000007 []) 0xBC209173 1
     (register 2 (integer 0x20000007) (pair-at 0x2000003F 0x12345670 []))
     ∷ []
