@@ -1,9 +1,8 @@
 -- What a state holds, what is derived from it, and that steps, runs and sweeps gain no authority. Document 02, 9 and 10. Assumes nothing.
 use mathlib.Core.List.{List}
 use mathlib.Core.Path.{_≡_}
-use Prim.Native.Nat.{ℕ, _*_, _/_, _^_, _≤_, _<_}
+use Prim.Native.Nat.{ℕ, _*_, _/_, _<_}
 use lib.ListN.{length}
-use Rattle.capability.specs.Capability.{low, high}
 use Rattle.capability.specs.declared.Capability.{Capability}
 use Rattle.capability_laws.specs.Authority.{Inside}
 use Rattle.state.specs.Layout.{capabilityCount}
@@ -17,6 +16,7 @@ use Rattle.machine.specs.declared.RunAnswer.{RunAnswer}
 use Rattle.sweep.specs.Visits.{VisitPromise}
 use Rattle.sweep.specs.declared.SweepAnswer.{SweepAnswer}
 use Rattle.machine_laws.specs.Fits.{InType}
+use Rattle.machine_laws.specs.Lent.{Sound}
 use Rattle.bench_api.specs.Packing.{StepPacked, RunPacked, VisitPacked}
 
 -- ---- what a state holds
@@ -33,13 +33,14 @@ pub record Held (s : State) (c : Capability) : Type 0 where
 
 -- ---- where the theorem starts
 
--- bounds in order, and none past the address space
-pub record Sound (c : Capability) : Type 0 where
-  pub order : low c ≤ high c
-  pub top : high c ≤ 2 ^ 32
-
 abbrev pub SoundState : State → Type 0
 SoundState s = (c : Capability) → Held s c → Sound c
+
+-- of memory alone: each granule that is tagged holds a sound capability
+abbrev pub SoundMemory : State → Type 0
+SoundMemory s =
+    (g : ℕ) → g < length (s .mem) / granuleBytes → capabilityIn (s .mem) (s .tags) (g * granuleBytes) .tag ≡ 1
+    → Sound (capabilityIn (s .mem) (s .tags) (g * granuleBytes))
 
 -- the elements are of the lent types, as they are in every lent slice, and what is held is sound
 pub record Start (s : State) : Type 0 where

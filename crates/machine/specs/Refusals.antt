@@ -1,11 +1,14 @@
--- The refusals of a step and a run, in the order of their numbers: the lowest wins. Document 01, "What is lent" and "Answers"; document 02, 5 and 8.
+-- The refusals of a step and a run, in the order of their numbers: the lowest wins. Document 01, "What is lent" and "Answers"; document 02, 5, 8 and 13.
 -- Assumes nothing.
 use mathlib.Core.Bool.{Bool, true, not, _&&_, _||_}
 use mathlib.Core.List.{List}
 use Prim.Native.Nat.{ℕ, zero, suc, _+_, _*_, _/_, _%_, _^_}
 use lib.Dec.{eqb, leb, ltb}
 use lib.ListN.{getD, length}
+use Rattle.capability.specs.Capability.{low, high, tagged}
+use Rattle.capability.specs.declared.Capability.{Capability}
 use Rattle.state.specs.Layout.{registerWords, capabilityCount, capabilityWords}
+use Rattle.state.specs.Registers.{capabilityAt}
 use Rattle.state.specs.Lent.{State, reportEdition, laterEdition}
 use Rattle.state.specs.Memory.{granuleBytes}
 use Rattle.state.specs.Checks.{failIf}
@@ -54,6 +57,19 @@ goodWords regs = goodTags capabilityCount regs 0 && goodZero regs
 unfoldable pub goodEdition : Board → Bool
 goodEdition board = eqb (board .edition) reportEdition || eqb (board .edition) laterEdition
 
+-- bounds in order, and none past the address space, as whole numbers and at the capability's own address
+unfoldable pub sound : Capability → Bool
+sound c = leb (low c) (high c) && leb (high c) (2 ^ 32)
+
+-- of a capability without its tag nothing is asked; sealed or not makes no difference
+unfoldable pub soundIfTagged : Capability → Bool
+soundIfTagged c = not (tagged c) || sound c
+
+-- so of n capabilities from capability i on
+unfoldable pub goodBounds : (n : ℕ) → (regs : List ℕ) → (i : ℕ) → Bool
+goodBounds zero regs i = true
+goodBounds (suc n) regs i = soundIfTagged (capabilityAt regs i) && goodBounds n regs (i + 1)
+
 -- the number for a call that asks n steps, where a single step asks one; 0 where nothing is refused
 unfoldable pub refusalOf : (n : ℕ) → Board → (revoked : List ℕ) → State → ℕ
 refusalOf n board revoked s =
@@ -64,4 +80,5 @@ refusalOf n board revoked s =
     (failIf (not (goodWords (s .regs))) 4
     (failIf (ltb mostSteps n) 5
     (failIf (not (goodEdition board)) 7
-    0))))))
+    (failIf (not (goodBounds capabilityCount (s .regs) 0)) 8
+    0)))))))

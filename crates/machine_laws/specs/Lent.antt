@@ -1,9 +1,12 @@
--- What a call asks of the lent buffers, said without tests. Document 01, "What is lent" and "Answers"; document 02, 5 and 8. Assumes nothing.
+-- What a call asks of the lent buffers, said without tests. Document 01, "What is lent" and "Answers"; document 02, 5, 8 and 13. Assumes nothing.
 use mathlib.Core.List.{List}
 use mathlib.Core.Path.{_≡_}
 use Prim.Native.Nat.{ℕ, _+_, _/_, _%_, _^_, _≤_, _<_}
 use lib.ListN.{getD, length}
-use Rattle.state.specs.Layout.{registerWords, capabilityWords}
+use Rattle.capability.specs.Capability.{low, high}
+use Rattle.capability.specs.declared.Capability.{Capability}
+use Rattle.state.specs.Layout.{registerWords, capabilityCount, capabilityWords}
+use Rattle.state.specs.Registers.{capabilityAt}
 use Rattle.state.specs.Lent.{State, reportEdition, laterEdition}
 use Rattle.state.specs.Memory.{granuleBytes}
 use Rattle.state.specs.Effects.{GoodTags}
@@ -47,7 +50,16 @@ pub data LentEdition (board : Board) : Type 0 where
   is-report : board .edition ≡ reportEdition → LentEdition board
   is-later : board .edition ≡ laterEdition → LentEdition board
 
--- all that is lent is as it must be
+-- bounds in order, and none past the address space
+pub record Sound (c : Capability) : Type 0 where
+  pub order : low c ≤ high c
+  pub top : high c ≤ 2 ^ 32
+
+-- each capability of the register file that is tagged is sound: c0 to c15, PCC and the special ones, sealed or not
+abbrev pub SoundRegisters : (regs : List ℕ) → Type 0
+SoundRegisters regs = (i : ℕ) → i < capabilityCount → capabilityAt regs i .tag ≡ 1 → Sound (capabilityAt regs i)
+
+-- all that is lent is as it must be, but for what the registers hold at the start of a call: what a step keeps (law `good-after`)
 pub record GoodState (board : Board) (revoked : List ℕ) (s : State) : Type 0 where
   pub registers : LentRegisters s
   pub memory : LentMemory board (length (s .mem))
@@ -58,7 +70,7 @@ pub record GoodState (board : Board) (revoked : List ℕ) (s : State) : Type 0 w
 
 -- the number of a refusal of n steps, by its cases: the lowest wins
 pub data Refusal (n : ℕ) (board : Board) (revoked : List ℕ) (s : State) : ℕ → Type 0 where
-  none : GoodState board revoked s → n ≤ mostSteps → Refusal n board revoked s 0
+  none : GoodState board revoked s → n ≤ mostSteps → SoundRegisters (s .regs) → Refusal n board revoked s 0
   bad-registers : (LentRegisters s → ⊥) → Refusal n board revoked s 1
   bad-memory : LentRegisters s → (LentMemory board (length (s .mem)) → ⊥) → Refusal n board revoked s 2
   bad-window : LentRegisters s → LentMemory board (length (s .mem)) → (LentWindow board (length (s .mem)) → ⊥) → Refusal n board revoked s 2
@@ -70,3 +82,4 @@ pub data Refusal (n : ℕ) (board : Board) (revoked : List ℕ) (s : State) : �
       → mostSteps < n → Refusal n board revoked s 5
   bad-edition : LentRegisters s → LentMemory board (length (s .mem)) → LentWindow board (length (s .mem)) → LentBits board revoked s → LentWords (s .regs)
       → n ≤ mostSteps → (LentEdition board → ⊥) → Refusal n board revoked s 7
+  unsound : GoodState board revoked s → n ≤ mostSteps → (SoundRegisters (s .regs) → ⊥) → Refusal n board revoked s 8
