@@ -23,7 +23,7 @@ use Rattle.capability_laws.specs.Authority.{Authority, Inside}
 use Rattle.capability_laws.proofs.Tests as tests
 use Rattle.capability_laws.proofs.Derived.{inside-trans, covers-contains, same-stays, exact-low, exact-high, derive-cut}
 use Rattle.state.specs.Addresses.{legalized}
-use Rattle.authority_laws.specs.Gain.{Sound}
+use Rattle.machine_laws.specs.Lent.{Sound}
 
 pub record From (c r : Capability) : Type 0 where
   pub of-tagged : r .tag ≡ 1 → c .tag ≡ 1

@@ -14,11 +14,9 @@ use Rattle.state.specs.declared.Board.{Board}
 use Rattle.fetch.specs.declared.Fetched.{Fetched}
 use Rattle.fetch.specs.declared.Fetched.the-variants.{Long, Half, Fault}
 use Rattle.execution.specs.Step.{instructionIn, wordIn, lengthIn, trapOr, effectIn, seen, fetchedIn, stepOf}
-use Rattle.machine.specs.Run.{stepRefusal}
 use Rattle.machine_laws.specs.Editions.{NoJump}
 use Rattle.machine_laws.specs.Fits.{InType}
 use Rattle.machine_laws.specs.Lent.{GoodState}
-use Rattle.machine_laws.proofs.Refusals.{good-of}
 use Rattle.authority_laws.specs.Gain.{Stands, in-register, in-granule}
 use Rattle.authority_laws.specs.Returns.{ReturnSentry, NoReturns}
 use Rattle.authority_laws.proofs.Closed.{Carried, Everywhere}
@@ -32,15 +30,12 @@ no-return-carried : Carried NoReturn
 no-return-carried =
     record { untagged = λ c z r. omega (arith, z, r .is-tagged); derived = λ m h r. h (m .of-return r) }
 
-module _ (board : Board) (revoked : List ℕ) (s : State) (good : stepRefusal board revoked s ≡ 0) (t : InType s) where
-  state-good : GoodState board revoked s
-  state-good = good-of board revoked s good
-
+module _ (board : Board) (revoked : List ℕ) (s : State) (good : GoodState board revoked s) (t : InType s) where
   nowhere : NoReturns s → Everywhere NoReturn s
   nowhere h =
       record {
         registers =
-            record { long = omega (arith, state-good .registers); file = λ i l. h (capabilityAt (s .regs) i) (in-register i l refl) };
+            record { long = omega (arith, good .registers); file = λ i l. h (capabilityAt (s .regs) i) (in-register i l refl) };
         memory = λ i w. h (capabilityIn (s .mem) (s .tags) i) (in-place s i w);
       }
 
@@ -53,13 +48,13 @@ module _ (board : Board) (revoked : List ℕ) (s : State) (good : stepRefusal bo
   unfolding effectIn trapOr instructionIn
   only-jumps-make other h =
       let e = nowhere h in
-      ended (stepOf board revoked s) (carried-keeps NoReturn no-return-carried board revoked s state-good t (met (fetchedIn board s) other e) e)
+      ended (stepOf board revoked s) (carried-keeps NoReturn no-return-carried board revoked s good t (met (fetchedIn board s) other e) e)
     where
       met : (f : Fetched) → NoJump (instructionIn f) → Everywhere NoReturn s → EachCapability NoReturn (effectIn f (s .regs) (seen board revoked s))
       met (Fault cause value) n e = tt
       met (Long w) n e =
-          other-carried NoReturn no-return-carried (s .regs) (record { words = t .registers-in; tags = state-good .words .tag-words }) (e .registers)
-          (seen board revoked s) (state-good .memory .start-aligned) (e .memory) (lengthIn (Long w)) (instructionIn (Long w)) (wordIn (Long w)) n
+          other-carried NoReturn no-return-carried (s .regs) (record { words = t .registers-in; tags = good .words .tag-words }) (e .registers)
+          (seen board revoked s) (good .memory .start-aligned) (e .memory) (lengthIn (Long w)) (instructionIn (Long w)) (wordIn (Long w)) n
       met (Half w) n e =
-          other-carried NoReturn no-return-carried (s .regs) (record { words = t .registers-in; tags = state-good .words .tag-words }) (e .registers)
-          (seen board revoked s) (state-good .memory .start-aligned) (e .memory) (lengthIn (Half w)) (instructionIn (Half w)) (wordIn (Half w)) n
+          other-carried NoReturn no-return-carried (s .regs) (record { words = t .registers-in; tags = good .words .tag-words }) (e .registers)
+          (seen board revoked s) (good .memory .start-aligned) (e .memory) (lengthIn (Half w)) (instructionIn (Half w)) (wordIn (Half w)) n

@@ -27,14 +27,14 @@ use Rattle.machine.specs.Run.{stepRefusal, stepAfter, Ran, ran, oneMore, iterat
 use Rattle.sweep.specs.Visits.{tagsAfter}
 use Rattle.sweep.proofs.Laws.{stored-tag, stored-alike, tag-falls, bytes-stay}
 use Rattle.machine_laws.specs.Fits.{InType}
-use Rattle.machine_laws.specs.Lent.{GoodState}
+use Rattle.machine_laws.specs.Lent.{Sound, GoodState}
 use Rattle.machine_laws.specs.Steps.{lengthAt, standingAt, wordAt}
-use Rattle.machine_laws.proofs.Refusals.{good-for, good-of, of-good}
+use Rattle.machine_laws.proofs.Refusals.{good-for, good-of}
 use Rattle.machine_laws.proofs.Fetch.{fetched-holds, next-within}
-use Rattle.machine_laws.proofs.Kept.{good-stays, lengths-stay}
+use Rattle.machine_laws.proofs.Kept.{good-after, lengths-stay}
 use Rattle.machine_laws.proofs.Stores.{store-changes-only}
 use Rattle.machine_laws.proofs.Fits.{next-fits, in-type-stays, step-in-type, run-in-type}
-use Rattle.authority_laws.specs.Gain.{Stands, in-register, in-granule, Held, Sound, SoundState, Start, Derived, NoGain}
+use Rattle.authority_laws.specs.Gain.{Stands, in-register, in-granule, Held, SoundState, Start, Derived, NoGain}
 use Rattle.authority_laws.specs.Gain.{Reached, at-start, by-step, by-run, by-c-step, by-c-run, by-visit, by-c-visit, Unwritten, AuthorityClaim}
 use Rattle.authority_laws.proofs.Closed.{Closed, Carried, carried-of, Everywhere}
 use Rattle.authority_laws.proofs.Effects.{effect-carried}
@@ -55,7 +55,7 @@ carried-keeps P closed board revoked s good t carried h =
       registers = files-left P closed (board .start) (lengthIn (fetchedIn board s)) e (s .regs) carried (h .registers);
       memory =
           granules-after s (stepOf board revoked s) P closed (lengths-stay board revoked s .same-memory) (h .memory) (storedBy e)
-          (store-changes-only board revoked s (of-good board revoked s good 1 (omega arith))) (next-within board revoked s start)
+          (store-changes-only board revoked s good) (next-within board revoked s start)
           (each-stored Good e (next-fits board revoked s fits (t .memory-in) .0)) (each-stored P e carried);
     }
 
@@ -143,8 +143,7 @@ module _ (board : Board) (revoked : List ℕ) where
       let a = stepOf board revoked s in
       let g : NoGain s a =
       ended s a (step-keeps (Grounded s) (grounded-closed s) board revoked s good (h .in-type) (started board revoked s good (h .sound))) in
-      let next : GoodState board revoked a = good-of board revoked a (good-stays board revoked s (of-good board revoked s good 1 (omega arith))) in
-      gain-both g (steps-gain-none n (oneMore board revoked r) next
+      gain-both g (steps-gain-none n (oneMore board revoked r) (good-after board revoked s good)
       (record { in-type = in-type-stays board revoked s (good .words .tag-words) (h .in-type); sound = g .sound }))
 
   -- a call that is refused changes nothing

@@ -14,7 +14,8 @@ use Rattle.state.specs.Registers.{capabilityAt}
 use Rattle.state.specs.Lent.{State}
 use Rattle.state.specs.Memory.{capabilityIn, granuleBytes}
 use Rattle.machine_laws.specs.Fits.{InType}
-use Rattle.authority_laws.specs.Gain.{Stands, in-register, in-granule, Held, Sound, SoundState, Start}
+use Rattle.machine_laws.specs.Lent.{Sound}
+use Rattle.authority_laws.specs.Gain.{Stands, in-register, in-granule, Held, SoundState, Start}
 
 -- each capability of the register file passes, and each of memory
 abbrev pub registerTest : (Capability → Bool) → State → ℕ → Bool

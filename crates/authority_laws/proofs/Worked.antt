@@ -28,6 +28,7 @@ use Rattle.commit.specs.Commit.{advanced, retagged, storedCapability, applyEffe
 use Rattle.fetch.specs.Fetch.{secondOf, standsOf, fetchedAt, fetchOf}
 use Rattle.execution.specs.Step.{metOf, effectOf, instructionIn, wordIn, lengthIn, trapOr, effectIn, stepOf}
 use Rattle.machine.specs.Refusals.{goodMemory, goodWindow, goodTags, goodZero, goodWords, goodBits, goodEdition, refusalOf}
+use Rattle.machine.specs.Refusals.{sound, soundIfTagged, goodBounds}
 use Rattle.machine.specs.Run.{oneMore, iterate, runAfter}
 use Rattle.authority_laws.specs.Gain.{in-register, in-granule, Held, Start, Derived}
 use Rattle.authority_laws.specs.Worked.{board, revoked, kept, piece, worked}
@@ -41,7 +42,8 @@ unfolding ifTagged below worked setCapability setBytes leBytes bitAt capabilityA
 worked-starts = tested-start worked (tt, tt) tt tt tt
 
 pub worked-runs : refusalOf 3 board revoked worked ≡ 0
-unfolding worked setCapability setBytes refusalOf goodMemory goodTags goodZero goodWords goodWindow goodBits goodEdition
+unfolding worked setCapability setBytes refusalOf goodMemory goodTags goodZero goodWords goodWindow goodBits goodEdition sound soundIfTagged
+    goodBounds capabilityAt tagged low high lowAt highAt lowOf highOf exponentOf scaleOf topOf baseOf
 worked-runs = refl
 
 -- a tagged capability stands in its memory
@@ -65,7 +67,8 @@ record Computed : Type 0 where
   size-is : length (ended .mem) ≡ 64
 
 computed : Computed
-unfolding worked runAfter iterate oneMore refusalOf goodMemory goodTags goodZero goodWords goodWindow goodBits goodEdition stepOf metOf interrupted
+unfolding worked runAfter iterate oneMore refusalOf goodMemory goodTags goodZero goodWords goodWindow goodBits goodEdition sound soundIfTagged goodBounds
+    stepOf metOf interrupted
     timeOf compareOf ticked cleared belowMark marked effectIn trapOr lengthIn
     instructionIn wordIn fetchOf fetchedAt standsOf secondOf effectOf applyEffect retires setCapability writeRegister advanced retagged
     storedCapability revokedValue filtered loadCapabilityAt loadCapabilityEffect storeCapabilityCheck storeCapabilityAt storeCapabilityEffect

@@ -8,12 +8,14 @@ use lib.Dec.{ltb, leb, eqb}
 use lib.ListN.{getD, length}
 use borrow.Author.Tests.{eqb-true, eq-eqb, ne-eqb, ltb-false, leb-true}
 use Rattle.state.specs.Layout.{registerWords, capabilityCount, capabilityWords}
+use Rattle.state.specs.Registers.{capabilityAt}
 use Rattle.state.specs.Lent.{State}
 use Rattle.state.specs.Checks.{failIf}
 use Rattle.state.specs.declared.Board.{Board}
 use Rattle.commit.specs.Commit.{retires}
 use Rattle.execution.specs.Step.{effectAt, stepOf}
-use Rattle.machine.specs.Refusals.{blockBytes, mostMemory, mostSteps, goodMemory, goodWindow, goodBits, goodTags, goodWords, goodEdition, refusalOf}
+use Rattle.machine.specs.Refusals.{blockBytes, mostMemory, mostSteps, goodMemory, goodWindow, goodBits, goodTags, goodWords, goodEdition}
+use Rattle.machine.specs.Refusals.{soundIfTagged, goodBounds, refusalOf}
 use Rattle.machine.specs.Run.{Ran, ran, oneMore, iterate, ranFrom, stepRefusal, stepAnswer, stepAfter, StepPromise, runAnswer, runAfter, RunPromise}
 use Rattle.machine.specs.Run.{stepNumber, stepRetired, stepTrapped, runNumber, runRetired, runTrapped, retiredBy, trappedBy}
 use Rattle.machine.specs.declared.StepAnswer.{StepAnswer}
@@ -26,6 +28,75 @@ pub tags-turn : (regs : List ℕ) (i : ℕ) → i < capabilityCount
     → goodTags (capabilityCount - i) regs i ≡ (leb (getD regs (i * capabilityWords + 2) 0) 1 && goodTags (capabilityCount - (i + 1)) regs (i + 1))
 unfolding goodTags
 tags-turn regs i h = let e : capabilityCount - i ≡ suc (capabilityCount - (i + 1)) = omega arith in rw e refl
+
+-- one turn of the loop over the bounds
+pub bounds-turn : (regs : List ℕ) (i : ℕ) → i < capabilityCount
+    → goodBounds (capabilityCount - i) regs i ≡ (soundIfTagged (capabilityAt regs i) && goodBounds (capabilityCount - (i + 1)) regs (i + 1))
+unfolding goodBounds
+bounds-turn regs i h = let e : capabilityCount - i ≡ suc (capabilityCount - (i + 1)) = omega arith in rw e refl
+
+-- ---- the bounds after all other tests
+
+-- the others in a row, then what follows
+abbrev inRow : (a b w c d e f : Bool) → (last : ℕ) → ℕ
+inRow a b w c d e f last = failIf a 1 (failIf b 2 (failIf w 2 (failIf c 3 (failIf d 4 (failIf e 5 (failIf f 7 last))))))
+
+-- where one of them fails, what follows makes no difference
+row-stops : (a b w c d e f : Bool) (last : ℕ) → (inRow a b w c d e f 0 ≡ 0 → ⊥) → inRow a b w c d e f 0 ≡ inRow a b w c d e f last
+row-stops true b w c d e f last h = refl
+row-stops false true w c d e f last h = refl
+row-stops false false true c d e f last h = refl
+row-stops false false false true d e f last h = refl
+row-stops false false false false true e f last h = refl
+row-stops false false false false false true f last h = refl
+row-stops false false false false false false true last h = refl
+row-stops false false false false false false false last h = absurd (h refl)
+
+-- where all pass, it is the number
+row-passes : (a b w c d e f : Bool) (last : ℕ) → inRow a b w c d e f 0 ≡ 0 → last ≡ inRow a b w c d e f last
+row-passes true b w c d e f last h = absurd (omega arith)
+row-passes false true w c d e f last h = absurd (omega arith)
+row-passes false false true c d e f last h = absurd (omega arith)
+row-passes false false false true d e f last h = absurd (omega arith)
+row-passes false false false false true e f last h = absurd (omega arith)
+row-passes false false false false false true f last h = absurd (omega arith)
+row-passes false false false false false false true last h = absurd (omega arith)
+row-passes false false false false false false false last h = refl
+
+module _ (n : ℕ) (board : Board) (revoked : List ℕ) (s : State) where
+  -- the number of a call by all tests but that of the bounds, before what follows
+  abbrev before : (last : ℕ) → ℕ
+  before last =
+      inRow (not (eqb (length (s .regs)) registerWords)) (not (goodMemory board (length (s .mem)))) (not (goodWindow board (length (s .mem))))
+      (not (goodBits board revoked s)) (not (goodWords (s .regs))) (ltb mostSteps n) (not (goodEdition board)) last
+
+  abbrev pub earlier : ℕ
+  earlier = before 0
+
+  stops : (last : ℕ) → (before 0 ≡ 0 → ⊥) → before 0 ≡ before last
+  stops last =
+      row-stops (not (eqb (length (s .regs)) registerWords)) (not (goodMemory board (length (s .mem)))) (not (goodWindow board (length (s .mem))))
+      (not (goodBits board revoked s)) (not (goodWords (s .regs))) (ltb mostSteps n) (not (goodEdition board)) last
+
+  passes : (last : ℕ) → before 0 ≡ 0 → last ≡ before last
+  passes last =
+      row-passes (not (eqb (length (s .regs)) registerWords)) (not (goodMemory board (length (s .mem)))) (not (goodWindow board (length (s .mem))))
+      (not (goodBits board revoked s)) (not (goodWords (s .regs))) (ltb mostSteps n) (not (goodEdition board)) last
+
+  pub refused-early : (m : ℕ) → m ≡ earlier → (m ≡ 0 → ⊥) → m ≡ refusalOf n board revoked s
+  unfolding refusalOf
+  refused-early m e h = e ∙ stops (failIf (not (goodBounds capabilityCount (s .regs) 0)) 8 0) (λ z. h (e ∙ z))
+
+  module _ (m : ℕ) (e : m ≡ earlier) (z : m ≡ 0) where
+    refused-last : failIf (not (goodBounds capabilityCount (s .regs) 0)) 8 0 ≡ refusalOf n board revoked s
+    unfolding refusalOf
+    refused-last = passes (failIf (not (goodBounds capabilityCount (s .regs) 0)) 8 0) (sym e ∙ z)
+
+    pub refused-not : true ≡ goodBounds capabilityCount (s .regs) 0 → 0 ≡ refusalOf n board revoked s
+    refused-not q = rw (← q) at refused-last
+
+    pub refused-unsound : false ≡ goodBounds capabilityCount (s .regs) 0 → 8 ≡ refusalOf n board revoked s
+    refused-unsound q = rw (← q) at refused-last
 
 -- one turn of a run, which retires or traps
 module _ (board : Board) (n k : ℕ) (revoked : List ℕ) (s after : State) (r t : ℕ) (more : k < n) (left : after ≡ stepOf board revoked s) where
@@ -149,11 +220,11 @@ either P true x y p q = p
 either P false x y p q = q
 
 -- one more check with a small number keeps a small number
-small : (t : Bool) (k rest : ℕ) → k ≤ 7 → rest ≤ 7 → failIf t k rest ≤ 7
-small t k rest h g = either (λ x. x ≤ 7) t k rest h g
+small : (t : Bool) (k rest : ℕ) → k ≤ 8 → rest ≤ 8 → failIf t k rest ≤ 8
+small t k rest h g = either (λ x. x ≤ 8) t k rest h g
 
 module _ (n : ℕ) (board : Board) (revoked : List ℕ) (s : State) where
-  pub refusal-le : refusalOf n board revoked s ≤ 7
+  pub refusal-le : refusalOf n board revoked s ≤ 8
   unfolding refusalOf
   refusal-le =
       small (not (eqb (length (s .regs)) registerWords)) 1 _ (omega arith)
@@ -162,24 +233,25 @@ module _ (n : ℕ) (board : Board) (revoked : List ℕ) (s : State) where
       (small (not (goodBits board revoked s)) 3 _ (omega arith)
       (small (not (goodWords (s .regs))) 4 _ (omega arith)
       (small (ltb mostSteps n) 5 _ (omega arith)
-      (small (not (goodEdition board)) 7 0 (omega arith) (omega arith)))))))
+      (small (not (goodEdition board)) 7 _ (omega arith)
+      (small (not (goodBounds capabilityCount (s .regs) 0)) 8 0 (omega arith) (omega arith))))))))
 
   -- a run that is not refused asks no more than is allowed
   pub few-steps : refusalOf n board revoked s ≡ 0 → n ≤ mostSteps
   unfolding refusalOf
   few-steps h =
       go (not (eqb (length (s .regs)) registerWords)) (not (goodMemory board (length (s .mem)))) (not (goodWindow board (length (s .mem))))
-      (not (goodBits board revoked s)) (not (goodWords (s .regs))) (ltb mostSteps n) (not (goodEdition board)) refl h
+      (not (goodBits board revoked s)) (not (goodWords (s .regs))) (ltb mostSteps n) (not (goodEdition board))
+      (failIf (not (goodBounds capabilityCount (s .regs) 0)) 8 0) refl h
     where
-      go : (a b w c d e f : Bool) → ltb mostSteps n ≡ e
-          → failIf a 1 (failIf b 2 (failIf w 2 (failIf c 3 (failIf d 4 (failIf e 5 (failIf f 7 0)))))) ≡ 0 → n ≤ mostSteps
-      go false false false false false false f q z = ltb-false mostSteps n q
-      go false false false false false true f q z = absurd (omega arith)
-      go false false false false true e f q z = absurd (omega arith)
-      go false false false true d e f q z = absurd (omega arith)
-      go false false true c d e f q z = absurd (omega arith)
-      go false true w c d e f q z = absurd (omega arith)
-      go true b w c d e f q z = absurd (omega arith)
+      go : (a b w c d e f : Bool) (last : ℕ) → ltb mostSteps n ≡ e → inRow a b w c d e f last ≡ 0 → n ≤ mostSteps
+      go false false false false false false f last q z = ltb-false mostSteps n q
+      go false false false false false true f last q z = absurd (omega arith)
+      go false false false false true e f last q z = absurd (omega arith)
+      go false false false true d e f last q z = absurd (omega arith)
+      go false false true c d e f last q z = absurd (omega arith)
+      go false true w c d e f last q z = absurd (omega arith)
+      go true b w c d e f last q z = absurd (omega arith)
 
 -- each step is counted once
 pub counts-le : (n : ℕ) (board : Board) (revoked : List ℕ) (r : Ran)

@@ -1,4 +1,5 @@
 // The machine over lent buffers: a step, and a run of steps.
+use capability::Capability;
 use state::Board;
 use state::CAPABILITY_COUNT;
 use state::CAPABILITY_WORDS;
@@ -13,7 +14,8 @@ ghost use lib.Dec.{eqb};
 ghost use Rattle.state.specs.Layout.{capabilityCount};
 ghost use Rattle.state.specs.Lent.{state};
 ghost use Rattle.state.specs.Checks.{failIf};
-ghost use Rattle.machine.specs.Refusals.{blockBytes, goodMemory, goodWindow, goodTags, goodZero, goodWords, goodEdition, refusalOf};
+ghost use Rattle.machine.specs.Refusals.{blockBytes, goodMemory, goodWindow, goodTags, goodZero, goodWords, goodEdition};
+ghost use Rattle.machine.specs.Refusals.{sound, soundIfTagged, goodBounds, refusalOf};
 ghost use Rattle.machine.specs.Run.{StepPromise, ran, iterate, RunPromise};
 
 // The answer to a step.
@@ -134,7 +136,43 @@ fn good_edition(board: Board) -> bool
     )
 }
 
-// The number of the first test that fails, or 0.
+// Whether bounds are in order, and none past the address space.
+fn is_sound(c: Capability) -> bool
+    ensures { λ r. ⌜ r ≡ sound c ⌝ }
+{
+    let region = capability::bounds_of(c);
+    choices::both(
+        region.low as u64 <= region.high,
+        region.high <= SPACE as u64,
+    )
+}
+
+// Of a capability without its tag nothing is asked.
+fn is_sound_if_tagged(c: Capability) -> bool
+    ensures { λ r. ⌜ r ≡ soundIfTagged c ⌝ }
+{
+    if capability::is_tagged(c) {
+        is_sound(c)
+    } else {
+        true
+    }
+}
+
+// Whether each tagged capability of the register file is sound.
+fn good_bounds(regs: &[u32]) -> bool
+    ensures { λ r. ⌜ r ≡ goodBounds capabilityCount (now (regs .entry)) 0 ⌝ }
+{
+    let mut i: u32 = 0;
+    while (i as usize) < CAPABILITY_COUNT {
+        if !is_sound_if_tagged(state::capability_at(regs, i)) {
+            return false;
+        }
+        i += 1;
+    }
+    true
+}
+
+// The number of the first test that fails of those before the bounds, or 0.
 fn first_refusal(
     registers: bool,
     memory: bool,
@@ -175,7 +213,7 @@ fn first_refusal(
 pub fn refusal(n: u32, regs: &[u32], board: Board, mem: &[u8], tags: &[u8], revoked: &[u8]) -> u32
     ensures { λ r. ⌜ r ≡ refusalOf n board (now (revoked .entry)) (state (now (regs .entry)) (now (mem .entry)) (now (tags .entry))) ⌝ }
 {
-    first_refusal(
+    let no = first_refusal(
         regs.len() == REGISTER_WORDS,
         good_memory(board, mem.len()),
         good_window(board, mem.len()),
@@ -188,7 +226,15 @@ pub fn refusal(n: u32, regs: &[u32], board: Board, mem: &[u8], tags: &[u8], revo
         good_words(regs),
         MOST_STEPS < n,
         good_edition(board),
-    )
+    );
+    if no != 0 {
+        return no;
+    }
+    // Last in the order, and dear: bounds are decoded where all else is good.
+    if good_bounds(regs) {
+        return 0;
+    }
+    8
 }
 
 // ---- a step and a run

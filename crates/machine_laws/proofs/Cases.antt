@@ -31,6 +31,7 @@ use Rattle.short_forms.specs.Long.{wordR, wordI, wordJ, unlessHint, longOf, lon
 use Rattle.fetch.specs.Fetch.{shutOut, secondOf, standsOf, fetchedAt, fetchOf}
 use Rattle.execution.specs.Step.{metOf, effectOf, instructionIn, wordIn, lengthIn, trapOr, effectIn, stepOf}
 use Rattle.machine.specs.Refusals.{goodMemory, goodWindow, goodTags, goodZero, goodWords, goodBits, goodEdition, refusalOf}
+use Rattle.machine.specs.Refusals.{sound, soundIfTagged, goodBounds}
 use Rattle.capability.specs.Capability.{low}
 use Rattle.state.specs.Registers.{setCapability}
 use Rattle.commit.specs.Commit.{retires}
@@ -39,7 +40,7 @@ use Rattle.machine_laws.specs.Cases.{all, holds, found, put, before, cas
 
 pub cases-hold : T (all cases)
 unfolding all holds found put before cases top-of-memory untagged-load environment-call stepAnswer stepAfter refusalOf goodMemory goodTags goodZero
-    goodWords goodWindow goodBits goodEdition stepOf metOf interrupted timeOf compareOf ticked cleared belowMark marked csrRegisterOf csrOf csrAsked
+    goodWords goodWindow goodBits goodEdition sound soundIfTagged goodBounds stepOf metOf interrupted timeOf compareOf ticked cleared belowMark marked csrRegisterOf csrOf csrAsked
     csrWritten csrWrites csrWrite csrEffect effectIn trapOr lengthIn instructionIn wordIn fetchOf fetchedAt standsOf secondOf shutOut shortOf quadrant0
     quadrant1 quadrant2 twoOf arithmeticOf unlessHint immediateWide jalrCause accepts linkType reportStatus jumpStatus jalrEffect jalrOf isSentry
     addi4spnOf movesOf registersOf

@@ -31,12 +31,11 @@ use Rattle.commit.proofs.Records.{ticked-below}
 use Rattle.system_instructions.proofs.Laws.{csr-holds}
 use Rattle.commit.specs.Commit.{advanced, withCsr, applyEffect, retires}
 use Rattle.execution.specs.Step.{effectAt, effectOf, fetchedIn, lengthIn, seen, stepOf}
-use Rattle.machine.specs.Run.{stepRefusal}
+use Rattle.machine_laws.specs.Lent.{GoodState}
 use Rattle.machine_laws.specs.Steps.{lengthAt, standingAt, wordAt}
 use Rattle.machine_laws.specs.Integers.{WritesInteger, IsInteger, by-lui, by-op-imm, by-op, by-load, by-inspection, by-difference, by-subset}
 use Rattle.machine_laws.specs.Integers.{by-multiply, by-divide, by-equality, by-csr, by-csr-immediate}
 use Rattle.machine_laws.proofs.Fetch.{fetched-holds}
-use Rattle.machine_laws.proofs.Refusals.{good-of}
 use Rattle.machine_laws.proofs.Kept.{csr-place}
 use Rattle.machine_laws.proofs.Traps.{advanced-same}
 
@@ -134,12 +133,11 @@ applied start n rd (Effect.WriteCsr r old csr value) s i h l z =
 applied start n rd (Effect.Trap cause value) s i h l z = absurd (true≢false (sym h))
 
 -- an integer result leaves no metadata and no tag
-pub integer-results : (board : Board) (revoked : List ℕ) (s : State) → stepRefusal board revoked s ≡ 0
+pub integer-results : (board : Board) (revoked : List ℕ) (s : State) → GoodState board revoked s
     → (rd : ℕ) → WritesInteger (decodeOf (wordAt board s)) rd → retires (effectAt board revoked s) ≡ true
     → IsInteger (registerAt (stepOf board revoked s .regs) rd)
 unfolding stepOf capabilityAt
-integer-results board revoked s good rd i h =
-    let g = good-of board revoked s good in
+integer-results board revoked s g rd i h =
     let e = fetched-holds (ToInteger rd) board revoked s (λ n v. tt)
     (effect-integer (lengthAt board s) (decodeOf (wordAt board s)) rd (standingAt board s) (s .regs) (seen board revoked s) i) in
     let k = applied (board .start) (lengthIn (fetchedIn board s)) rd (effectAt board revoked s) s e h (g .registers)

@@ -1,4 +1,4 @@
--- What a step keeps: c0 is NULL, tag words are 0 or 1, no buffer changes its length. So a step that is not refused is followed by one that is not.
+-- What a step keeps: c0 is NULL, tag words are 0 or 1, no buffer changes its length. So after a step that is not refused only an unsound register is.
 -- Assumes nothing.
 use mathlib.Core.Path.{_≡_, refl, _∙_}
 use mathlib.Core.List.{List}
@@ -24,7 +24,7 @@ use Rattle.commit.proofs.Registers.{Holds, Rule, Keeps, each-applied}
 use Rattle.commit.proofs.Lengths.{SameLengths, applied-long}
 use Rattle.execution.specs.Step.{effectAt, fetchedIn, lengthIn, stepOf}
 use Rattle.machine.specs.Run.{stepRefusal}
-use Rattle.machine_laws.specs.Lent.{ZeroRegister, GoodState}
+use Rattle.machine_laws.specs.Lent.{ZeroRegister, SoundRegisters, GoodState}
 use Rattle.machine_laws.proofs.Fetch.{next-good}
 use Rattle.machine_laws.proofs.Refusals.{good-of, of-good}
 
@@ -139,7 +139,7 @@ lengths-stay board revoked s = applied-long (board .start) (lengthIn (fetchedIn 
 
 -- ---- all of it
 
-good-after : (board : Board) (revoked : List ℕ) (s : State) → GoodState board revoked s → GoodState board revoked (stepOf board revoked s)
+pub good-after : (board : Board) (revoked : List ℕ) (s : State) → GoodState board revoked s → GoodState board revoked (stepOf board revoked s)
 good-after board revoked s g =
     let l = lengths-stay board revoked s in
     record {
@@ -151,6 +151,8 @@ good-after board revoked s g =
       edition = g .edition;
     }
 
--- a step of a machine that is not refused leaves one that is not refused
-pub good-stays : (board : Board) (revoked : List ℕ) (s : State) → stepRefusal board revoked s ≡ 0 → stepRefusal board revoked (stepOf board revoked s) ≡ 0
-good-stays board revoked s h = of-good board revoked (stepOf board revoked s) (good-after board revoked s (good-of board revoked s h)) 1 (omega arith)
+-- a step of a machine that is not refused leaves one that is not refused, unless it loads what is unsound
+pub good-stays : (board : Board) (revoked : List ℕ) (s : State) → stepRefusal board revoked s ≡ 0 → SoundRegisters (stepOf board revoked s .regs)
+    → stepRefusal board revoked (stepOf board revoked s) ≡ 0
+good-stays board revoked s h ok =
+    of-good board revoked (stepOf board revoked s) (good-after board revoked s (good-of board revoked s h)) ok 1 (omega arith)

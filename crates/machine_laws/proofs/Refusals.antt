@@ -8,18 +8,22 @@ use lib.Dec.{eqb, leb, ltb}
 use lib.ListN.{getD, length}
 use borrow.Author.Tests.{eqb-true, eqb-false, eq-eqb, ne-eqb, leb-true, leb-false, le-leb, lt-ltb, le-ltb, ltb-true, ltb-false}
 use Rattle.words.proofs.Word.{by-test}
+use Rattle.capability.specs.Capability.{low, high, tagged}
+use Rattle.capability.specs.declared.Capability.{Capability}
 use Rattle.state.specs.Layout.{registerWords, capabilityCount, capabilityWords}
+use Rattle.state.specs.Registers.{capabilityAt}
 use Rattle.state.specs.Memory.{granuleBytes}
 use Rattle.state.specs.Checks.{failIf}
 use Rattle.state.specs.declared.Board.{Board}
 use Rattle.state.specs.Lent.{State, reportEdition, laterEdition}
 use Rattle.machine.specs.Refusals.{blockBytes, mostMemory, mostSteps, goodMemory, goodWindow, goodBits, goodTags, goodZero, goodWords, goodEdition}
-use Rattle.machine.specs.Refusals.{refusalOf}
+use Rattle.machine.specs.Refusals.{sound, soundIfTagged, goodBounds, refusalOf}
 use Rattle.machine.specs.Run.{stepRefusal, stepAnswer, stepAfter, runAnswer, runAfter}
 use Rattle.machine.specs.declared.StepAnswer.the-variants.{Refused}
 use Rattle.machine.specs.declared.RunAnswer.the-variants as RunAnswer
 use Rattle.machine_laws.specs.Lent.{LentRegisters, LentMemory, LentWindow, LentBits, ZeroRegister, LentWords, LentEdition, GoodState, Refusal}
-use Rattle.machine_laws.specs.Lent.{is-report, is-later, none, bad-registers, bad-memory, bad-window, bad-bits, bad-words, too-long, bad-edition}
+use Rattle.machine_laws.specs.Lent.{Sound, SoundRegisters}
+use Rattle.machine_laws.specs.Lent.{is-report, is-later, none, bad-registers, bad-memory, bad-window, bad-bits, bad-words, too-long, bad-edition, unsound}
 
 -- ---- each test says what it means
 
@@ -89,6 +93,9 @@ module _ (board : Board) (revoked : List ℕ) (s : State) where
   unfolding goodBits
   bits-test b = made (eq-eqb _ _ (b .tag-bytes)) (eq-eqb _ _ (b .revocation-bytes))
 
+after : (j i : ℕ) → i ≤ j → (j ≡ i → ⊥) → i + 1 ≤ j
+after j i a d = by-test (leb (i + 1) j) (λ t. leb-true (i + 1) j t) (λ t. absurd (d (omega (arith, leb-false (i + 1) j t))))
+
 tags-are : (n : ℕ) (l : List ℕ) (i : ℕ) → goodTags n l i ≡ true → (j : ℕ) → i ≤ j → j < i + n → getD l (j * capabilityWords + 2) 0 ≤ 1
 unfolding goodTags
 tags-are zero l i h j a b = absurd (omega arith)
@@ -97,9 +104,6 @@ tags-are (suc n) l i h j a b =
     by-test (eqb j i)
     (λ e. rw (eqb-true j i e) (leb-true (getD l (i * capabilityWords + 2) 0) 1 (t .0)))
     (λ e. let d = eqb-false j i e in tags-are n l (i + 1) (t .1) j (after j i a d) (omega arith))
-  where
-    after : (j i : ℕ) → i ≤ j → (j ≡ i → ⊥) → i + 1 ≤ j
-    after j i a d = by-test (leb (i + 1) j) (λ t. leb-true (i + 1) j t) (λ t. absurd (d (omega (arith, leb-false (i + 1) j t))))
 
 tags-test : (n : ℕ) (l : List ℕ) (i : ℕ) → ((j : ℕ) → i ≤ j → j < i + n → getD l (j * capabilityWords + 2) 0 ≤ 1) → goodTags n l i ≡ true
 unfolding goodTags
@@ -149,6 +153,51 @@ module _ (board : Board) where
   edition-test (is-report e) = rw e
   edition-test (is-later e) = rw e
 
+-- ---- the bounds of registers
+
+pub sound-is : (c : Capability) → sound c ≡ true → Sound c
+unfolding sound
+sound-is c h =
+    let p = both (leb (low c) (high c)) (leb (high c) (2 ^ 32)) h in
+    record { order = leb-true (low c) (high c) (p .0); top = leb-true (high c) (2 ^ 32) (p .1) }
+
+sound-test : (c : Capability) → Sound c → sound c ≡ true
+unfolding sound
+sound-test c h = made (le-leb (low c) (high c) (h .order)) (le-leb (high c) (2 ^ 32) (h .top))
+
+tagged-is : (c : Capability) → soundIfTagged c ≡ true → c .tag ≡ 1 → Sound c
+unfolding soundIfTagged tagged
+tagged-is c h t = sound-is c (rw t at h)
+
+tagged-test : (c : Capability) → (c .tag ≡ 1 → Sound c) → soundIfTagged c ≡ true
+unfolding soundIfTagged tagged
+tagged-test c f = go (eqb (c .tag) 1) refl
+  where
+    go : (b : Bool) → eqb (c .tag) 1 ≡ b → (not b || sound c) ≡ true
+    go true e = sound-test c (f (eqb-true (c .tag) 1 e))
+    go false e = refl
+
+bounds-are : (n : ℕ) (l : List ℕ) (i : ℕ) → goodBounds n l i ≡ true → (j : ℕ) → i ≤ j → j < i + n → capabilityAt l j .tag ≡ 1 → Sound (capabilityAt l j)
+unfolding goodBounds
+bounds-are zero l i h j a b t = absurd (omega arith)
+bounds-are (suc n) l i h j a b t =
+    let p = both (soundIfTagged (capabilityAt l i)) (goodBounds n l (i + 1)) h in
+    by-test (eqb j i)
+    (λ e. tagged-is (capabilityAt l j) (rw (eqb-true j i e) (p .0)) t)
+    (λ e. bounds-are n l (i + 1) (p .1) j (after j i a (eqb-false j i e)) (omega arith) t)
+
+bounds-test : (n : ℕ) (l : List ℕ) (i : ℕ) → ((j : ℕ) → i ≤ j → j < i + n → capabilityAt l j .tag ≡ 1 → Sound (capabilityAt l j)) → goodBounds n l i ≡ true
+unfolding goodBounds
+bounds-test zero l i h = refl
+bounds-test (suc n) l i h =
+    made (tagged-test (capabilityAt l i) (h i (omega arith) (omega arith))) (bounds-test n l (i + 1) (λ j a b. h j (omega arith) (omega arith)))
+
+soundness-is : (l : List ℕ) → goodBounds capabilityCount l 0 ≡ true → SoundRegisters l
+soundness-is l h i b t = bounds-are capabilityCount l 0 h i (omega arith) (omega arith) t
+
+soundness-test : (l : List ℕ) → SoundRegisters l → goodBounds capabilityCount l 0 ≡ true
+soundness-test l h = bounds-test capabilityCount l 0 (λ j a b. h j (omega arith))
+
 -- ---- the number
 
 module _ (board : Board) (revoked : List ℕ) (s : State) where
@@ -163,7 +212,7 @@ module _ (board : Board) (revoked : List ℕ) (s : State) where
   unfolding refusalOf
   refusal-is n =
       go (eqb (length (s .regs)) registerWords) refl (goodMemory board size) refl (goodWindow board size) refl (goodBits board revoked s) refl
-      (goodWords (s .regs)) refl (ltb mostSteps n) refl (goodEdition board) refl
+      (goodWords (s .regs)) refl (ltb mostSteps n) refl (goodEdition board) refl (goodBounds capabilityCount (s .regs) 0) refl
     where
       size : ℕ
       size = length (s .mem)
@@ -182,28 +231,32 @@ module _ (board : Board) (revoked : List ℕ) (s : State) where
 
       go : (a : Bool) → eqb (length (s .regs)) registerWords ≡ a → (b : Bool) → goodMemory board size ≡ b → (x : Bool) → goodWindow board size ≡ x
           → (c : Bool) → goodBits board revoked s ≡ c → (d : Bool) → goodWords (s .regs) ≡ d → (e : Bool) → ltb mostSteps n ≡ e
-          → (f : Bool) → goodEdition board ≡ f
+          → (f : Bool) → goodEdition board ≡ f → (g : Bool) → goodBounds capabilityCount (s .regs) 0 ≡ g
           → Refusal n board revoked s
-          (failIf (not a) 1 (failIf (not b) 2 (failIf (not x) 2 (failIf (not c) 3 (failIf (not d) 4 (failIf e 5 (failIf (not f) 7 0)))))))
-      go false p b q x w c r d t e u f v = bad-registers (fails _ registers-test p)
-      go true p false q x w c r d t e u f v = bad-memory (registers-are p) (fails _ (memory-test board size) q)
-      go true p true q false w c r d t e u f v = bad-window (registers-are p) (memory-is board size q) (fails _ (window-test board size) w)
-      go true p true q true w false r d t e u f v =
+          (failIf (not a) 1 (failIf (not b) 2 (failIf (not x) 2 (failIf (not c) 3 (failIf (not d) 4 (failIf e 5
+          (failIf (not f) 7 (failIf (not g) 8 0))))))))
+      go false p b q x w c r d t e u f v g y = bad-registers (fails _ registers-test p)
+      go true p false q x w c r d t e u f v g y = bad-memory (registers-are p) (fails _ (memory-test board size) q)
+      go true p true q false w c r d t e u f v g y = bad-window (registers-are p) (memory-is board size q) (fails _ (window-test board size) w)
+      go true p true q true w false r d t e u f v g y =
           bad-bits (registers-are p) (memory-is board size q) (window-is board size w) (fails _ (bits-test board revoked s) r)
-      go true p true q true w true r false t e u f v =
+      go true p true q true w true r false t e u f v g y =
           bad-words (registers-are p) (memory-is board size q) (window-is board size w) (bits-are board revoked s r) (fails _ (words-test (s .regs)) t)
-      go true p true q true w true r true t true u f v =
+      go true p true q true w true r true t true u f v g y =
           too-long (registers-are p) (memory-is board size q) (window-is board size w) (bits-are board revoked s r) (words-are (s .regs) t)
           (ltb-true mostSteps n u)
-      go true p true q true w true r true t false u false v =
+      go true p true q true w true r true t false u false v g y =
           bad-edition (registers-are p) (memory-is board size q) (window-is board size w) (bits-are board revoked s r) (words-are (s .regs) t)
           (ltb-false mostSteps n u) (fails _ (edition-test board) v)
-      go true p true q true w true r true t false u true v = none (all-good p q w r t v) (ltb-false mostSteps n u)
+      go true p true q true w true r true t false u true v false y =
+          unsound (all-good p q w r t v) (ltb-false mostSteps n u) (fails _ (soundness-test (s .regs)) y)
+      go true p true q true w true r true t false u true v true y =
+          none (all-good p q w r t v) (ltb-false mostSteps n u) (soundness-is (s .regs) y)
 
   -- and no other: its case is the only one
   pub refusal-only : (n k : ℕ) → Refusal n board revoked s k → refusalOf n board revoked s ≡ k
   unfolding refusalOf
-  refusal-only n k (none g few) =
+  refusal-only n k (none g few ok) =
       rw (
         registers-test (g .registers),
         memory-test board (length (s .mem)) (g .memory),
@@ -212,6 +265,7 @@ module _ (board : Board) (revoked : List ℕ) (s : State) where
         words-test (s .regs) (g .words),
         le-ltb mostSteps n few,
         edition-test board (g .edition),
+        soundness-test (s .regs) ok,
       )
   refusal-only n k (bad-registers h) = rw (failed _ registers-are h)
   refusal-only n k (bad-memory r h) = rw (registers-test r, failed _ (memory-is board (length (s .mem))) h)
@@ -251,13 +305,24 @@ module _ (board : Board) (revoked : List ℕ) (s : State) where
         le-ltb mostSteps n few,
         failed _ (edition-is board) h,
       )
+  refusal-only n k (unsound g few h) =
+      rw (
+        registers-test (g .registers),
+        memory-test board (length (s .mem)) (g .memory),
+        window-test board (length (s .mem)) (g .window),
+        bits-test board revoked s (g .bits),
+        words-test (s .regs) (g .words),
+        le-ltb mostSteps n few,
+        edition-test board (g .edition),
+        failed _ (soundness-is (s .regs)) h,
+      )
 
-  -- nothing is refused exactly where the buffers are good and the steps few enough
-  pub good-for : (n : ℕ) → refusalOf n board revoked s ≡ 0 → GoodState board revoked s
-  good-for n h = at (refusalOf n board revoked s) (refusal-is n) h
+  -- nothing is refused exactly where the buffers are good, the steps few enough and the registers sound
+  accepted-for : (n : ℕ) → refusalOf n board revoked s ≡ 0 → GoodState board revoked s × SoundRegisters (s .regs)
+  accepted-for n h = at (refusalOf n board revoked s) (refusal-is n) h
     where
-      at : (k : ℕ) → Refusal n board revoked s k → k ≡ 0 → GoodState board revoked s
-      at k (none g few) e = g
+      at : (k : ℕ) → Refusal n board revoked s k → k ≡ 0 → GoodState board revoked s × SoundRegisters (s .regs)
+      at k (none g few ok) e = (g, ok)
       at k (bad-registers x) e = absurd (omega arith)
       at k (bad-memory r x) e = absurd (omega arith)
       at k (bad-window r m x) e = absurd (omega arith)
@@ -265,12 +330,19 @@ module _ (board : Board) (revoked : List ℕ) (s : State) where
       at k (bad-words r m w b x) e = absurd (omega arith)
       at k (too-long r m w b d many) e = absurd (omega arith)
       at k (bad-edition r m w b d few x) e = absurd (omega arith)
+      at k (unsound g few x) e = absurd (omega arith)
+
+  pub good-for : (n : ℕ) → refusalOf n board revoked s ≡ 0 → GoodState board revoked s
+  good-for n h = accepted-for n h .0
+
+  pub sound-for : (n : ℕ) → refusalOf n board revoked s ≡ 0 → SoundRegisters (s .regs)
+  sound-for n h = accepted-for n h .1
 
   pub good-of : stepRefusal board revoked s ≡ 0 → GoodState board revoked s
   good-of h = good-for 1 h
 
-  pub of-good : GoodState board revoked s → (n : ℕ) → n ≤ mostSteps → refusalOf n board revoked s ≡ 0
-  of-good g n few = refusal-only n 0 (none g few)
+  pub of-good : GoodState board revoked s → SoundRegisters (s .regs) → (n : ℕ) → n ≤ mostSteps → refusalOf n board revoked s ≡ 0
+  of-good g ok n few = refusal-only n 0 (none g few ok)
 
   -- ---- a refused call changes nothing
 
@@ -285,14 +357,14 @@ module _ (board : Board) (revoked : List ℕ) (s : State) where
 
     -- a run is refused where a step is
     pub refused-too : (n : ℕ) → refusalOf n board revoked s ≡ 0 → ⊥
-    refused-too n h = refused (of-good (good-for n h) 1 (omega arith))
+    refused-too n h = refused (of-good (good-for n h) (sound-for n h) 1 (omega arith))
 
-    -- and with the same number, but that 5 stands before 7
+    -- and with the same number, but that 5 stands before 7 and 8
     pub refused-alike : (n : ℕ) → n ≤ mostSteps → refusalOf n board revoked s ≡ stepRefusal board revoked s
     refused-alike n few = refusal-only n (stepRefusal board revoked s) (alike (stepRefusal board revoked s) (refusal-is 1) refused)
       where
         alike : (k : ℕ) → Refusal 1 board revoked s k → (k ≡ 0 → ⊥) → Refusal n board revoked s k
-        alike k (none g one) h = absurd (h refl)
+        alike k (none g one ok) h = absurd (h refl)
         alike k (bad-registers x) h = bad-registers x
         alike k (bad-memory r x) h = bad-memory r x
         alike k (bad-window r m x) h = bad-window r m x
@@ -300,6 +372,7 @@ module _ (board : Board) (revoked : List ℕ) (s : State) where
         alike k (bad-words r m w b x) h = bad-words r m w b x
         alike k (too-long r m w b d many) h = absurd (omega arith)
         alike k (bad-edition r m w b d one x) h = bad-edition r m w b d few x
+        alike k (unsound g one x) h = unsound g few x
 
   pub refused-run : (n : ℕ) → (refusalOf n board revoked s ≡ 0 → ⊥) → runAfter n board revoked s ≡ s
   unfolding runAfter
@@ -317,4 +390,4 @@ module _ (board : Board) (revoked : List ℕ) (s : State) where
         refusal-only n 5 (too-long (g .registers) (g .memory) (g .window) (g .bits) (g .words) h)
 
     pub not-too-many : (n : ℕ) → n ≤ mostSteps → refusalOf n board revoked s ≡ 0
-    not-too-many n h = of-good (good-of good) n h
+    not-too-many n h = of-good (good-of good) (sound-for 1 good) n h

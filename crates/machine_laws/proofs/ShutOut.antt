@@ -26,8 +26,8 @@ use Rattle.machine.specs.declared.RunAnswer.{RunAnswer}
 use Rattle.machine.specs.declared.RunAnswer.the-variants as RunAnswer
 use Rattle.machine_laws.specs.Cases.{Case, boardIn, put, before, top-of-memory, untagged-load, environment-call}
 use Rattle.machine_laws.specs.Steps.{stepsAfter, retiredIn, trappedIn}
-use Rattle.machine_laws.proofs.Refusals.{refused-step, refused-too, refused-run, too-many, good-of}
-use Rattle.machine_laws.proofs.Runs.{answers-counted, run-after, run-answer, run-of-none}
+use Rattle.machine_laws.proofs.Refusals.{refused-step, refused-too, refused-run, too-many, not-too-many, good-of}
+use Rattle.machine_laws.proofs.Runs.{run-counts, run-after, run-answer, run-of-none}
 use Rattle.machine_laws.proofs.Worked.{Worked, word-at, top-worked, load-worked, call-worked}
 use Rattle.state.specs.Timer.{timeOf}
 use Rattle.machine_laws.proofs.Timer.{time-after}
@@ -94,7 +94,8 @@ module _ (board : Board) (revoked : List ℕ) (from after : State) where
     good-step-not-refused k p = true≢false (ap isRefused (p .answer-is) ∙ answer-good board revoked from good)
 
     pub good-run-not-refused : (n k : ℕ) → n ≤ mostSteps → RunPromise n board revoked from after (RunAnswer.Refused k) → ⊥
-    good-run-not-refused n k few p = true≢false (ap isRefusedRun (p .answer-is ∙ run-answer board revoked n from good few))
+    unfolding runAnswer
+    good-run-not-refused n k few p = true≢false (ap isRefusedRun (p .answer-is) ∙ rw (not-too-many board revoked from good n few))
 
 -- the promises at the start state of a worked case
 abbrev pub StepFrom : Case → (after : State) → StepAnswer → Type 0
@@ -176,7 +177,7 @@ module _ (board : Board) (revoked : List ℕ) (from after : State) where
   unfolding stepsAfter
   one-step =
       by-test (eqb (stepRefusal board revoked from) 0)
-      (λ t. run-after board revoked 1 from (eqb-true (stepRefusal board revoked from) 0 t) (omega arith))
+      (λ t. run-after board revoked 1 from (eqb-true (stepRefusal board revoked from) 0 t) (λ k a b. absurd (omega arith)) (omega arith))
       (λ t. let h = eqb-false (stepRefusal board revoked from) 0 t in
       refused-run board revoked from 1 (refused-too board revoked from h 1) ∙ sym (refused-step board revoked from h))
 
@@ -207,15 +208,23 @@ module _ (board : Board) (revoked : List ℕ) (from after : State) where
         by-test (leb n mostSteps) (leb-true n mostSteps)
         (λ t. absurd (omega (arith, not-refused, too-many board revoked from ran-good n (leb-false n mostSteps t))))
 
-    -- of every start state: the counts are those of the single steps, each with its own answer
-    pub counts-are : (retired ≡ retiredIn n board revoked from) × (trapped ≡ trappedIn n board revoked from)
+    -- of every start state: the counts are those of n steps of the definition
+    pub counts-are : (retired ≡ ranFrom n board revoked from .retired) × (trapped ≡ ranFrom n board revoked from .trapped)
+    unfolding runAnswer
     counts-are =
-        let e = p .answer-is ∙ run-answer board revoked n from ran-good ran-few in
+        let e : RunAnswer.Ran retired trapped ≡ RunAnswer.Ran (ranFrom n board revoked from .retired) (ranFrom n board revoked from .trapped) =
+        p .answer-is ∙ rw not-refused in
         (ap runRetired e, ap runTrapped e)
 
-    -- and they make up the steps that were asked for: 1 where one was
+    -- and of the single steps, each with its own answer, where no register between them is unsound
+    pub counts-of-steps : SoundBetween n board revoked from → (retired ≡ retiredIn n board revoked from) × (trapped ≡ trappedIn n board revoked from)
+    counts-of-steps between =
+        let e = p .answer-is ∙ run-answer board revoked n from ran-good between ran-few in
+        (ap runRetired e, ap runTrapped e)
+
+    -- they make up the steps that were asked for: 1 where one was
     pub counts-sum : retired + trapped ≡ n
-    counts-sum = omega (arith, counts-are .0, counts-are .1, answers-counted board revoked n from ran-good)
+    counts-sum = omega (arith, counts-are .0, counts-are .1, run-counts board revoked n (ran from 0 0))
 
     -- and time tells them
     ran-time : timeOf (from .regs) < 2 ^ 64 → timeOf (after .regs) ≡ (timeOf (from .regs) + n) % 2 ^ 64

@@ -33,18 +33,16 @@ use Rattle.system_instructions.proofs.Laws.{system-storeless}
 use Rattle.commit.specs.Touched.{SameMemory, OnlyAt, MemoryAfter}
 use Rattle.commit.proofs.Memory.{applied-memory}
 use Rattle.execution.specs.Step.{effectOf, lengthIn, seen, fetchedIn, effectAt, stepOf}
-use Rattle.machine.specs.Run.{stepRefusal}
+use Rattle.machine_laws.specs.Lent.{GoodState}
 use Rattle.machine_laws.specs.Steps.{lengthAt, standingAt, wordAt}
 use Rattle.machine_laws.specs.Memory.{FromRegister, StoredTagged}
 use Rattle.machine_laws.proofs.Fetch.{fetched-holds, next-within, next-good}
-use Rattle.machine_laws.proofs.Refusals.{good-of}
 
 -- a step changes in memory the bytes that its effect stores and the tag of their granule, and nothing else
-pub store-changes-only : (board : Board) (revoked : List ℕ) (s : State) → stepRefusal board revoked s ≡ 0
+pub store-changes-only : (board : Board) (revoked : List ℕ) (s : State) → GoodState board revoked s
     → MemoryAfter (storedBy (effectAt board revoked s)) s (stepOf board revoked s)
 unfolding stepOf
-store-changes-only board revoked s h =
-    let g = good-of board revoked s h in
+store-changes-only board revoked s g =
     applied-memory (board .start) (lengthIn (fetchedIn board s)) (effectAt board revoked s) s (omega (arith, g .bits .tag-bytes, g .memory .blocks))
     (next-within board revoked s (g .memory .start-aligned)) (next-good board revoked s (g .words .tag-words))
 
@@ -104,7 +102,7 @@ next-held board revoked s =
     (effect-held (lengthAt board s) (wordAt board s) (standingAt board s) (decodeOf (wordAt board s)) (s .regs) (seen board revoked s) refl)
 
 -- a tag that is set after a step and was not before is that of a CSC's register, stored there
-pub tag-set-only-by-CSC : (board : Board) (revoked : List ℕ) (s : State) → stepRefusal board revoked s ≡ 0
+pub tag-set-only-by-CSC : (board : Board) (revoked : List ℕ) (s : State) → GoodState board revoked s
     → (g : ℕ) → bitAt (s .tags) g ≡ 0 → bitAt (stepOf board revoked s .tags) g ≡ 1 → StoredTagged board revoked s g
 tag-set-only-by-CSC board revoked s h g before after =
     go (storedBy (effectAt board revoked s)) refl (store-changes-only board revoked s h) (next-held board revoked s)

@@ -2,6 +2,7 @@ pub mod Lent
 pub mod Window
 pub mod Editions
 pub mod Steps
+pub mod Unsound
 pub mod Memory
 pub mod Integers
 pub mod Cases
