@@ -167,7 +167,11 @@ sound-test c h = made (le-leb (low c) (high c) (h .order)) (le-leb (high c) (2 ^
 
 tagged-is : (c : Capability) → soundIfTagged c ≡ true → c .tag ≡ 1 → Sound c
 unfolding soundIfTagged tagged
-tagged-is c h t = sound-is c (rw t at h)
+tagged-is c h t = sound-is c (go (eqb (c .tag) 1) (eq-eqb (c .tag) 1 t) h)
+  where
+    go : (b : Bool) → b ≡ true → not b || sound c ≡ true → sound c ≡ true
+    go true e q = q
+    go false e q = absurd (true≢false (sym e))
 
 tagged-test : (c : Capability) → (c .tag ≡ 1 → Sound c) → soundIfTagged c ≡ true
 unfolding soundIfTagged tagged

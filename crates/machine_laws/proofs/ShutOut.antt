@@ -25,7 +25,7 @@ use Rattle.machine.specs.declared.StepAnswer.the-variants.{Retired, Trapped, Re
 use Rattle.machine.specs.declared.RunAnswer.{RunAnswer}
 use Rattle.machine.specs.declared.RunAnswer.the-variants as RunAnswer
 use Rattle.machine_laws.specs.Cases.{Case, boardIn, put, before, top-of-memory, untagged-load, environment-call}
-use Rattle.machine_laws.specs.Steps.{stepsAfter, retiredIn, trappedIn}
+use Rattle.machine_laws.specs.Steps.{stepsAfter, retiredIn, trappedIn, SoundBetween}
 use Rattle.machine_laws.proofs.Refusals.{refused-step, refused-too, refused-run, too-many, not-too-many, good-of}
 use Rattle.machine_laws.proofs.Runs.{run-counts, run-after, run-answer, run-of-none}
 use Rattle.machine_laws.proofs.Worked.{Worked, word-at, top-worked, load-worked, call-worked}

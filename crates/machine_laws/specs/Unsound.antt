@@ -36,7 +36,7 @@ one place address metadata tag low high number =
 
 unfoldable pub ones : List One
 ones =
-    -- the whole space, and the last byte but one to its end
+    -- the whole space, and its last byte
     one 1 0 0x7E3E0000 1 0 0x100000000 0
     ∷ one 1 0xFFFFFFFF 0x7E0001FF 1 0xFFFFFFFF 0x100000000 0
     -- an end one past the space
