@@ -79,6 +79,5 @@ refusalOf n board revoked s =
     (failIf (not (goodBits board revoked s)) 3
     (failIf (not (goodWords (s .regs))) 4
     (failIf (ltb mostSteps n) 5
-    (failIf (not (goodEdition board)) 7
-    (failIf (not (goodBounds capabilityCount (s .regs) 0)) 8
+    (failIf (not (goodEdition board)) 7 (failIf (not (goodBounds capabilityCount (s .regs) 0)) 8
     0)))))))
