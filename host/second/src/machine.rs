@@ -1,6 +1,6 @@
 //! The machine: lent state and its refusals, fetch, every instruction, traps, a step and a
-//! run (document 01, "What is lent", "Answers" and "Traps"; document 02, 5, 6 and 8; the CHERIoT report, 7
-//! and 9).
+//! run (document 01, "What is lent", "Answers" and "Traps"; document 02, 5, 6, 8 and 13; the CHERIoT report,
+//! 7 and 9).
 
 #[cfg(test)]
 mod tests;
@@ -159,6 +159,13 @@ fn integer(value: u32) -> Capability {
         address: value,
         ..NULL
     }
+}
+
+/// Whether a tagged capability has low at most high at most 2^32; of an untagged one nothing is asked
+/// (document 02, 13).
+fn is_sound(value: Capability) -> bool {
+    let (low, high) = bounds(value.address, value.metadata);
+    value.tag == 0 || (u64::from(low) <= high && high <= capability::SPACE)
 }
 
 /// A capability as it passes through MTCC or MEPCC: low address bits cleared by the address-move
@@ -925,6 +932,10 @@ pub fn run(
     }
     if machine.edition > LATER {
         return answer(7, 0, 0);
+    }
+    // What a step loads later on is not asked again.
+    if !(0..CAPABILITIES).all(|place| is_sound(machine.capability(place))) {
+        return answer(8, 0, 0);
     }
     let mut retired = 0;
     for _ in 0..steps {

@@ -229,11 +229,18 @@ fn the_end_of_the_space() {
         long.halves(&[LONG]);
         long.trap_in_place(28, 1024 + 1);
     }
-    // A PCC whose high is 511 * 2^24, above 2^32: the second half is outside memory then.
-    let mut beyond = bench.clone();
-    beyond.set(PCC, tagged(0xFFFF_FFFE, 0x5E3C_0000 | 511 << 9));
-    beyond.halves(&[LONG]);
-    beyond.trap_in_place(1, 0);
+    // A PCC whose high is 511 * 2^24, above 2^32: the second half is outside memory then. No start has
+    // such a PCC (document 02, 13): CLC loads it, CJALR jumps there.
+    let beyond = tagged(0xFFFF_FFFE, 0x5E3C_0000 | 511 << 9);
+    bench.set(PCC, tagged(0xFFFF_FFFE, EXECUTABLE_ROOT));
+    bench.halves(&[LONG]);
+    bench.set(PCC, tagged(bench.start, EXECUTABLE_ROOT));
+    bench.set(1, tagged(bench.start, MEMORY_ROOT));
+    bench.put(64, beyond);
+    bench.program(&[asm::load(3, 2, 1, 64), asm::cjalr(0, 2, 0)]);
+    assert_eq!(bench.run(3), TRAPPED + 2);
+    assert_eq!((bench.regs[MCAUSE], bench.regs[MTVAL]), (1, 0));
+    assert_eq!(bench.get(MEPCC), beyond);
 }
 
 // A jump's target needs two bytes in bounds, in an odd place of four too.

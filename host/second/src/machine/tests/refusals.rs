@@ -1,7 +1,8 @@
-//! Document 01, "Answers": each refusal, the lowest number first, nothing changed.
+//! Document 01, "Answers", and document 02, 13: each refusal, the lowest number first, nothing changed.
 
 use super::bench::*;
 use crate::assemble as asm;
+use crate::capability::{bounds, Capability, SPACE};
 use crate::machine;
 use crate::sample::Sample;
 use lent::{Board, Window};
@@ -150,6 +151,95 @@ fn refusal_5() {
     refused(Bench::new(), u32::MAX, 5);
 }
 
+/// Tagged, with low 2^24 above high; no encoding has it nearer.
+const LOW_ABOVE_HIGH: Capability = Capability {
+    address: 0x0500_0000,
+    metadata: 0x7E3C_0000 | 4 << 9 | 5,
+    tag: 1,
+};
+
+/// Whether low is at most high at most 2^32.
+fn is_sound(value: Capability) -> bool {
+    let (low, high) = bounds(value.address, value.metadata);
+    u64::from(low) <= high && high <= SPACE
+}
+
+fn is_sound_or_untagged(value: Capability) -> bool {
+    value.tag == 0 || is_sound(value)
+}
+
+// 8: low above high in a tagged register, any of the 21 but c0, which is zero; sealed ones too. Untagged
+// it is not refused.
+#[test]
+fn refusal_8() {
+    assert_eq!(
+        bounds(0x0500_0000, LOW_ABOVE_HIGH.metadata),
+        (5 << 24, 4 << 24)
+    );
+    for place in 1..21 {
+        for stored_type in [0, 1, 7] {
+            let value = sealed(LOW_ABOVE_HIGH, stored_type);
+            refused(with(|b| b.set(place, value)), 1, 8);
+            refused(with(|b| b.set(place, value)), 0, 8);
+            refused(with(|b| b.set(place, value)), 1_000_000, 8);
+            let mut lent = with(|b| b.set(place, untagged(value)));
+            assert_eq!(lent.run(0), 0);
+        }
+    }
+}
+
+// The end of the space is a high that is not refused, one byte or one unit more is.
+#[test]
+fn refusal_8_past_the_space() {
+    let last_byte = 0x7E00_01FF;
+    for (address, metadata, high, number) in [
+        (!0, last_byte, SPACE, 0),
+        (!0, last_byte | 1 << 9, SPACE + 1, 8),
+        (0, MEMORY_ROOT, SPACE, 0),
+        (0, MEMORY_ROOT | 1 << 9, SPACE + (1 << 24), 8),
+        (0, 0x7E00_0000 | 16 << 9 | 8, 2 * SPACE - 496, 8),
+    ] {
+        let value = tagged(address, metadata);
+        assert_eq!(bounds(address, metadata).1, high);
+        assert_eq!(with(|b| b.set(9, value)).run(0), number << 48);
+    }
+}
+
+// 8 comes after every other number.
+#[test]
+fn refusal_8_is_the_last() {
+    let mut bench = with(|b| b.set(20, LOW_ABOVE_HIGH));
+    refused(bench.clone(), 1, 8);
+    bench.edition = 2;
+    refused(bench.clone(), 1, 7);
+    refused(bench.clone(), 1_000_001, 5);
+    bench.regs[5] = 2;
+    refused(bench.clone(), 1_000_001, 4);
+    bench.revoked.clear();
+    refused(bench.clone(), 1, 3);
+    bench.start = 1;
+    refused(bench.clone(), 1, 2);
+    bench.regs.pop();
+    refused(bench, 1, 1);
+}
+
+// Memory is not searched: a run loads such a value and goes on; the call after it is refused.
+#[test]
+fn a_run_goes_on_with_what_it_loads() {
+    let mut bench = with(|b| {
+        b.set(1, tagged(START, MEMORY_ROOT));
+        b.put(64, LOW_ABOVE_HIGH);
+        b.program(&[asm::load(3, 2, 1, 64), asm::addi(5, 0, 3)]);
+    });
+    let mut single = bench.clone();
+    assert_eq!(bench.run(2), 2);
+    assert_eq!(bench.get(2), LOW_ABOVE_HIGH);
+    assert_eq!(bench.get(3), integer(5));
+    refused(bench, 1, 8);
+    assert_eq!(single.step(), RETIRED);
+    refused(single, 1, 8);
+}
+
 // Of several numbers the lowest.
 #[test]
 fn the_lowest_number_wins() {
@@ -202,8 +292,10 @@ fn random_bench(sample: &mut Sample) -> Bench {
             1 => START + (sample.word() & 0xFC),
             _ => START + (sample.word() & 0x1F8),
         };
-        bench.set(place, tagged(address, metadata));
-        bench.regs[3 * place + 2] = u32::from(!sample.word().is_multiple_of(8));
+        let value = tagged(address, metadata);
+        bench.set(place, value);
+        let wanted = !sample.word().is_multiple_of(8);
+        bench.regs[3 * place + 2] = u32::from(wanted && is_sound(value));
     }
     bench.set(PCC, tagged(START + (sample.word() & 0xFC), EXECUTABLE_ROOT));
     bench.mem.fill_with(|| sample.word() as u8);
@@ -224,24 +316,47 @@ fn random_bench(sample: &mut Sample) -> Bench {
     bench
 }
 
-// A run is its single steps, one after another, counted. And what is lent stays good: c0 zero, tag
-// words 0 or 1.
+// A run is its single steps, one after another, counted, where no register between them is unsound; else
+// the single steps end there (document 02, 13). And what is lent stays good: c0 zero, tag words 0 or 1.
 #[test]
 fn a_run_is_its_steps() {
     let mut sample = Sample(31);
+    let mut ended = 0;
     for _ in 0..3_000 {
         let mut whole = random_bench(&mut sample);
+        if sample.word().is_multiple_of(16) {
+            whole.set(1, tagged(START, MEMORY_ROOT));
+            whole.put(64, LOW_ABOVE_HIGH);
+            whole.program(&[asm::load(3, 2, 1, 64)]);
+        }
         let mut single = whole.clone();
         let steps = sample.word() % 40;
         let together = whole.run(steps);
-        let apart: u64 = (0..steps).map(|_| single.step()).sum();
-        assert_eq!(together, apart);
-        assert_eq!(whole, single);
+        let sound = |bench: &Bench| {
+            (0..21)
+                .map(|place| bench.get(place))
+                .all(is_sound_or_untagged)
+        };
+        let mut apart = 0;
+        let made = (0..steps).take_while(|_| {
+            let sound = sound(&single);
+            let answer = single.step();
+            assert_eq!(answer >> 48 == 8, !sound);
+            apart += if sound { answer } else { 0 };
+            sound
+        });
+        let made = made.count() as u64;
+        ended += u32::from(made < steps.into());
+        if made == steps.into() {
+            assert_eq!(together, apart);
+            assert_eq!(whole, single);
+        }
         let (trapped, retired) = (together >> 24, together & 0xFF_FFFF);
         assert_eq!(trapped + retired, u64::from(steps));
         assert_eq!(whole.regs[..3], [0, 0, 0]);
         assert!((0..21).all(|place| whole.regs[3 * place + 2] <= 1));
     }
+    assert!((100..300).contains(&ended), "{ended}");
 }
 
 // Any slices of any length: an answer and no panic.
@@ -266,6 +381,6 @@ fn any_slices() {
         };
         let steps = sample.word() % 3;
         let answer = machine::run(&mut regs, board, &mut mem, &mut tags, &revoked, steps);
-        assert!(matches!(answer >> 48, 0..=4 | 7));
+        assert!(matches!(answer >> 48, 0..=4 | 7 | 8));
     }
 }
