@@ -6,15 +6,6 @@ use crate::random::Random;
 use second::capability::{bounds, move_address, set_bounds, with_type};
 use second::Capability;
 
-/// An executable capability whose high is above 2^32 (T above 256 with exponent 24), at an address.
-pub fn beyond(random: &mut Random, address: u32) -> Capability {
-    let metadata = root(0b101111, address).metadata & !(0x1FF << 9);
-    Capability {
-        metadata: metadata | (257 + random.below(255)) << 9,
-        ..root(0b101111, address)
-    }
-}
-
 /// The kinds of rights, by the rows of document 01's table.
 #[derive(Clone, Copy, PartialEq, Eq)]
 pub enum Rights {

@@ -1,11 +1,9 @@
 //! The cases of the machine comparison. Most are one step of an instruction, each class as often
 //! as another, from a state made to reach what it can do; the rest are programs, states that are
-//! anything, and buffers that are refused.
+//! anything, runs that load what no start may hold, and buffers that are refused.
 
 use crate::aims;
-use crate::capabilities::{
-    anything, around, beyond, register, root, sealed, tight, wide, Layout, Rights,
-};
+use crate::capabilities::{anything, around, register, root, sealed, tight, wide, Layout, Rights};
 use crate::mark;
 use crate::operands::near_miss;
 use crate::programs;
@@ -14,6 +12,7 @@ use crate::refusals;
 use crate::rows::{Aim, Row, Table};
 use crate::state::{lend, Call, Case};
 use crate::timer;
+use crate::unsound;
 use lent::{instruction_bytes, State, Window, CAPABILITIES, MOST_MEMORY, WORDS};
 use lent::{MCAUSE, MEPCC, MSCRATCHC, MSTATUS, MTCC, MTDC, MTVAL, PCC};
 use second::capability::{move_address, narrow, SR};
@@ -23,14 +22,17 @@ use second::Capability;
 pub fn make(table: &Table, seed: u64, number: u64, case: &mut Case) {
     let mut random = Random::new(seed, number);
     case.state.edition = random.below(2);
-    match random.below(100) {
-        0..=2 => {
-            single(table, &mut random, case);
-            refusals::spoil(&mut random, case);
-        }
+    let kind = random.below(100);
+    match kind {
         3 | 4 => wild(&mut random, case),
         5..=8 => programs::make(table, &mut random, case),
         _ => single(table, &mut random, case),
+    }
+    refusals::settle(&mut case.state);
+    match kind {
+        0..=2 => refusals::spoil(&mut random, case),
+        9..=14 => unsound::bring(&mut random, case),
+        _ => {}
     }
 }
 
@@ -130,7 +132,7 @@ pub fn program_counter(random: &mut Random, layout: Layout) -> Capability {
 /// A PCC that fails one check of the fetch.
 fn spoilt_counter(random: &mut Random, layout: Layout, pcc: Capability) -> Capability {
     let elsewhere = layout.address(random);
-    match random.below(9) {
+    match random.below(8) {
         0 => Capability { tag: 0, ..pcc },
         1 => sealed(pcc, random.below(8)),
         2 => {
@@ -144,7 +146,6 @@ fn spoilt_counter(random: &mut Random, layout: Layout, pcc: Capability) -> Capab
             address: elsewhere,
             ..tight(random, Rights::Executable, pcc.address, 4)
         },
-        7 => beyond(random, pcc.address),
         _ => anything(random),
     }
 }

@@ -8,11 +8,13 @@ use crate::filter::{self, PLACES, QUESTIONS};
 use crate::instructions::{BOUNDS, EXECUTE, FETCH_ACCESS, FETCH_MISALIGNED, ILLEGAL, SEAL, TAG};
 use crate::machines::second;
 use crate::mark::{self, CSR_SOURCES, STORE_PLACES};
-use crate::refusals::{memory_allowed, reasons, window_faults, NUMBERS, REASONS, WINDOW_FAULTS};
+use crate::refusals::{
+    memory_allowed, reasons, unsound_places, window_faults, NUMBERS, REASONS, WINDOW_FAULTS,
+};
 use crate::rows::{Aim, Outcome, Row, Table, COLUMNS, EXTREMES};
 use crate::state::{as_second, Call, Case};
 use crate::timer::{Times, TURNS};
-use lent::{instruction_bytes, Answer, State, MCAUSE, MTVAL, PCC};
+use lent::{instruction_bytes, place_name, Answer, State, CAPABILITIES, MCAUSE, MTVAL, PCC};
 use lent::{COMPARE, MIE, MSHWM, MSTATUS, TIME, TIMER_INTERRUPT};
 use second::capability::{has, in_bounds, is_sealed, EX};
 use std::fmt::Write;
@@ -31,7 +33,7 @@ const HALVES: [u32; 12] = [
 const PAIRS: usize = EXTREMES.len() * EXTREMES.len();
 
 /// What a bad window comes with: nothing, another reason, or memory that is refused by the same number.
-const WITH: [&str; 7] = [
+const WITH: [&str; 8] = [
     "alone",
     "with reason 1",
     "with memory's own limits",
@@ -39,6 +41,17 @@ const WITH: [&str; 7] = [
     "with reason 4",
     "with reason 5",
     "with reason 7",
+    "with reason 8",
+];
+
+/// Where the step before the last left what no start may hold, and whether the last one retired.
+const UNSOUND: [&str; 6] = [
+    "unsound in a general register, then a trap",
+    "unsound in a general register, then a step that retired",
+    "unsound in PCC, then a trap",
+    "unsound in PCC, then a step that retired",
+    "unsound in a special register, then a trap",
+    "unsound in a special register, then a step that retired",
 ];
 
 /// Kinds of runs.
@@ -76,6 +89,9 @@ pub struct Coverage {
     /// Windows that break one limit, with nothing else or with each other reason.
     windows: [[u64; WITH.len()]; WINDOW_FAULTS.len()],
     runs: [u64; RUNS.len()],
+    unsound: [u64; UNSOUND.len()],
+    /// Register files with one thing that no start may hold, by its place.
+    unsound_starts: [u64; CAPABILITIES],
     lengths: [u64; LENGTHS.len()],
     /// Steps by their time, and what an interrupt came before: a failed fetch, by column, or an instruction.
     times: Times,
@@ -152,6 +168,8 @@ fn name(outcome: Outcome) -> String {
 /// What a failed fetch can be, and one of a second half.
 const FETCH: [Outcome; 6] = [TAG, SEAL, EXECUTE, BOUNDS, FETCH_MISALIGNED, FETCH_ACCESS];
 const SECOND_HALF: [Outcome; 2] = [BOUNDS, FETCH_ACCESS];
+/// No start has a PCC with a high above 2^32; runs that load one are among the halves.
+const SECOND_HALF_AT_TOP: [Outcome; 1] = [BOUNDS];
 /// The address of the last half of the address space.
 const LAST_HALF: u32 = 0xFFFF_FFFE;
 
@@ -171,6 +189,8 @@ impl Coverage {
             refused_also: [[0; NUMBERS]; NUMBERS],
             windows: [[0; WITH.len()]; WINDOW_FAULTS.len()],
             runs: [0; RUNS.len()],
+            unsound: [0; UNSOUND.len()],
+            unsound_starts: [0; CAPABILITIES],
             lengths: [0; LENGTHS.len()],
             times: Times::default(),
             interrupts: [0; COLUMNS],
@@ -197,6 +217,9 @@ impl Coverage {
                 self.lengths[length] += 1;
             }
             self.count_window(case, reasons);
+            if let (8, [place]) = (lowest, &unsound_places(&case.state)[..]) {
+                self.unsound_starts[*place] += 1;
+            }
             return self.count_refusal(lowest, reasons);
         }
         let retired = answer.retired;
@@ -207,6 +230,9 @@ impl Coverage {
             Call::Run(steps) => {
                 if steps == 2 {
                     self.count_turn(table, &case.state, after);
+                }
+                if matches!(steps, 2 | 3) {
+                    self.count_unsound(&case.state, steps, retired);
                 }
                 self.count_run(&case.state, steps, retired);
             }
@@ -241,6 +267,21 @@ impl Coverage {
         }
     }
 
+    /// Counts a short run by what its last step but one left.
+    fn count_unsound(&mut self, before: &State, steps: u32, retired: u64) {
+        let mut between = before.clone();
+        let earlier = Answer::of(second(&mut between, Call::Run(steps - 1)));
+        let last = usize::from(retired > earlier.retired);
+        for place in unsound_places(&between) {
+            let kind = match place {
+                0..PCC => 0,
+                PCC => 2,
+                _ => 4,
+            };
+            self.unsound[kind + last] += 1;
+        }
+    }
+
     fn count_refusal(&mut self, number: usize, reasons: [bool; NUMBERS]) {
         self.refused[number] += 1;
         for (count, also) in self.refused_also[number].iter_mut().zip(reasons) {
@@ -254,10 +295,11 @@ impl Coverage {
         let [fault] = faults[..] else {
             return;
         };
-        let [_, one, _, three, four, five, _, seven] = reasons;
-        let others = [one, !memory_allowed(&case.state), three, four, five, seven];
+        let [_, one, _, three, four, five, _, seven, eight] = reasons;
+        let memory = !memory_allowed(&case.state);
+        let others = [one, memory, three, four, five, seven, eight];
         let counts = &mut self.windows[fault];
-        counts[0] += u64::from(others == [false; 6]);
+        counts[0] += u64::from(others == [false; 7]);
         for (count, also) in counts[1..].iter_mut().zip(others) {
             *count += u64::from(also);
         }
@@ -394,7 +436,7 @@ impl Coverage {
             ("fetch of a second half", &SECOND_HALF, &self.second_half),
             (
                 "fetch of one at 2^32",
-                &SECOND_HALF,
+                &SECOND_HALF_AT_TOP,
                 &self.second_half_at_top,
             ),
         ]
@@ -454,8 +496,21 @@ impl Coverage {
         for (kind, &count) in RUNS.iter().zip(&self.runs) {
             cells.push((kind.to_string(), count));
         }
+        cells.extend(self.unsound_cells());
         cells.extend(self.timer_cells());
         cells.extend(self.mark_cells(table));
+        cells
+    }
+
+    /// The cells of what no start may hold: where it stood between two steps, and in starts that are refused.
+    fn unsound_cells(&self) -> Vec<(String, u64)> {
+        let between = UNSOUND.iter().zip(&self.unsound);
+        let mut cells: Vec<_> = between
+            .map(|(kind, &count)| (kind.to_string(), count))
+            .collect();
+        for (place, &count) in self.unsound_starts.iter().enumerate().skip(1) {
+            cells.push((format!("refused 8 for {} alone", place_name(place)), count));
+        }
         cells
     }
 
@@ -579,7 +634,9 @@ impl Coverage {
         for (kind, count) in RUNS.iter().zip(&self.runs) {
             let _ = writeln!(text, "{kind}   {count}");
         }
-        for (cell, count) in self.timer_cells().iter().chain(&self.mark_cells(table)) {
+        let marks = self.mark_cells(table);
+        let cells = self.unsound_cells().into_iter().chain(self.timer_cells());
+        for (cell, count) in cells.chain(marks) {
             let _ = writeln!(text, "{cell}   {count}");
         }
         let _ = writeln!(
@@ -653,7 +710,10 @@ fn followed(state: &State, steps: u32) -> [bool; 3] {
         seen[1] |= interrupted && undisturbed;
         undisturbed |= !interrupted;
         let mark = now.register(MSHWM);
-        second(&mut now, Call::Step);
+        if Answer::of(second(&mut now, Call::Step)).number != 0 {
+            // A register is unsound: the run goes on, single steps do not.
+            break;
+        }
         seen[2] |= stores && now.register(MSHWM) < mark;
     }
     seen

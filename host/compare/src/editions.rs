@@ -5,8 +5,8 @@
 use crate::machines::{Both, Differing, Machine};
 use crate::state::{Call, Case};
 use lent::{
-    Answer, Capability, State, EXECUTABLE_ROOT, LATER_EDITION, MEMORY_ROOT, MOST_STEPS, MSTATUS,
-    MTCC, MTVAL, PCC, REPORT_EDITION,
+    Answer, Capability, State, EXECUTABLE_ROOT, LATER_EDITION, MEMORY_ROOT, MEPCC, MOST_STEPS,
+    MSTATUS, MTCC, MTVAL, PCC, REPORT_EDITION,
 };
 use std::fmt;
 
@@ -125,7 +125,7 @@ pub struct Totals {
     taken: [[[u64; 8]; 3]; 2],
     shut: [[[u64; 8]; 3]; 2],
     /// By the number of the answer.
-    refused: [u64; 8],
+    refused: [u64; 9],
     faults: Vec<String>,
 }
 
@@ -150,7 +150,7 @@ impl Totals {
                 }
             }
         }
-        for number in [1, 2, 3, 4, 5, 7] {
+        for number in [1, 2, 3, 4, 5, 7, 8] {
             if self.refused[number] == 0 {
                 faults.push(format!("not reached: refusal {number}"));
             }
@@ -217,7 +217,7 @@ impl fmt::Display for Totals {
             "with an offset {}, not executable {}, untagged {}, to a place by PCC {}",
             self.with_offset, self.data, self.untagged, self.near
         )?;
-        for number in [1, 2, 3, 4, 5, 7] {
+        for number in [1, 2, 3, 4, 5, 7, 8] {
             write!(text, "refused {number}: {}  ", self.refused[number])?;
         }
         write!(text, "\n{} cases", self.cases)
@@ -241,11 +241,15 @@ fn jump_case(edition: u32, status: u32, jump: Jump, target: Capability) -> Case 
     }
 }
 
-/// The case of another edition, with those of the reasons 1 to 5 that the bits tell.
+/// The case of another edition, with those of the reasons 1 to 5 that the bits tell, and the sixth for 8.
 fn refused_case(edition: u32, reasons: u32, call: Call) -> Case {
     let wanted = |reason: u32| reasons >> (reason - 1) & 1 == 1;
     let mut case = jump_case(edition, 8, Jump::Near { cd: 1 }, Capability::integer(0));
     case.call = call;
+    if wanted(6) {
+        let unsound = Capability::tagged(0, EXECUTABLE_ROOT | 1 << 9);
+        case.state.set(MEPCC, unsound);
+    }
     if wanted(4) {
         case.state.regs[5] = 2;
     }
@@ -286,7 +290,7 @@ fn settings() -> Vec<(u32, u32)> {
 fn refusals() -> Vec<(u32, u32)> {
     let editions = OTHERS.into_iter().chain(EDITIONS);
     editions
-        .flat_map(|edition| (0..32).map(move |reasons| (edition, reasons)))
+        .flat_map(|edition| (0..64).map(move |reasons| (edition, reasons)))
         .collect()
 }
 

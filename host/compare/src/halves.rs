@@ -2,15 +2,15 @@
 //! at both alignments and at each edge that a fetch has. A case is one half at one edge with one kind
 //! of registers; a round has each once.
 
-use crate::capabilities::{
-    beyond, integer, region, register, root, sealed, sentry, wide, Layout, Rights,
-};
+use crate::capabilities::{integer, region, register, root, sealed, sentry, wide, Layout, Rights};
 use crate::cases::{fill, fill_registers};
 use crate::machines::{Both, Differing, Machine};
 use crate::random::Random;
+use crate::refusals;
 use crate::rows::{Form, Table};
 use crate::state::{lend, Call, Case};
 use crate::timer;
+use crate::unsound;
 use lent::{instruction_bytes, Answer, State, MCAUSE, MTVAL, PCC};
 use second::capability::move_address;
 use second::Capability;
@@ -27,7 +27,7 @@ enum Edge {
     /// In the last two bytes of memory, inside PCC's bounds.
     Memory,
     /// In the last two bytes of the address space: PCC the root, or cut to memory, or with a high
-    /// above 2^32.
+    /// above 2^32, which a run has to load and to jump by.
     TopRoot,
     TopCut,
     TopBeyond,
@@ -67,6 +67,9 @@ const REGISTERS: [Registers; 5] = [
     Registers::Spoilt,
     Registers::Numbers,
 ];
+
+/// The address of the last half of the address space.
+const LAST_HALF: u32 = 0xFFFF_FFFE;
 
 const HALVES: u64 = 1 << 16;
 const COMBINATIONS: u64 = (EDGES.len() * REGISTERS.len()) as u64;
@@ -113,6 +116,10 @@ fn make(seed: u64, number: u64, case: &mut Case) {
     state.set(PCC, lend(pcc));
     state.write(pcc.address, &about.half.to_le_bytes());
     case.call = Call::Step;
+    refusals::settle(state);
+    if about.edge == Edge::TopBeyond {
+        unsound::jump(random, LAST_HALF, case);
+    }
 }
 
 /// Memory with room behind it, or at the end of the address space.
@@ -178,9 +185,8 @@ fn counter(random: &mut Random, layout: Layout, edge: Edge) -> Capability {
             let length = layout.size + random.pick([8, 64]);
             region(random, Rights::Executable, layout.start, length)
         }
-        Edge::TopRoot => root(0b101111, place),
+        Edge::TopRoot | Edge::TopBeyond => root(0b101111, place),
         Edge::TopCut => region(random, Rights::Executable, layout.start, layout.size),
-        Edge::TopBeyond => beyond(random, place),
     };
     move_address(code, place)
 }
@@ -215,7 +221,10 @@ impl<'a> Totals<'a> {
     /// Counts a case, what was left after it, and the answer.
     fn count(&mut self, number: u64, before: &State, after: &State, answer: u64) {
         let About { half, edge, .. } = About::of(number);
-        let place = before.capability(PCC).address;
+        let place = match edge {
+            Edge::TopBeyond => LAST_HALF,
+            _ => before.capability(PCC).address,
+        };
         let answer = Answer::of(answer);
         self.retired += answer.retired;
         self.trapped += answer.trapped;

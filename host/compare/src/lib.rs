@@ -38,6 +38,7 @@ pub mod state;
 pub mod sweeps;
 pub mod timer;
 pub mod told;
+pub mod unsound;
 
 use options::Options;
 use std::fmt::Debug;

@@ -1,18 +1,25 @@
-//! Buffers that are refused (document 01, "Answers"; document 02, 5 and 8): each reason in each of its
+//! Buffers that are refused (document 01, "Answers"; document 02, 5, 8 and 13): each reason in each of its
 //! ways, and several reasons at once.
 
+use crate::held::Authority;
 use crate::random::Random;
-use crate::state::{Call, Case};
+use crate::state::{as_second, lend, Call, Case};
+use crate::unsound;
 use lent::{State, Window, BLOCK, CAPABILITIES, LATER_EDITION, MOST_MEMORY, MOST_STEPS, WORDS};
 
 /// Breaks a good case in one way, or in several at once.
 pub fn spoil(random: &mut Random, case: &mut Case) {
     let reasons = if random.one_in(2) {
-        1 << random.below(6)
+        1 << random.below(7)
     } else {
-        1 + random.below(63)
+        1 + random.below(127)
     };
     let wanted = |reason: u32| reasons >> (reason - 1) & 1 == 1;
+    // Reason 6 is none of a step's: the sixth here is 7, the seventh 8.
+    if wanted(7) {
+        let place = 1 + random.below(CAPABILITIES as u32 - 1);
+        case.state.set(place as usize, lend(unsound::value(random)));
+    }
     if wanted(4) {
         spoil_words(random, &mut case.state);
     }
@@ -37,7 +44,6 @@ pub fn spoil(random: &mut Random, case: &mut Case) {
         let steps = random.pick([MOST_STEPS + 1, MOST_STEPS + 2, 1 << 24, 1 << 31, u32::MAX]);
         case.call = Call::Run(steps);
     }
-    // Reason 6 is none of a step's: the sixth here is 7.
     if wanted(6) {
         case.state.edition = random.pick([2, 2, 3, 7, 0x100, 0x8000_0000, u32::MAX]);
     }
@@ -128,6 +134,27 @@ fn spoil_words(random: &mut Random, state: &mut State) {
     }
 }
 
+/// The places of the register file that hold what no start may: tagged, with low above high or high above
+/// 2^32 (document 02, 13).
+pub fn unsound_places(state: &State) -> Vec<usize> {
+    let unsound = |&place: &usize| match state.regs.get(3 * place..3 * place + 3) {
+        Some(words) => words[2] == 1 && !is_sound(state, place),
+        None => false,
+    };
+    (0..CAPABILITIES).filter(unsound).collect()
+}
+
+fn is_sound(state: &State, place: usize) -> bool {
+    Authority::of(as_second(state.capability(place))).is_sound()
+}
+
+/// Takes the tags of all that no start may hold.
+pub fn settle(state: &mut State) {
+    for place in unsound_places(state) {
+        state.regs[3 * place + 2] = 0;
+    }
+}
+
 /// The limits of a window, as they are broken.
 pub const WINDOW_FAULTS: [&str; 3] = [
     "start is no multiple of 64",
@@ -154,10 +181,10 @@ pub fn memory_allowed(state: &State) -> bool {
 }
 
 /// The numbers of the reasons that there are to refuse a case; 0 and 6 are none.
-pub const REASONS: [usize; 6] = [1, 2, 3, 4, 5, 7];
+pub const REASONS: [usize; 7] = [1, 2, 3, 4, 5, 7, 8];
 
 /// How many numbers there are, with those that are none.
-pub const NUMBERS: usize = 8;
+pub const NUMBERS: usize = 9;
 
 /// Which of the reasons there are to refuse a case.
 pub fn reasons(case: &Case) -> [bool; NUMBERS] {
@@ -178,5 +205,6 @@ pub fn reasons(case: &Case) -> [bool; NUMBERS] {
         matches!(case.call, Call::Run(steps) if steps > MOST_STEPS),
         false,
         state.edition > LATER_EDITION,
+        !unsound_places(state).is_empty(),
     ]
 }
