@@ -9,12 +9,13 @@ mod sweep;
 use crate::arguments::{Cap, Command, Cut, Explain};
 use crate::capability_text::{length, region, rights, type_words};
 use crate::names::Names;
-use crate::proved::{self, Refusal};
+use crate::probe;
+use crate::proved::{self, Refusal, UNSOUND};
 use crate::sheet::Bad;
 use crate::stack::Stack;
 use crate::trap::Trap;
 use crate::{complain, file, json, report, state_file, Status};
-use lent::{Capability, State};
+use lent::{place_name, Capability, State};
 use serde_json::Value;
 use std::io::{ErrorKind, Write};
 use std::path::Path;
@@ -58,6 +59,28 @@ fn refused(refusal: Refusal, as_json: bool) -> Result<Status, String> {
     refused_by(refusal.0, refusal.reason(), as_json)
 }
 
+/// Says that a run of a state was refused; for an unsound one also by which registers, with their bounds.
+fn refused_state(refusal: Refusal, state: &State, as_json: bool) -> Result<Status, String> {
+    if refusal != UNSOUND {
+        return refused(refusal, as_json);
+    }
+    let places = probe::unsound(state);
+    if as_json {
+        say_json(&json::refused_registers(refusal, state, &places))?;
+    }
+    let shown = |&place: &usize| {
+        let bounds = proved::bounds(state.capability(place));
+        format!("{} {}", place_name(place), region(bounds))
+    };
+    let shown: Vec<String> = places.iter().map(shown).collect();
+    let (number, reason) = (refusal.0, refusal.reason());
+    complain(&format!(
+        "refused, number {number}: {reason}: {}",
+        shown.join(", ")
+    ));
+    Ok(Status::Refused)
+}
+
 /// Says that something was refused, by which number and why.
 fn refused_by(number: u64, reason: &str, as_json: bool) -> Result<Status, String> {
     if as_json {
@@ -87,7 +110,7 @@ fn explained(asked: &Explain) -> Result<Status, String> {
     let names = map.map_or(Names::default(), |map| Names(map.names()));
     let mut state = read_state(&asked.state)?;
     if let Err(refusal) = proved::run(&mut state, 0) {
-        return refused(refusal, asked.json);
+        return refused_state(refusal, &state, asked.json);
     }
     let trap = Trap::recorded(&state);
     if asked.json {

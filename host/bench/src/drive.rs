@@ -1,12 +1,14 @@
 //! A run of any number of steps by calls of at most 1,000,000, up to the exact step that traps or
 //! from which on nothing changes.
 
+mod origin;
 #[cfg(test)]
 mod tests;
 
 use crate::proved::{self, Counts, Refusal, MOST_STEPS};
 use crate::sweep;
 use lent::{State, COMPARE, MIE, MSTATUS, TIME};
+use origin::Origin;
 
 /// Why a run ended.
 #[derive(Clone, PartialEq, Eq, Debug)]
@@ -52,19 +54,23 @@ pub fn run(state: &mut State, plan: Plan) -> Result<Outcome, Refusal> {
     let most = plan.call.clamp(1, MOST_STEPS);
     let (mut left, mut call) = (plan.steps, 1);
     let mut swept = Swept::default();
+    let mut origin = Origin::default();
     while left > 0 {
-        let steps = left.min(call).min(until_sweep(&plan, counts));
-        let before = state.clone();
-        let made = proved::run(state, steps)?;
+        let steps = left.min(call).min(origin.room());
+        let steps = steps.min(until_sweep(&plan, counts));
+        let (before, earlier) = (state.clone(), origin.clone());
+        let made = origin.run(state, steps)?;
         let wanted = (plan.watch)(&before, state, made);
-        if stops(state, made, plan.through_traps, left - steps)? {
+        if stops((state, &origin), made, plan.through_traps, left - steps)? {
             *state = before;
-            let (counts, end) = first_stop(state, (steps, left), plan.through_traps, counts)?;
+            let at = (state, earlier);
+            let (counts, end) = first_stop(at, (steps, left), plan.through_traps, counts)?;
             return Ok(Outcome { counts, end, swept });
         }
         if steps == until_sweep(&plan, counts) {
             swept.passes += 1;
             swept.tags += sweep::pass(state, |_| ())?.len() as u64;
+            origin.forget();
         }
         counts = sum(counts, made);
         left = if wanted { left - steps } else { 0 };
@@ -86,15 +92,20 @@ fn until_sweep(plan: &Plan, made: Counts) -> u64 {
 /// Whether a run stops at the latest after steps with these counts, which left this state and so many
 /// steps to make. What stops a run stops every longer one, so that the first such step can be searched for by
 /// halves.
-fn stops(state: &State, made: Counts, through_traps: bool, left: u64) -> Result<bool, Refusal> {
-    Ok((made.trapped > 0 && !through_traps) || is_still(state, left)?)
+fn stops(
+    at: (&State, &Origin),
+    made: Counts,
+    through_traps: bool,
+    left: u64,
+) -> Result<bool, Refusal> {
+    Ok((made.trapped > 0 && !through_traps) || is_still(at, left)?)
 }
 
 /// Whether a step retires and changes time alone; then no further step changes anything else either, unless
 /// the timer interrupts among those that are left.
-fn is_still(state: &State, left: u64) -> Result<bool, Refusal> {
+fn is_still((state, origin): (&State, &Origin), left: u64) -> Result<bool, Refusal> {
     let mut next = state.clone();
-    let made = proved::run(&mut next, 1)?;
+    let made = origin.clone().run(&mut next, 1)?;
     next.set_long(TIME, state.long(TIME));
     Ok(made.retired == 1 && next == *state && !interrupts_within(state, left))
 }
@@ -108,26 +119,26 @@ fn interrupts_within(state: &State, steps: u64) -> bool {
 /// Makes the steps up to and with the first one that stops the run, which is among the next `steps` of those
 /// that are `left`.
 fn first_stop(
-    state: &mut State,
+    (state, mut origin): (&mut State, Origin),
     (mut steps, mut left): (u64, u64),
     through_traps: bool,
     mut counts: Counts,
 ) -> Result<(Counts, End), Refusal> {
     while steps > 1 {
         let half = steps / 2;
-        let mut trial = state.clone();
-        let made = proved::run(&mut trial, half)?;
-        if stops(&trial, made, through_traps, left - half)? {
+        let (mut trial, mut tried) = (state.clone(), origin.clone());
+        let made = tried.run(&mut trial, half)?;
+        if stops((&trial, &tried), made, through_traps, left - half)? {
             steps = half;
         } else {
-            *state = trial;
+            (*state, origin) = (trial, tried);
             counts = sum(counts, made);
             steps -= half;
             left -= half;
         }
     }
     let before = Box::new(state.clone());
-    let made = proved::run(state, 1)?;
+    let made = origin.run(state, 1)?;
     let end = if made.trapped > 0 && !through_traps {
         End::Trap(before)
     } else {

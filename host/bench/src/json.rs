@@ -9,7 +9,7 @@ use crate::listing::Part;
 use crate::memory_rows::rows;
 use crate::names::Names;
 use crate::proved::sheets::{Record, NEITHER};
-use crate::proved::{bounds, instruction, Region};
+use crate::proved::{bounds, instruction, Refusal, Region};
 use crate::sheet::{letters, Bad};
 use crate::stack::{Stack, Used};
 use crate::sweep::{self, Went};
@@ -71,6 +71,17 @@ pub fn explained(state: &State, trap: Option<&Trap>, names: &Names) -> Value {
 
 pub fn refused(number: u64, reason: &str) -> Value {
     json!({ "refused": { "number": number, "reason": reason } })
+}
+
+/// A start refused for its registers, each with its bounds.
+pub fn refused_registers(refusal: Refusal, state: &State, places: &[usize]) -> Value {
+    let registers = places.iter().map(|&place| {
+        let bounds = region(bounds(state.capability(place)));
+        json!({ "name": place_name(place), "bounds": bounds })
+    });
+    let mut value = refused(refusal.0, refusal.reason());
+    value["refused"]["registers"] = registers.collect();
+    value
 }
 
 /// The parts of an image with their words.

@@ -1,15 +1,15 @@
 //! Questions that the proved machine answers by executing one instruction on a scratch state: the
-//! rights and the type of a capability, the address that an access or a jump asks for, and what the
-//! revocation bits say of a low bound.
+//! rights and the type of a capability, the address that an access or a jump asks for, what the
+//! revocation bits say of a low bound, and which registers no start may hold.
 
 #[cfg(test)]
 mod tests;
 
-use crate::proved;
+use crate::proved::{self, UNSOUND};
 use crate::request::Request;
 use lent::{
-    instruction_bytes, Capability, Revocation, State, EXECUTABLE_ROOT, MCAUSE, MEMORY_ROOT,
-    MSTATUS, MTVAL, PCC,
+    instruction_bytes, Capability, Revocation, State, CAPABILITIES, EXECUTABLE_ROOT, MCAUSE,
+    MEMORY_ROOT, MSTATUS, MTVAL, PCC,
 };
 
 // The field of a long word that a probe puts in place.
@@ -106,6 +106,18 @@ pub fn revocation(state: &State, low: u32) -> Revocation {
         true if kept(vec![0xFF; state.revoked.len()]) => Revocation::Outside,
         true => Revocation::Clear,
     }
+}
+
+/// The places of the registers for which a start is refused: with every other tag cleared it still is.
+pub fn unsound(state: &State) -> Vec<usize> {
+    let alone = |&place: &usize| {
+        let mut scratch = state.clone();
+        for other in (0..CAPABILITIES).filter(|&other| other != place) {
+            scratch.regs[3 * other + 2] = 0;
+        }
+        proved::run(&mut scratch, 0) == Err(UNSOUND)
+    };
+    (0..CAPABILITIES).filter(alone).collect()
 }
 
 /// The target of a jump by a register whose authority is at `address`.

@@ -24,6 +24,9 @@ pub struct Counts {
 #[derive(Clone, Copy, PartialEq, Eq, Debug)]
 pub struct Refusal(pub u64);
 
+/// The refusal of a start with an unsound register (document 02, 13).
+pub const UNSOUND: Refusal = Refusal(8);
+
 impl Refusal {
     /// The reason (document 01, "Answers").
     pub fn reason(self) -> &'static str {
@@ -41,6 +44,7 @@ impl Refusal {
             5 => "a run asks more than 1,000,000 steps",
             6 => "the request ends past 2^32",
             7 => "the edition is neither 0, the report, nor 1, the later one",
+            8 => "a tagged register has low above high, or high above 2^32",
             9 => "no granule of memory has the number",
             _ => "a number that document 01 does not have",
         }

@@ -4,7 +4,14 @@ mod common;
 
 use common::state::{text, with_code};
 use common::{bench_in, directory, golden, shell_in};
-use lent::State;
+use lent::{Capability, State, MEPCC};
+
+/// Low is 2^24 above high.
+const LOW_ABOVE_HIGH: Capability = Capability {
+    address: 0x0500_0000,
+    metadata: 0x7E3C_0805,
+    tag: 1,
+};
 
 /// A state that is refused, by name.
 fn states() -> Vec<(&'static str, State)> {
@@ -24,6 +31,17 @@ fn states() -> Vec<(&'static str, State)> {
         ("4, tag word", changed(|state| state.regs[5] = 2)),
         ("4, c0", changed(|state| state.regs[0] = 1)),
         ("7, edition", changed(|state| state.edition = 2)),
+        (
+            "8, low above high",
+            changed(|state| state.set(5, LOW_ABOVE_HIGH)),
+        ),
+        (
+            "8, high above 2^32",
+            changed(|state| {
+                state.set(MEPCC, Capability::tagged(0xFFFF_FFFF, 0x5E00_03FF));
+                state.set(15, LOW_ABOVE_HIGH);
+            }),
+        ),
         (
             "lowest first",
             changed(|state| {
@@ -101,6 +119,34 @@ fn refusals_are_json_too() {
     let answer = bench_in(&directory, &["cut", "0xffffffff", "2", "--json"]);
     assert_eq!(answer.status, 2);
     assert_eq!(answer.json()["refused"]["number"], 6);
+}
+
+#[test]
+fn an_unsound_register_is_named_in_json() {
+    let directory = directory("refused_unsound");
+    let mut state = with_code(&[0x13]);
+    state.set(5, LOW_ABOVE_HIGH);
+    std::fs::write(directory.join("start"), text(&state)).unwrap();
+    for arguments in [
+        &["run", "--state", "start", "--json"][..],
+        &["explain", "start", "--json"],
+    ] {
+        let answer = bench_in(&directory, arguments);
+        assert_eq!(answer.status, 2);
+        let json = answer.json();
+        let refused = &json["refused"];
+        assert_eq!(refused["number"], 8);
+        let registers = refused["registers"].as_array().unwrap();
+        assert_eq!(registers.len(), 1);
+        assert_eq!(registers[0]["name"], "c5");
+        assert_eq!(registers[0]["bounds"]["low"], 0x0500_0000);
+        assert_eq!(registers[0]["bounds"]["high"], 0x0400_0000);
+    }
+    // Untagged it may start.
+    state.regs[3 * 5 + 2] = 0;
+    std::fs::write(directory.join("start"), text(&state)).unwrap();
+    let answer = bench_in(&directory, &["run", "--state", "start", "--steps", "1"]);
+    assert_eq!(answer.status, 0, "{}", answer.err);
 }
 
 #[test]

@@ -1,7 +1,7 @@
 //! `bench run`: the start state, the run, what is said and saved at the end.
 
 use super::fit::{rows, verdict, Beside, Board, Labelled};
-use super::{read_state, refused, say, say_json};
+use super::{read_state, refused_state, say, say_json};
 use crate::arguments::Run;
 use crate::drive::{self, End, Outcome, Plan};
 use crate::edition::Edition;
@@ -40,7 +40,7 @@ pub fn run(asked: Run) -> Result<Status, String> {
     let (mut state, images) = start(&asked, &files, map)?;
     set_words(&asked, stack, &mut state);
     if let Err(refusal) = proved::run(&mut state, 0) {
-        return refused(refusal, asked.json);
+        return refused_state(refusal, &state, asked.json);
     }
     image::load(&mut state, &images.segments)?;
     let mut names = map.map_or(Vec::new(), Sheet::names);
@@ -54,7 +54,7 @@ pub fn run(asked: Run) -> Result<Status, String> {
         say(&labels_told(&asked, &labelled, &fits))
     };
     match drive(&asked, &mut state) {
-        Err(refusal) => refused(refusal, asked.json),
+        Err(refusal) => refused_state(refusal, &state, asked.json),
         Ok(outcome) => {
             // What cannot be said is saved nevertheless, and what cannot be saved is said.
             let said = conclude(&asked, &state, &outcome, (&names, stack), &fits);

@@ -1,7 +1,8 @@
 //! Runs in calls against runs step by step.
 
 use super::*;
-use lent::{Capability, COMPARE, MCAUSE, MIE, MSTATUS, PCC, TIME, TIMER_INTERRUPT};
+use crate::proved::UNSOUND;
+use lent::{Capability, COMPARE, MCAUSE, MEMORY_ROOT, MIE, MSTATUS, PCC, TIME, TIMER_INTERRUPT};
 
 const EBREAK: u32 = 0x0010_0073;
 const JUMP_TO_ITSELF: u32 = 0x0000_006F;
@@ -231,4 +232,56 @@ fn a_refused_run_changes_nothing() {
     let refused = run(&mut state, plan(100, false, &mut |_, _, _| true));
     assert_eq!(refused, Err(Refusal(4)));
     assert_eq!(state, before);
+}
+
+/// The same, but for a first word that loads a value with low above high into c2.
+fn loading(rounds: u32, last: u32) -> State {
+    let mut state = counting(rounds, last);
+    let start = state.start;
+    let code: Vec<u8> = state.mem[..12].to_vec();
+    state.write(start + 4, &code);
+    // CLC c2, 32(c1)
+    state.write(start, &0x0200_B103u32.to_le_bytes());
+    state.write_capability(start + 32, Capability::tagged(0x0500_0000, 0x7E3C_0805));
+    state.set(1, Capability::tagged(start, MEMORY_ROOT));
+    state
+}
+
+#[test]
+fn a_run_goes_on_with_what_no_start_may_hold() {
+    for (rounds, last, trapped) in [
+        (1, EBREAK, 1),
+        (37, JUMP_TO_ITSELF, 0),
+        (400_000, EBREAK, 1),
+    ] {
+        for call in [1, 7, MOST_STEPS] {
+            if call < 10 && rounds > 100 {
+                continue;
+            }
+            let mut state = loading(rounds, last);
+            let mut together = state.clone();
+            let mut watch = |_: &State, _: &State, _: Counts| true;
+            let mut asked = plan(u64::MAX, false, &mut watch);
+            asked.call = call;
+            let outcome = run(&mut state, asked).unwrap();
+            let steps = 2 * u64::from(rounds) + 1;
+            assert_eq!(outcome.counts, counts(steps, trapped));
+            proved::run(&mut together, steps + trapped).unwrap();
+            assert_eq!(state, together);
+            assert_eq!(proved::run(&mut state, 1), Err(UNSOUND));
+        }
+    }
+}
+
+#[test]
+fn such_a_run_ends_a_million_steps_on_or_at_a_sweep() {
+    let mut state = loading(3_000_000, EBREAK);
+    let refused = run(&mut state, plan(u64::MAX, false, &mut |_, _, _| true));
+    assert_eq!(refused, Err(UNSOUND));
+    let mut state = loading(100, EBREAK);
+    let mut watch = |_: &State, _: &State, _: Counts| true;
+    let mut swept = plan(u64::MAX, false, &mut watch);
+    swept.sweep = Some(30);
+    assert_eq!(run(&mut state, swept), Err(UNSOUND));
+    assert_eq!(crate::probe::unsound(&state), [2]);
 }
