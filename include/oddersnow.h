@@ -78,8 +78,10 @@ uint32_t oddersnow_calls(uint32_t address, uint32_t metadata, uint32_t tag,
  *      its limits
  *   3  tags_len is not mem_len / 64, or revoked_len is not window_size / 64
  *   7  edition is not 0 or 1
+ *   8  a capability of regs with its tag set, sealed or not, has low above high, or high above 2^32
  *
- * and the lowest wins. Where it is not 0, nothing is changed and both counts are 0.
+ * and the lowest wins. Where it is not 0, nothing is changed and both counts are 0. Memory is not searched for 8, and a
+ * run goes on where a step loads such a value; a call that starts with it in a register is refused.
  *
  * Time is one more after each step, whatever the step did, and 0 after 2^64 - 1. Where at the start of a step MIE is 1
  * and compare not above time, the step is the timer interrupt and nothing else: it traps with mcause 0x80000007, mtval 0.
