@@ -39,7 +39,7 @@ def expected(n):
     label = "none" if kind in (94, 95) else "fits"
     used = FRAME * (floors + 1)
     # The mark stands at the lowest store of a frame, the floor's, 16 bytes above its end; a frame that has no room stores nothing.
-    return (label, "trapped", STACK) if used > STACK else (label, "ended", used - 16)
+    return (label, "trapped", STACK - 16) if used > STACK else (label, "ended", used - 16)
 
 
 def image(n, body):

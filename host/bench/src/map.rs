@@ -55,6 +55,8 @@ pub struct Map {
     pub changed: Vec<u64>,
     pub row: u64,
     pub trap: Vec<Shape>,
+    /// Whether there was a run, so that its columns are drawn.
+    pub ran: bool,
 }
 
 impl Map {
@@ -156,9 +158,13 @@ impl Map {
             (CHANGED, "changed"),
             (TRAP, "trap"),
         ];
-        let heads =
-            named.map(|((x, width), text)| json!({ "x": number(x + width / 2.0), "text": text }));
-        let lanes = named.map(|((x, width), _)| json!({ "x": number(x), "width": number(width) }));
+        let shown = &named[..if self.ran { named.len() } else { 2 }];
+        let heads = shown
+            .iter()
+            .map(|((x, width), text)| json!({ "x": number(x + width / 2.0), "text": text }));
+        let lanes = shown.iter();
+        let lanes =
+            lanes.map(|((x, width), _)| json!({ "x": number(*x), "width": number(*width) }));
         json!({
             "width": number(WIDTH), "height": number(TOP + height + 24.0), "span": number(height),
             "top": number(TOP), "bottom": number(TOP + height), "foot": number(TOP + height + 16.0),
@@ -169,7 +175,7 @@ impl Map {
             ],
             "left": self.labels(&left, BOARD.0 - 16.0),
             "right": self.labels(&self.right(), TRAP.0 + TRAP.1 + 22.0),
-            "heads": heads, "columns": lanes, "row": self.row,
+            "heads": heads.collect::<Vec<Value>>(), "columns": lanes.collect::<Vec<Value>>(), "row": self.row,
         })
     }
 }

@@ -27,6 +27,9 @@ pub const LAST: u64 = 24;
 /// The most parts of an image that are drawn: as many as a sheet has regions.
 const MOST_PARTS: usize = 64;
 
+/// How many times the board's size the picture goes past the board.
+const FAR: u64 = 4;
+
 const TEMPLATES: [(&str, &str); 8] = [
     ("page.html", include_str!("page/page.html")),
     ("page.css", include_str!("page/page.css")),
@@ -229,7 +232,12 @@ fn parts(subject: &Subject) -> Vec<Shape> {
     let labelled = labelled.map(|placed| {
         let rights = format!(" {}", letters(placed.region.rights));
         let range = (placed.region.start.into(), placed.region.end());
-        Shape::new(range, &placed.region.name, &rights, "part")
+        let kind = if placed.place.is_ok() {
+            "part"
+        } else {
+            "amiss"
+        };
+        Shape::new(range, &placed.region.name, &rights, kind)
     });
     let labelled: Vec<Shape> = labelled.collect();
     if !labelled.is_empty() {
@@ -240,17 +248,24 @@ fn parts(subject: &Subject) -> Vec<Shape> {
     loaded.collect()
 }
 
+/// The addresses that are drawn: memory, or where nothing was run the board and what is wanted of it, unless that is so
+/// far off that the board could not be seen.
+fn span(subject: &Subject, answer: &Answer) -> Option<(u64, u64)> {
+    if let Answer::Ran { account, .. } = answer {
+        return Some((account.state.start.into(), account.state.end()));
+    }
+    let (start, size) = subject.board.as_ref()?.1.span()?;
+    let (start, end) = (u64::from(start), u64::from(start) + size);
+    let parts = parts(subject);
+    let low = parts.iter().map(|part| part.low).min().unwrap_or(start);
+    let high = parts.iter().map(|part| part.high).max().unwrap_or(end);
+    let room = (start.saturating_sub(FAR * size), end + FAR * size);
+    Some((low.clamp(room.0, start), high.clamp(end, room.1)))
+}
+
 /// The picture; none where there is neither a board nor a run.
 fn map(subject: &Subject, answer: &Answer) -> Value {
-    let span = match answer {
-        Answer::Ran { account, .. } => Some((account.state.start.into(), account.state.end())),
-        _ => subject
-            .board
-            .as_ref()
-            .and_then(|(_, sheet)| sheet.span())
-            .map(|(start, size)| (u64::from(start), u64::from(start) + size)),
-    };
-    let Some((low, high)) = span else {
+    let Some((low, high)) = span(subject, answer) else {
         return Value::Null;
     };
     let mut image = parts(subject);
@@ -268,6 +283,7 @@ fn map(subject: &Subject, answer: &Answer) -> Value {
         account, before, ..
     } = answer
     {
+        map.ran = true;
         map.stack = stack(account);
         map.changed = changes::rows(before, account.state, map.row);
         map.trap = account.trap.as_ref().map_or(Vec::new(), trap_shapes);
