@@ -7,8 +7,9 @@ check "bench builds for pages" ./bench --version || exit 1
 bench=$PWD/host/bench/target/release/bench
 page() { python3 tests/page.py "$@"; }
 
+small=(run --map examples/interlock_small.map examples/interlock_small.hex examples/interlock_image.hex)
 small_page() {
-  "$bench" run --map examples/interlock_small.map examples/interlock_small.hex examples/interlock_image.hex --report "$work/small.html" >"$work/small.txt"
+  "$bench" "${small[@]}" --report "$work/small.html" >"$work/small.txt"
   [ $? -eq 1 ] && page alone "$work/small.html"
 }
 
@@ -22,11 +23,10 @@ says_the_report() { # after small_page
 
 # The last steps on the page are the last lines of the trace, and what changed is what a comparison of saved states says.
 says_the_trace() { # after small_page
-  local run=(run --map examples/interlock_small.map examples/interlock_small.hex examples/interlock_image.hex)
-  "$bench" "${run[@]}" --trace --json 2>"$work/trace" >"$work/json"
+  "$bench" "${small[@]}" --trace --json 2>"$work/trace" >"$work/json"
   mapfile -t lines < <(tail -n 24 "$work/trace")
   [ "${#lines[@]}" -eq 24 ] && page says "$work/small.html" "${lines[@]}" || return 1
-  "$bench" "${run[@]}" --steps 0 --save "$work/before" >/dev/null && "$bench" "${run[@]}" --save "$work/after" >/dev/null
+  "$bench" "${small[@]}" --steps 0 --save "$work/before" >/dev/null && "$bench" "${small[@]}" --save "$work/after" >/dev/null
   python3 - "$work/before" "$work/after" <<'PYTHON'
 import sys
 def memory(path):
@@ -39,25 +39,28 @@ def memory(path):
             rows[int(words[0], 16)] = bytes.fromhex(words[1])
     return rows
 one, two = map(memory, sys.argv[1:])
-rows = set(one) | set(two)
-print(sum(a != b for row in rows for a, b in zip(one.get(row, bytes(32)), two.get(row, bytes(32)))))
-sys.exit(0 if sum(a != b for row in rows for a, b in zip(one.get(row, bytes(32)), two.get(row, bytes(32)))) == 196 else 1)
+none = bytes(32)
+pairs = [pair for row in set(one) | set(two) for pair in zip(one.get(row, none), two.get(row, none))]
+differ = sum(a != b for a, b in pairs)
+print(differ)
+sys.exit(differ != 196)
 PYTHON
 }
 
 same_with_json() { # after small_page: the page does not depend on the form of the rest
-  "$bench" run --json --map examples/interlock_small.map examples/interlock_small.hex examples/interlock_image.hex --report "$work/again.html" >"$work/json"
+  "$bench" "${small[@]}" --json --report "$work/again.html" >"$work/json"
   [ $? -eq 1 ] && cmp "$work/small.html" "$work/again.html"
 }
 
 large_page() {
-  "$bench" run --map examples/interlock_large.map examples/interlock_large.hex examples/interlock_image.img --report "$work/large.html" --sweep 100 >/dev/null &&
-    page alone "$work/large.html" && page says "$work/large.html" "It ran to its end without a trap." "Label of examples/interlock_image.img" "in interlock" \
-    "Memory was swept" "PassClaim" "fits-inside"
+  local run=(run --map examples/interlock_large.map examples/interlock_large.hex examples/interlock_image.img --sweep 100)
+  "$bench" "${run[@]}" --report "$work/large.html" >/dev/null && page alone "$work/large.html" &&
+    page says "$work/large.html" "It ran to its end without a trap." "Label of examples/interlock_image.img" "in interlock" \
+      "Memory was swept" PassClaim fits-inside
 }
 
 misfit_page() {
-  "$bench" run --map examples/interlock_small.map examples/interlock_small.hex examples/interlock_image.img --report "$work/misfit.html" >/dev/null 2>&1
+  "$bench" "${small[@]/%image.hex/image.img}" --report "$work/misfit.html" >/dev/null 2>&1
   [ $? -eq 2 ] && page alone "$work/misfit.html" && page says "$work/misfit.html" "It does not fit the board, and was not run." \
     "no: stack is too short by 6,144 bytes" "stack [20000480, 20002000) rw"
 }
@@ -75,8 +78,8 @@ places() {
 }
 
 # Files and functions with hostile names: the page has the elements of one with plain names, and shows the names written out.
-hostile=('<script>alert(1)</script>' '"><img src=x onerror=alert(1)>' "'\"&amp;&lt;" $'new\nline\ttab\x1b[31m\x7f' $'\u202egnp.exe\u2066\u200b' '</title></style></pre>'
-  '{{ title }}{% raw %}' "$(printf 'long%.0s' {1..60})" $'\xff\xfe' '-->' ']]>' 'javascript:alert(1)')
+hostile=('<script>alert(1)</script>' '"><img src=x onerror=alert(1)>' "'\"&amp;&lt;" $'new\nline\ttab\x1b[31m\x7f'
+  $'\u202egnp.exe\u2066\u200b' '</title></style></pre>' '{{ title }}{% raw %}' "$(printf 'long%.0s' {1..60})" $'\xff\xfe' '-->' ']]>' 'javascript:alert(1)')
 hostile_names() {
   local name file number=0
   mkdir -p "$work/names" && python3 tests/page.py elf "$work/plain.elf" plain
@@ -86,10 +89,11 @@ hostile_names() {
     file=$work/names/$(printf '%s' "$name" | tr / _)
     python3 tests/page.py elf "$file" "$(printf '%s' "$name" | iconv -c -f utf-8 -t utf-8)"
     "$bench" run --report "$work/hostile$number.html" -- "$file" >/dev/null 2>&1
-    page alone "$work/hostile$number.html" && page same "$work/plain.html" "$work/hostile$number.html" || { printf 'name %q\n' "$name"; return 1; }
+    page alone "$work/hostile$number.html" && page same "$work/plain.html" "$work/hostile$number.html" ||
+      { printf 'name %q\n' "$name"; return 1; }
   done
-  page says "$work/hostile1.html" '<script>alert(1)<_script>' 'byte 0 of <script>alert(1)</script>' && page says "$work/hostile4.html" 'new\nline\ttab\u{1b}[31m\u{7f}' &&
-    page says "$work/hostile5.html" '\u{202e}gnp.exe\u{2066}\u{200b}'
+  page says "$work/hostile1.html" '<script>alert(1)<_script>' 'byte 0 of <script>alert(1)</script>' &&
+    page says "$work/hostile4.html" 'new\nline\ttab\u{1b}[31m\u{7f}' && page says "$work/hostile5.html" '\u{202e}gnp.exe\u{2066}\u{200b}'
 }
 long_name() {
   python3 tests/page.py elf "$work/long.elf" "$(printf 'x%.0s' {1..100000})" && "$bench" run "$work/long.elf" --report "$work/long.html" >/dev/null
@@ -108,7 +112,8 @@ named_facts() {
 
 # The browser's own answers. Its messages of a console would stand on standard error.
 browser() { # OPTIONS..
-  timeout 60 chromium --headless --no-sandbox --disable-gpu --hide-scrollbars --disable-dev-shm-usage --user-data-dir="$work/profile" --enable-logging=stderr --v=0 "$@" 2>"$work/browser"
+  timeout 60 chromium --headless --no-sandbox --disable-gpu --hide-scrollbars --disable-dev-shm-usage --user-data-dir="$work/profile" \
+    --enable-logging=stderr --v=0 "$@" 2>"$work/browser"
 }
 quiet() { ! grep -E 'CONSOLE|Refused to|SyntaxError' "$work/browser"; }
 browser_text() {
@@ -125,7 +130,8 @@ browser_hostile() {
 browser_picture() {
   browser --window-size=1000,1200 --screenshot="$work/small.png" "file://$work/small.html" && quiet &&
     page pixels "$work/small.png" dfe7f1 10000 cfe3d4 500 e9d9a8 1000 6b4b8a 1000 e2efe5 1000 c22a2a 1000 ffffff 100000 &&
-    browser --window-size=1000,1200 --screenshot="$work/misfit.png" "file://$work/misfit.html" && page pixels "$work/misfit.png" f6d5d5 5000 dfe7f1 1000
+    browser --window-size=1000,1200 --screenshot="$work/misfit.png" "file://$work/misfit.html" &&
+    page pixels "$work/misfit.png" f6d5d5 5000 dfe7f1 1000
 }
 browser_catches() { # a page that is not as it should be is seen
   sed 's/<h1>/<h1><script>console.error("seen")<\/script>/; s/<meta http-equiv[^>]*>//' "$work/small.html" >"$work/wrong.html"
@@ -134,11 +140,12 @@ browser_catches() { # a page that is not as it should be is seen
     browser --window-size=1000,1200 --screenshot="$work/blank.png" about:blank && ! page pixels "$work/blank.png" dfe7f1 10000 2>/dev/null
 }
 paper() {
-  browser --no-pdf-header-footer --print-to-pdf="$work/small.pdf" "file://$work/small.html" && pdftotext -layout "$work/small.pdf" - | tr -d '[:space:]' >"$work/small.paper" &&
+  browser --no-pdf-header-footer --print-to-pdf="$work/small.pdf" "file://$work/small.html" &&
+    pdftotext -layout "$work/small.pdf" - | tr -d '[:space:]' >"$work/small.paper" &&
     [ "$(pdfinfo "$work/small.pdf" | sed -n 's/^Pages: *//p')" -le 6 ] || return 1
   local text
-  for text in "store outside the bounds of c2" "[20000480, 20000800), 896 bytes of c2; the request starts 8 bytes below them" "365  2000010c  fe113c23  csc 2 1 -8" "MScratchC" \
-    "RunPromise" "stack [20000480, 20000800) rw"; do
+  for text in "store outside the bounds of c2" "[20000480, 20000800), 896 bytes of c2; the request starts 8 bytes below them" \
+    "365  2000010c  fe113c23  csc 2 1 -8" "MScratchC" "RunPromise" "stack [20000480, 20000800) rw"; do
     grep -qF "$(tr -d '[:space:]' <<<"$text")" "$work/small.paper" || { echo "no '$text' on paper"; return 1; }
   done
 }

@@ -7,7 +7,8 @@ source "$(dirname "$0")/lib/check.sh"
 check "bench builds for shelves" ./bench --version || exit 1
 bench=$PWD/host/bench/target/release/bench
 page() { python3 tests/page.py "$@"; }
-shelf() { "$bench" shelf --board examples/interlock_large.map --with examples/interlock_large.hex --steps 20000 "$@"; }
+large=(--board examples/interlock_large.map --with examples/interlock_large.hex)
+shelf() { "$bench" shelf "${large[@]}" --steps 20000 "$@"; }
 python3 tests/shelf_images.py "$work/images" 400
 
 rows_expected() {
@@ -64,15 +65,23 @@ unlabelled() {
 # Broken and hostile files stand in rows of their own, and the good one is as good as ever.
 broken_files() {
   local folder=$work/broken
-  mkdir -p "$folder/folder" && cp examples/interlock_image.img "$folder/good.img" && ln -s nowhere "$folder/link" && : >"$folder/none" && mkfifo "$folder/pipe" &&
-    cp examples/interlock_image.img "$folder/<script>alert(1)<script>" && cp examples/interlock_image.img "$folder/"$'new\nline\x1b[31m\u202e' &&
-    cp examples/interlock_image.img "$folder/"$'\xff' && cp examples/interlock_image.img "$folder/"$'\xfe' && head -c 4000 /dev/urandom >"$folder/noise" &&
+  mkdir -p "$folder/folder" && cp examples/interlock_image.img "$folder/good.img" && ln -s nowhere "$folder/link" && : >"$folder/none" &&
+    mkfifo "$folder/pipe" && cp examples/interlock_image.img "$folder/<script>alert(1)<script>" &&
+    cp examples/interlock_image.img "$folder/"$'new\nline\x1b[31m\u202e' && cp examples/interlock_image.img "$folder/"$'\xff' &&
+    cp examples/interlock_image.img "$folder/"$'\xfe' && head -c 4000 /dev/urandom >"$folder/noise" &&
     head -c 150 examples/interlock_image.img >"$folder/short.img"
   shelf "$folder" --report "$work/broken.pages" >"$work/broken.txt" 2>"$work/err"
   [ $? -eq 1 ] && [ ! -s "$work/err" ] && [ "$(wc -l <"$work/broken.txt")" -eq 12 ] || return 1
   grep -q '^good.img  *fits  *ended  *676  *1,296 of 7,040$' "$work/broken.txt" && grep -q '^link  *bad  *not run  *No such file' "$work/broken.txt" &&
     grep -qF '\xff ' "$work/broken.txt" && grep -qF 'new\nline\u{1b}[31m\u{202e} ' "$work/broken.txt" && ! grep -q $'\x1b' "$work/broken.txt" &&
     page alone "$work"/broken.pages/*.html && [ "$(page links "$work/broken.pages/index.html")" = 9 ]
+}
+
+# The table that host/bench/README.md shows is what the demonstration's images come to on the small board.
+readme_shows() {
+  mkdir -p "$work/shown" && cp examples/interlock_image.hex examples/interlock_image.img "$work/shown"
+  "$bench" shelf "$work/shown" --board examples/interlock_small.map --with examples/interlock_small.hex >"$work/shown.txt"
+  sed -n '/^    image  .*  why$/,/^    2 images:/{s/^    //;p;}' host/bench/README.md | diff - "$work/shown.txt"
 }
 
 at_hand() { sed -n 's/^bench: \([0-9]*\) of [0-9]* results were at hand$/\1/p' "$1"; }
@@ -83,14 +92,16 @@ again() { # RESULTS EXPECTED [COMMAND..]: how many results are at hand, and that
   [ "$(at_hand "$work/err")" = "$expected" ] || { echo "not $expected at hand:"; cat "$work/err"; return 1; }
 }
 other_board() { "$bench" shelf --board "$work/other.map" --with examples/interlock_large.hex --steps 20000 "$@"; }
-other_program() { "$work/bench" shelf --board examples/interlock_large.map --with examples/interlock_large.hex --steps 20000 "$@"; }
-steps_alone() { "$bench" shelf --board examples/interlock_large.map --with examples/interlock_large.hex --steps 20001 "$@"; }
+other_with() { "$bench" shelf --board examples/interlock_large.map --with "$work/other.hex" --steps 20000 "$@"; }
+other_steps() { "$bench" shelf "${large[@]}" --steps 20001 "$@"; }
+other_program() { "$work/bench" shelf "${large[@]}" --steps 20000 "$@"; }
 
 # Results are taken up where nothing has changed, and made anew where the image, the board, the steps or the program has, or where
 # the line was damaged.
 made_anew() {
   local results=$work/results
-  cp -r "$work/images" "$work/copy" && (sed 's/boot/book/' examples/interlock_large.map >"$work/other.map") && { cat "$bench"; echo; } >"$work/bench" && chmod +x "$work/bench"
+  cp -r "$work/images" "$work/copy" && sed 's/boot/book/' examples/interlock_large.map >"$work/other.map" &&
+    { cat examples/interlock_large.hex; echo; } >"$work/other.hex" && { cat "$bench"; echo; } >"$work/bench" && chmod +x "$work/bench"
   again "$results" "" && cmp "$work/again.txt" "$work/one.txt" && again "$results" 400 && cmp "$work/again.txt" "$work/one.txt" || return 1
   printf '\0' >>"$work/copy/image-00007.img" && again "$results" 399 && again "$results" 400 && cp "$work/images/image-00007.img" "$work/copy" || return 1
   again "$results" 399 && cmp "$work/again.txt" "$work/one.txt" || return 1
@@ -98,7 +109,7 @@ made_anew() {
   rm "$work/copy/image-00003.img" && again "$results" 399 && cp "$work/images/image-00003.img" "$work/copy" && again "$results" 399 || return 1
   cp "$results" "$work/kept"
   local other
-  for other in other_board steps_alone other_program; do
+  for other in other_board other_with other_steps other_program; do
     cp "$work/kept" "$results" && again "$results" "" "$other" && again "$results" 400 "$other" || { echo "$other"; return 1; }
   done
 }
@@ -113,12 +124,28 @@ pages_anew() { # after any_jobs: a page that is gone or was changed is made agai
   [ "$(at_hand "$work/err")" = 398 ] && diff -r "$work/pages1" "$work/pages" && cmp "$work/again.txt" "$work/one.txt"
 }
 
+# How many steps an image that never ends makes in so many seconds, here and now.
+steps_in() { # SECONDS
+  mkdir -p "$work/endless" && cp "$work/images/image-00099.img" "$work/endless"
+  python3 - "$1" "$bench" shelf "$work/endless" "${large[@]}" --steps <<'PYTHON'
+import subprocess, sys, time
+steps, seconds = 1000000, 0
+while seconds < 0.2:
+    steps *= 4
+    begin = time.perf_counter()
+    subprocess.run(sys.argv[2:] + [str(steps)], stdout=subprocess.DEVNULL, check=True)
+    seconds = time.perf_counter() - begin
+print(int(steps * float(sys.argv[1]) / seconds))
+PYTHON
+}
+
 # Killed in the middle, it has a whole file of results, and goes on from there to the same answer.
 stopped() {
   local folder=$work/slow number results=$work/slow.results
   mkdir -p "$folder"
   for number in $(seq 100 160); do cp "$work/images/image-00099.img" "$folder/$number.img"; done
-  local slow=("$bench" shelf "$folder" --board examples/interlock_large.map --with examples/interlock_large.hex --steps 6000000)
+  slow_steps=$(steps_in 0.06) || return 1
+  local slow=("$bench" shelf "$folder" "${large[@]}" --steps "$slow_steps")
   "${slow[@]}" --jobs 1 --results "$results" >"$work/out" 2>"$work/err" &
   local job=$!
   for _ in $(seq 300); do [ -s "$results" ] && break; sleep 0.1; done
@@ -135,19 +162,21 @@ stopped() {
 # A bar on a terminal, and nothing on a standard error that is none.
 bar_shown() {
   need script bsdutils >/dev/null || return 1
-  script -qec "'$bench' shelf '$work/slow' --board examples/interlock_large.map --with examples/interlock_large.hex --steps 3000000 >'$work/out'" "$work/terminal" >/dev/null
+  script -qec "'$bench' shelf '$work/slow' ${large[*]} --steps $slow_steps >'$work/out'" "$work/terminal" >/dev/null
   grep -q 'of 61 images' "$work/terminal" && [ -s "$work/out" ]
 }
 flat_memory() {
   python3 tests/shelf_images.py "$work/few" 200 && python3 tests/shelf_images.py "$work/many" 3000 &&
-    python3 tests/shelf.py memory "$work/few" "$work/many" "$bench" shelf @ --board examples/interlock_large.map --with examples/interlock_large.hex --steps 20000
+    python3 tests/shelf.py memory "$work/few" "$work/many" "$bench" shelf @ "${large[@]}" --steps 20000
 }
 browser_shows() {
   need chromium chromium >/dev/null || return 1
-  local run=(timeout 60 chromium --headless --no-sandbox --disable-gpu --disable-dev-shm-usage --hide-scrollbars --user-data-dir="$work/profile" --enable-logging=stderr --v=0)
+  local run=(timeout 60 chromium --headless --no-sandbox --disable-gpu --disable-dev-shm-usage --hide-scrollbars --user-data-dir="$work/profile")
+  run+=(--enable-logging=stderr --v=0)
   "${run[@]}" --dump-dom "file://$work/broken.pages/index.html" >"$work/dom.html" 2>"$work/browser" && ! grep CONSOLE "$work/browser" &&
     page says "$work/dom.html" '<script>alert(1)<script>' 'new\nline\u{1b}[31m\u{202e}' 'Not every image fits the board and ran without a trap.' &&
-    "${run[@]}" --window-size=1000,900 --screenshot="$work/index.png" "file://$work/broken.pages/index.html" 2>/dev/null && page pixels "$work/index.png" 9b1c1c 1000 ffffff 100000
+    "${run[@]}" --window-size=1000,900 --screenshot="$work/index.png" "file://$work/broken.pages/index.html" 2>/dev/null &&
+    page pixels "$work/index.png" 9b1c1c 1000 ffffff 100000
 }
 
 check "every image of a shelf is what it was made to be" rows_expected
@@ -158,6 +187,7 @@ check "a shelf's pages load nothing and its links lead to pages" all_pages
 check "a shelf's exit status" statuses
 check "an image without a label makes no shelf good" unlabelled
 check "a broken file stops no other" broken_files
+check "host/bench/README.md shows a shelf" readme_shows
 check "results are made anew where something has changed" made_anew
 check "a page that is gone is made again" pages_anew
 check "no other file is written over by results" no_results

@@ -3,6 +3,7 @@
 
 use crate::names::Names;
 use lent::{State, GRANULE};
+use std::ops::Range;
 
 /// A stretch of memory and what differs in it.
 #[derive(Clone, PartialEq, Eq, Debug)]
@@ -15,41 +16,42 @@ pub struct Stretch {
     pub tags_cleared: u64,
 }
 
-/// The offsets into memory of the bytes that differ, in order.
-fn differing<'a>(before: &'a State, after: &'a State) -> impl Iterator<Item = usize> + 'a {
-    let pairs = before.mem.iter().zip(&after.mem).enumerate();
-    pairs
-        .filter(|(_, (old, new))| old != new)
-        .map(|(offset, _)| offset)
+/// The offsets, of some into memory, of the bytes that differ, in order.
+fn differing<'a>(
+    before: &'a State,
+    after: &'a State,
+    places: Range<usize>,
+) -> impl Iterator<Item = usize> + 'a {
+    places.filter(|place| before.mem.get(*place) != after.mem.get(*place))
 }
 
 /// What differs in [low, high), which is cut to memory.
 fn within(name: &str, (low, high): (u64, u64), before: &State, after: &State) -> Stretch {
     let start = u64::from(before.start);
-    let inside = |address: u64| address >= low && address < high;
+    let (low, high) = (low.max(start), high.min(before.end()));
+    let place = |address: u64| address.saturating_sub(start) as usize;
     let mut stretch = Stretch {
         name: name.into(),
         bytes: 0,
         span: None,
-        tags_set: 0,
-        tags_cleared: 0,
+        tags_set: tags(low, high, after, before),
+        tags_cleared: tags(low, high, before, after),
     };
-    for address in differing(before, after).map(|offset| start + offset as u64) {
-        if inside(address) {
-            let first = stretch.span.map_or(address, |(first, _)| first);
-            stretch.span = Some((first, address + 1));
-            stretch.bytes += 1;
-        }
-    }
-    for granule in (start..before.end())
-        .step_by(GRANULE)
-        .filter(|place| inside(*place))
-    {
-        let (old, new) = (before.tagged(granule), after.tagged(granule));
-        stretch.tags_set += u64::from(new && !old);
-        stretch.tags_cleared += u64::from(old && !new);
+    for offset in differing(before, after, place(low)..place(high)) {
+        let address = start + offset as u64;
+        let first = stretch.span.map_or(address, |(first, _)| first);
+        stretch.span = Some((first, address + 1));
+        stretch.bytes += 1;
     }
     stretch
+}
+
+/// How many granules from low on are tagged in one state and not in another. A granule belongs to where its first byte lies.
+fn tags(low: u64, high: u64, tagged: &State, untagged: &State) -> u64 {
+    let first = low.next_multiple_of(GRANULE as u64);
+    let granules = (first..high).step_by(GRANULE);
+    let only = granules.filter(|place| tagged.tagged(*place) && !untagged.tagged(*place));
+    only.count() as u64
 }
 
 /// All of memory, and each named region of a map that something differs in.
@@ -68,7 +70,7 @@ pub fn by_region(before: &State, after: &State, regions: &Names) -> (Stretch, Ve
 /// The rows of so many bytes, counted from memory's start, in which a byte differs.
 pub fn rows(before: &State, after: &State, bytes: u64) -> Vec<u64> {
     let mut rows: Vec<u64> = Vec::new();
-    for offset in differing(before, after) {
+    for offset in differing(before, after, 0..before.mem.len()) {
         let row = offset as u64 / bytes.max(1);
         if rows.last() != Some(&row) {
             rows.push(row);

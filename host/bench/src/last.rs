@@ -63,15 +63,14 @@ impl Last {
             let call = (first - at.made).min(MOST_STEPS);
             advance(&mut at, call, self.sweep)?;
         }
-        let mut lines = Vec::new();
-        while at.made < steps {
+        let step = |_| {
             let before = at.state.clone();
             let counts = proved::run(&mut at.state, 1)?;
             at.made += 1;
-            lines.push(trace::line(at.made, &before, &at.state, counts));
-            swept(&mut at, self.sweep)?;
-        }
-        Ok(lines)
+            let line = trace::line(at.made, &before, &at.state, counts);
+            swept(&mut at, self.sweep).map(|()| line)
+        };
+        (first..steps).map(step).collect()
     }
 }
 

@@ -149,7 +149,9 @@ impl Map {
 
     /// The numbers of the picture.
     pub fn value(&self) -> Value {
-        let left: Vec<(&Shape, f64)> = self.board.iter().map(|shape| (shape, BOARD.0)).collect();
+        let left = self.board.iter();
+        let left = left.filter(|shape| self.drawn(shape, BOARD).is_some());
+        let left: Vec<(&Shape, f64)> = left.map(|shape| (shape, BOARD.0)).collect();
         let height = self.height();
         let named = [
             (BOARD, "board"),
@@ -188,11 +190,13 @@ fn number(value: f64) -> String {
 /// Places for labels in order, each a line from the next and as near to where it is wanted as the room allows: pushed
 /// down from the top, then up from the bottom.
 fn spread(wanted: &[f64], top: f64, bottom: f64) -> Vec<f64> {
-    let mut places: Vec<f64> = Vec::new();
-    for place in wanted {
-        let least = places.last().map_or(top, |last| last + LINE);
-        places.push(place.max(least));
-    }
+    let mut least = top;
+    let pushed = wanted.iter().map(|place| {
+        let place = place.max(least);
+        least = place + LINE;
+        place
+    });
+    let mut places: Vec<f64> = pushed.collect();
     let mut most = bottom;
     for place in places.iter_mut().rev() {
         *place = place.min(most);

@@ -27,6 +27,8 @@ pub const LAST: u64 = 24;
 /// The most parts of an image that are drawn: as many as a sheet has regions.
 const MOST_PARTS: usize = 64;
 
+/// The most names that are told of a trap's places.
+const MOST_NAMES: usize = 16;
 /// How many times the board's size the picture goes past the board.
 const FAR: u64 = 4;
 
@@ -156,11 +158,7 @@ fn verdict(answer: &Answer) -> Value {
             let head = "It does not fit the board, and was not run.".to_string();
             ("misfit", head, Vec::new())
         }
-        Answer::Bad(reason) => (
-            "bad",
-            "It could not be run.".into(),
-            vec![shortened(reason)],
-        ),
+        Answer::Bad(reason) => ("bad", "It could not be run.".into(), vec![reason.clone()]),
         Answer::Ran { account, .. } => ran(account),
     };
     json!({ "kind": kind, "head": head, "lines": lines })
@@ -349,7 +347,7 @@ fn trap_shapes(trap: &Trap) -> Vec<Shape> {
 
 fn trapped(trap: &Trap, account: &Account, subject: &Subject) -> Value {
     let state = account.state;
-    let names = short_names(account.names);
+    let names = short_names(account.names, trap);
     let memory = trap.asked.map(|asked| report::memory_there(asked, state));
     let memory = memory.unwrap_or_default();
     let memory: Vec<&str> = memory.lines().skip(2).collect();
@@ -362,9 +360,18 @@ fn trapped(trap: &Trap, account: &Account, subject: &Subject) -> Value {
     })
 }
 
-/// The names with what is too long of each left out.
-fn short_names(names: &Names) -> Names {
-    let short = names.0.iter().map(|name| Name {
+/// The first names of a trap's places, with what is too long of each left out.
+fn short_names(names: &Names, trap: &Trap) -> Names {
+    let asked = trap.asked.map(|asked| asked.address);
+    let told = |name: &&Name| {
+        let holds = |address: u32| {
+            let offset = address.checked_sub(name.start);
+            offset.is_some_and(|offset| u64::from(offset) < name.length)
+        };
+        holds(trap.pcc.address) || asked.is_some_and(holds)
+    };
+    let short = names.0.iter().filter(told).take(MOST_NAMES);
+    let short = short.map(|name| Name {
         name: shortened(&name.name),
         ..name.clone()
     });
@@ -388,7 +395,7 @@ fn steps(lines: &[String], account: &Account) -> Value {
     let made = counts.retired + counts.trapped;
     let said = match lines.len() as u64 {
         0 => return Value::Null,
-        shown if shown == made => format!("All {} of the run.", count(made, "step")),
+        shown if shown == made => "Every step of the run.".into(),
         shown => format!(
             "The last {} of {}, made again one by one.",
             grouped(shown),

@@ -299,9 +299,8 @@ pub fn registers(state: &State) -> String {
             }
         };
     }
-    for line in control_lines(state) {
-        let _ = writeln!(text, "  {line}");
-    }
+    let control = control_lines(state).into_iter();
+    text.extend(control.map(|line| format!("  {line}\n")));
     text
 }
 

@@ -37,13 +37,18 @@ pub fn run(asked: Run) -> Result<Status, String> {
     let labelled = labelled(&asked, &files);
     let fits = fits(board.as_ref(), &labelled);
     let page = asked.report.as_deref().map(|path| page_place(path, &asked));
-    let page = page.transpose()?;
-    let subject = |segments| subject(&asked, &files, board.as_ref(), segments, &fits);
+    let task = Task {
+        asked: &asked,
+        files: &files,
+        board: board.as_ref(),
+        fits: &fits,
+        page: page.transpose()?,
+    };
     if let Some(image) = fits.iter().find(|image| !image.fits) {
-        write_page(page.as_ref(), || page::of(&subject(&[])?, &Answer::Misfit))?;
+        task.write_page(|| page::of(&task.subject(&[])?, &Answer::Misfit))?;
         return misfit(&asked, image);
     }
-    let mut ready = match ready(&asked, &files, map) {
+    let ready = match ready(&asked, &files, map) {
         Err(Halt::Refused(refusal)) => return refused(refusal, asked.json),
         Err(Halt::Bad(reason)) => return Err(reason),
         Ok(ready) => ready,
@@ -55,27 +60,65 @@ pub fn run(asked: Run) -> Result<Status, String> {
     } else {
         say(&labels_told(&asked, &labelled, &fits))
     };
-    let state = &mut ready.state;
-    let mut kept = page
-        .as_ref()
-        .map(|_| (state.clone(), Last::new(state, LAST, asked.sweep)));
-    match drive(&asked, state, kept.as_mut().map(|(_, last)| last)) {
-        Err(refusal) => refused(refusal, asked.json),
-        Ok(outcome) => {
-            // What cannot be said is saved nevertheless, and what cannot be saved is said.
-            let named = (&ready.names, ready.stack);
-            let account = Account::of(state, &outcome, named, &fits, asked.sweep.is_some());
-            let said = conclude(&asked, &account);
-            let saved = place.map_or(Ok(()), |place| {
-                place.write(state_file::write(state).as_bytes())
-            });
-            let paged = kept.map_or(Ok(()), |(before, last)| {
-                let made = || ran_page(&subject(&ready.segments)?, &account, &before, last);
-                write_page(page.as_ref(), made)
-            });
-            saved.and(paged)?;
-            told.and(said)
+    let status = task.carry_out(ready, place)?;
+    told.map(|()| status)
+}
+
+/// What is asked, with the files and the board, and where the page goes.
+struct Task<'a> {
+    asked: &'a Run,
+    files: &'a [&'a [u8]],
+    board: Option<&'a Board>,
+    fits: &'a [Beside<'a>],
+    page: Option<Place>,
+}
+
+impl<'a> Task<'a> {
+    /// Runs, says how the run went, saves the state and writes the page.
+    fn carry_out(&self, mut ready: Ready, place: Option<Place>) -> Result<Status, String> {
+        let (asked, state) = (self.asked, &mut ready.state);
+        let kept = || (state.clone(), Last::new(state, LAST, asked.sweep));
+        let mut kept = self.page.as_ref().map(|_| kept());
+        let outcome = match drive(asked, state, kept.as_mut().map(|(_, last)| last)) {
+            Err(refusal) => return refused(refusal, asked.json),
+            Ok(outcome) => outcome,
+        };
+        let (named, swept) = ((&ready.names, ready.stack), asked.sweep.is_some());
+        let account = Account::of(state, &outcome, named, self.fits, swept);
+        // What cannot be said is saved nevertheless, and what cannot be saved is said.
+        let said = conclude(asked, &account);
+        let saved = place.map_or(Ok(()), |place| {
+            place.write(state_file::write(state).as_bytes())
+        });
+        let paged = kept.map_or(Ok(()), |(before, last)| {
+            let subject = self.subject(&ready.segments);
+            self.write_page(|| ran_page(&subject?, &account, &before, last))
+        });
+        saved.and(paged).and(said)
+    }
+
+    /// What the page is about.
+    fn subject(&self, segments: &'a [Segment]) -> Result<Subject<'a>, String> {
+        let images = self.asked.images.iter().zip(self.files);
+        let mut files: Vec<Source> = images
+            .map(|(path, bytes)| Source::of(path, bytes))
+            .collect();
+        if let Some(path) = &self.asked.state {
+            files.push(Source::of(path, &file::read(path)?));
         }
+        let named = self.asked.map.as_ref().zip(self.board);
+        Ok(Subject {
+            files,
+            board: named.map(|(path, board)| (Source::of(path, &board.bytes), &board.sheet)),
+            segments,
+            fits: self.fits,
+        })
+    }
+
+    /// Writes a page, if one is wanted.
+    fn write_page(&self, page: impl FnOnce() -> Result<String, String>) -> Result<(), String> {
+        let place = self.page.as_ref();
+        place.map_or(Ok(()), |place| place.write(page()?.as_bytes()))
     }
 }
 
@@ -116,30 +159,6 @@ pub fn ready(asked: &Run, files: &[&[u8]], map: Option<&Sheet>) -> Result<Ready,
     })
 }
 
-/// What the page is about.
-fn subject<'a>(
-    asked: &Run,
-    files: &[&[u8]],
-    board: Option<&'a Board>,
-    segments: &'a [Segment],
-    fits: &'a [Beside<'a>],
-) -> Result<Subject<'a>, String> {
-    let images = asked.images.iter().zip(files);
-    let mut sources: Vec<Source> = images
-        .map(|(path, bytes)| Source::of(path, bytes))
-        .collect();
-    if let Some(path) = &asked.state {
-        sources.push(Source::of(path, &file::read(path)?));
-    }
-    let named = asked.map.as_ref().zip(board);
-    Ok(Subject {
-        files: sources,
-        board: named.map(|(path, board)| (Source::of(path, &board.bytes), &board.sheet)),
-        segments,
-        fits,
-    })
-}
-
 /// The page of a run, with its last steps.
 pub fn ran_page(
     subject: &Subject,
@@ -156,14 +175,6 @@ pub fn ran_page(
         last,
     };
     page::of(subject, &answer)
-}
-
-/// Writes a page, if one is wanted.
-fn write_page(
-    place: Option<&Place>,
-    page: impl FnOnce() -> Result<String, String>,
-) -> Result<(), String> {
-    place.map_or(Ok(()), |place| place.write(page()?.as_bytes()))
 }
 
 /// The place of the page: no file that is read, nor the one that is saved to.

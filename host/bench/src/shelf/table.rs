@@ -174,7 +174,7 @@ pub fn page(out: &mut impl Write, results: &Results, shelf: &Shelf) -> Result<()
         let steps = row.retired.map_or(String::new(), grouped);
         let value = json!({
             "kind": kind, "page": page_name(&row.file), "file": shortened(&row.file), "label": label(&row),
-            "end": run(&row), "steps": steps, "stack": stack(&row), "why": shortened(&why(&row)),
+            "end": run(&row), "steps": steps, "stack": stack(&row), "why": why(&row),
         });
         fill(out, "shelf_row.html", &value)?;
     }
