@@ -12,12 +12,16 @@ const TOP: f64 = 34.0;
 const LEAST_HEIGHT: f64 = 420.0;
 const LINE: f64 = 15.0;
 /// Columns by their left edges and widths.
-const BOARD: (f64, f64) = (300.0, 74.0);
-const IMAGE: (f64, f64) = (382.0, 60.0);
-const STACK: (f64, f64) = (450.0, 46.0);
-const CHANGED: (f64, f64) = (504.0, 62.0);
-const TRAP: (f64, f64) = (574.0, 46.0);
-const WIDTH: f64 = 980.0;
+const BOARD: (f64, f64) = (345.0, 74.0);
+const IMAGE: (f64, f64) = (427.0, 60.0);
+const STACK: (f64, f64) = (495.0, 46.0);
+const CHANGED: (f64, f64) = (549.0, 62.0);
+const TRAP: (f64, f64) = (619.0, 46.0);
+const WIDTH: f64 = 1025.0;
+/// From a column at either side to the labels beside it.
+const LEAD: f64 = 34.0;
+/// The least height of a shape: one of none at all is not drawn.
+const LEAST: f64 = 0.6;
 
 /// A stretch of addresses, its name, and the class that the page's style draws it by.
 #[derive(Clone, PartialEq, Debug)]
@@ -79,7 +83,8 @@ impl Map {
         if shape.high <= self.low || shape.low >= self.high || shape.high < shape.low {
             return None;
         }
-        let (top, bottom) = (self.y(shape.high), self.y(shape.low));
+        let bottom = self.y(shape.low);
+        let top = self.y(shape.high).min(bottom - LEAST);
         Some(json!({
             "x": number(x), "width": number(width), "y": number(top), "height": number(bottom - top),
             "kind": shape.kind, "name": shape.label,
@@ -175,8 +180,8 @@ impl Map {
                 self.column(&self.board, BOARD), self.column(&self.image, IMAGE), self.column(&self.stack, STACK),
                 self.changes(), self.column(&self.trap, TRAP),
             ],
-            "left": self.labels(&left, BOARD.0 - 16.0),
-            "right": self.labels(&self.right(), TRAP.0 + TRAP.1 + 22.0),
+            "left": self.labels(&left, BOARD.0 - LEAD),
+            "right": self.labels(&self.right(), TRAP.0 + TRAP.1 + LEAD),
             "heads": heads.collect::<Vec<Value>>(), "columns": lanes.collect::<Vec<Value>>(), "row": self.row,
         })
     }

@@ -44,6 +44,16 @@ fn what_goes_past_the_picture_is_cut_and_what_lies_outside_is_left_out() {
 }
 
 #[test]
+fn what_is_thinner_than_a_line_is_drawn_as_one() {
+    let mut map = map();
+    map.high = map.low + (1 << 20);
+    map.trap = vec![Shape::new((0x2000_0000, 0x2000_0008), "asked", "", "asked")];
+    let value = map.value();
+    let shape = &value["groups"][4][0];
+    assert_eq!((read(&shape["y"]), read(&shape["height"])), (453.4, 0.6));
+}
+
+#[test]
 fn changed_rows_that_touch_are_one_stretch() {
     let mut map = map();
     map.changed = vec![0, 1, 2, 128];
