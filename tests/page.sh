@@ -17,7 +17,7 @@ small_page() {
 says_the_report() { # after small_page
   mapfile -t lines < <(sed 's/^ *register *address .*//; s/^Trap: //' "$work/small.txt" | grep -v 'memory there' | sed '/^ *$/d')
   [ "${#lines[@]}" -gt 30 ] && page says "$work/small.html" "${lines[@]}" "asked, store [20000478, 20000480)" "bounds of c2 [20000480, 20000800)" \
-    "stack used [20000490, 20000800), 880 of 896 bytes" "loaded [20000100, 2000014c)" "The last 24 of 365 steps" "interlock [20000400, 20000480) rw" \
+    "used [20000490, 20000800), 880 of 896 bytes" "loaded [20000100, 2000014c)" "The last 24 of 365 steps" "interlock [20000400, 20000480) rw" \
     "stack 196 [20000490, 20000800) 28 0" "$(sha256sum <examples/interlock_image.hex | cut -d' ' -f1)"
 }
 

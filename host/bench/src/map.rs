@@ -17,7 +17,7 @@ const IMAGE: (f64, f64) = (427.0, 60.0);
 const STACK: (f64, f64) = (495.0, 46.0);
 const CHANGED: (f64, f64) = (549.0, 62.0);
 const TRAP: (f64, f64) = (619.0, 46.0);
-const WIDTH: f64 = 1025.0;
+const WIDTH: f64 = 1060.0;
 /// From a column at either side to the labels beside it.
 const LEAD: f64 = 34.0;
 /// The least height of a shape: one of none at all is not drawn.

@@ -305,7 +305,7 @@ fn stack(account: &Account) -> Vec<Shape> {
         let said = format!(", {} of {}", grouped(bytes), count(size, "byte"));
         shapes.push(Shape::new(
             (u64::from(mark).max(start), end),
-            "stack used",
+            "used",
             &said,
             "used",
         ));
