@@ -8,7 +8,8 @@ use std::path::PathBuf;
 /// The bench: runs an image on the proved CHERIoT machine and shows what happened.
 ///
 /// Numbers are decimal, or hexadecimal after 0x. The exit status is 0 if a run had no trap, 1 if it
-/// trapped, if two map sheets differ or if no image fits, 2 if the machine, the cutter, the lister or the
+/// trapped, if two map sheets differ, if no image fits or if not every image of a shelf fits and runs
+/// without a trap, 2 if the machine, the cutter, the lister or the
 /// assembler refused, an image does not fit the board that it is to run on, or a sheet that was to be
 /// judged is bad, and 3 for bad usage or a bad file.
 #[derive(Parser)]
@@ -35,13 +36,15 @@ pub enum Command {
     Sheet(SheetCommand),
     /// Says which image fits a board by its map sheet, or why none does
     Fit(Fit),
+    /// Judges and runs every image of a folder on a board
+    Shelf(Shelf),
     /// Lists the words of an image, each with its address and its instruction
     List(List),
     /// Assembles a listing to bytes
     Assemble(Assemble),
 }
 
-#[derive(Args)]
+#[derive(Args, Default)]
 pub struct Run {
     /// The files to load: raw, ELF or Intel HEX, with a map sheet and an empty line before it or not
     #[arg(required_unless_present = "state")]
@@ -102,6 +105,9 @@ pub struct Run {
     /// Write the result as JSON
     #[arg(long)]
     pub json: bool,
+    /// Where to write the result as a page, one HTML file that loads nothing
+    #[arg(long, value_name = "FILE")]
+    pub report: Option<PathBuf>,
 }
 
 #[derive(Args)]
@@ -207,6 +213,37 @@ pub struct Fit {
     /// One image or two, each a map sheet, an empty line and a payload
     #[arg(required = true, num_args = 1..=2, value_name = "IMAGE")]
     pub images: Vec<PathBuf>,
+    /// Write the result as JSON
+    #[arg(long)]
+    pub json: bool,
+}
+
+#[derive(Args)]
+pub struct Shelf {
+    /// The folder; each regular file in it is an image
+    pub folder: PathBuf,
+    /// The board's map sheet
+    #[arg(long, value_name = "SHEET")]
+    pub board: PathBuf,
+    /// A file of the board's own that is loaded beside each image; may be given more than once
+    #[arg(long, value_name = "FILE")]
+    pub with: Vec<PathBuf>,
+    /// The most steps to run of each image
+    #[arg(long, value_parser = number, default_value = "1000000")]
+    pub steps: u64,
+    /// How many images are looked at at a time [default: as many as there are cores]
+    #[arg(long, value_parser = not_zero)]
+    pub jobs: Option<u64>,
+    /// A folder for pages: index.html, and one for each image
+    #[arg(long, value_name = "FOLDER")]
+    pub report: Option<PathBuf>,
+    /// A file that keeps the results, to go on from where it was stopped [default: results.txt in the folder of
+    /// --report, else none]
+    #[arg(long, value_name = "FILE")]
+    pub results: Option<PathBuf>,
+    /// Write the result as CSV
+    #[arg(long, conflicts_with = "json")]
+    pub csv: bool,
     /// Write the result as JSON
     #[arg(long)]
     pub json: bool,

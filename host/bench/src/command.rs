@@ -2,8 +2,9 @@
 
 pub mod fit;
 mod listing;
-mod run;
+pub mod run;
 pub mod sheet;
+mod shelf;
 mod sweep;
 
 use crate::arguments::{Cap, Command, Cut, Explain};
@@ -30,6 +31,7 @@ pub fn obey(command: Command) -> Result<Status, String> {
         Command::Cap(cap) => capability_shown(&cap),
         Command::Sheet(asked) => sheet::obey(&asked),
         Command::Fit(asked) => fit::obey(&asked),
+        Command::Shelf(asked) => shelf::obey(&asked),
         Command::List(list) => listing::list(&list),
         Command::Assemble(assemble) => listing::assemble(&assemble),
     }

@@ -8,7 +8,7 @@ mod tests;
 use crate::proved::{self, Counts, Refusal, MOST_STEPS};
 use crate::sweep;
 use lent::{State, COMPARE, MIE, MSTATUS, TIME};
-use origin::Origin;
+pub use origin::Origin;
 
 /// Why a run ended.
 #[derive(Clone, PartialEq, Eq, Debug)]

@@ -13,9 +13,10 @@ use std::path::Path;
 pub const DEFAULT_START: u32 = 0x2000_0000;
 
 /// The form of an image file.
-#[derive(Clone, Copy, PartialEq, Eq, Debug, clap::ValueEnum)]
+#[derive(Clone, Copy, PartialEq, Eq, Debug, Default, clap::ValueEnum)]
 pub enum Format {
     /// By the file's first bytes: ELF's mark, a colon for Intel HEX, or a map sheet's first word, else raw
+    #[default]
     Auto,
     /// Bytes that lie at memory's start
     Raw,
@@ -39,6 +40,11 @@ pub struct Segment {
 impl Segment {
     fn end(&self) -> u64 {
         u64::from(self.address) + self.bytes.len() as u64 + self.zeros
+    }
+
+    /// Its first address and the one after its last.
+    pub fn range(&self) -> (u64, u64) {
+        (self.address.into(), self.end())
     }
 
     pub fn shown(&self) -> String {

@@ -1,5 +1,6 @@
 //! The same results as JSON. Numbers are numbers; bounds are low and high.
 
+use crate::account::Account;
 use crate::capability_text::{revocation_word, rights, type_words};
 use crate::command::fit::{Beside, Chosen};
 use crate::command::sheet::Pair;
@@ -21,8 +22,18 @@ use lent::{
 use serde_json::{json, Value};
 use std::path::Path;
 
+/// All that is said of a run.
+pub fn account(account: &Account) -> Value {
+    let Account { state, outcome, .. } = account;
+    let mut value = run(state, outcome, account.trap.as_ref(), account.names);
+    value["swept"] = account.swept.then(|| sweeps(outcome.swept)).into();
+    value["fit"] = images(account.fits);
+    value["stack"] = stack(state, account.stack);
+    value
+}
+
 /// A run that was made.
-pub fn run(state: &State, outcome: &Outcome, trap: Option<&Trap>, names: &Names) -> Value {
+fn run(state: &State, outcome: &Outcome, trap: Option<&Trap>, names: &Names) -> Value {
     let end = match outcome.end {
         End::Steps => "steps",
         End::Still => "still",
@@ -38,7 +49,7 @@ pub fn run(state: &State, outcome: &Outcome, trap: Option<&Trap>, names: &Names)
 }
 
 /// The sweeps of a run.
-pub fn sweeps(swept: Swept) -> Value {
+fn sweeps(swept: Swept) -> Value {
     json!({ "passes": swept.passes, "tags": swept.tags })
 }
 

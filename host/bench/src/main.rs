@@ -1,7 +1,9 @@
 //! The bench command: runs an image on the proved machine and shows what happened, and lists it.
 
+mod account;
 mod arguments;
 mod capability_text;
+mod changes;
 mod command;
 mod digits;
 mod drive;
@@ -9,9 +11,12 @@ mod edition;
 mod file;
 mod image;
 mod json;
+mod last;
 mod listing;
+mod map;
 mod memory_rows;
 mod names;
+mod page;
 mod probe;
 mod proved;
 mod report;
@@ -20,11 +25,13 @@ mod save;
 #[cfg(test)]
 mod sequence;
 mod sheet;
+mod shelf;
 mod stack;
 mod state_file;
 mod sweep;
 mod trace;
 mod trap;
+mod visible;
 
 use arguments::Arguments;
 use clap::Parser;

@@ -1,5 +1,6 @@
 //! What a run or a saved state comes to, for a person: counts, the trap, the registers; and an image's listing.
 
+use crate::account::Account;
 use crate::capability_text::{count, grouped, is_integer, length, region};
 use crate::capability_text::{revocation_words, rights, type_words};
 use crate::drive::{End, Outcome, Swept};
@@ -15,6 +16,21 @@ use crate::trap::{Action, Asked, Authority, Trap};
 use lent::{place_name, Capability, State, CAPABILITIES, GRANULE};
 use lent::{COMPARE, MCAUSE, MIE, MSHWM, MSHWMB, MSTATUS, MTVAL, PCC, REPORT_EDITION, TIME};
 use std::fmt::Write;
+
+/// A run: its counts, how deep the stack went, the sweeps, the trap, the registers.
+pub fn run(account: &Account) -> String {
+    let Account { state, outcome, .. } = account;
+    let mut text = counts(state, outcome);
+    text.push_str(&stack(state, account.stack));
+    if account.swept {
+        text.push_str(&sweeps(outcome.swept));
+    }
+    if let Some(trap) = &account.trap {
+        text.push('\n');
+        text.push_str(&self::trap(trap, state, account.names));
+    }
+    format!("{text}\n{}", registers(state))
+}
 
 /// The counts of a run, and how it ended.
 pub fn counts(state: &State, outcome: &Outcome) -> String {
@@ -111,38 +127,46 @@ fn went_line(went: &Went, names: &Names) -> String {
 pub fn trap(trap: &Trap, state: &State, names: &Names) -> String {
     let mut text = String::new();
     if trap.gone_on {
-        text.push_str(
-            "The program has gone on since its last trap, and may have written registers since.\n",
-        );
+        let _ = writeln!(text, "{GONE_ON}");
     }
     let _ = writeln!(text, "Trap: {}.\n", trap.cause);
+    for (name, said) in trap_rows(trap, state, names) {
+        let _ = writeln!(text, "  {name:<8} {said}");
+    }
+    if let Some(asked) = trap.asked {
+        text.push_str(&memory_there(asked, state));
+    }
+    text
+}
+
+/// What is said where a trap is not the last thing that happened.
+pub const GONE_ON: &str =
+    "The program has gone on since its last trap, and may have written registers since.";
+
+/// The lines of a trap, each with its name.
+pub fn trap_rows(trap: &Trap, state: &State, names: &Names) -> Vec<(String, String)> {
     let place = names.place(trap.pcc.address);
     let unfetched = match trap.is_interrupt() {
         true => "before the word there",
         false => "not fetched",
     };
     let word = trap.word.map_or(unfetched.into(), word_shown);
-    let _ = writeln!(text, "  at       {:08x}, {word}{place}", trap.pcc.address);
+    let at = format!("{:08x}, {word}{place}", trap.pcc.address);
+    let mut rows = vec![("at".into(), at)];
     if let Some(asked) = trap.asked {
-        text.push_str(&asked_line(asked, trap, names));
+        rows.push(("asked".into(), asked_shown(asked, trap, names)));
     }
     if let Some(authority) = &trap.authority {
-        text.push_str(&authority_lines(authority, trap.asked));
+        rows.extend(authority_rows(authority, trap.asked));
     }
     if trap.is_interrupt() {
         let (time, compare) = (state.long(TIME), state.long(COMPARE));
-        let _ = writeln!(text, "  timer    compare {compare}, time now {time}");
+        let said = format!("compare {compare}, time now {time}");
+        rows.push(("timer".into(), said));
     }
-    let _ = writeln!(
-        text,
-        "  machine  mcause {}, mtval {:08x}",
-        trap.mcause_shown(),
-        trap.mtval
-    );
-    if let Some(asked) = trap.asked {
-        text.push_str(&memory_there(asked, state));
-    }
-    text
+    let machine = format!("mcause {}, mtval {:08x}", trap.mcause_shown(), trap.mtval);
+    rows.push(("machine".into(), machine));
+    rows
 }
 
 /// A word and its instruction. An illegal word is listed as its digits, which are not said twice.
@@ -154,7 +178,7 @@ fn word_shown(word: u32) -> String {
     format!("word {digits}, {instruction}")
 }
 
-fn asked_line(asked: Asked, trap: &Trap, names: &Names) -> String {
+fn asked_shown(asked: Asked, trap: &Trap, names: &Names) -> String {
     let end = asked.end();
     let size = count(asked.size.into(), "byte");
     let what = match trap.action {
@@ -162,14 +186,11 @@ fn asked_line(asked: Asked, trap: &Trap, names: &Names) -> String {
         action => format!("{} of {size}", action.noun()),
     };
     let place = names.place(asked.address);
-    format!(
-        "  asked    [{:08x}, {end:08x}), {what}{place}\n",
-        asked.address
-    )
+    format!("[{:08x}, {end:08x}), {what}{place}", asked.address)
 }
 
 /// The bounds of the authority beside the request, if there is one, and the rest of the authority.
-fn authority_lines(authority: &Authority, asked: Option<Asked>) -> String {
+fn authority_rows(authority: &Authority, asked: Option<Asked>) -> Vec<(String, String)> {
     let Authority {
         name,
         value,
@@ -177,10 +198,12 @@ fn authority_lines(authority: &Authority, asked: Option<Asked>) -> String {
         revocation,
     } = authority;
     let (low_high, long) = (region(*bounds), length(*bounds));
-    let mut text = asked.map_or(String::new(), |asked| {
+    let mut rows = Vec::new();
+    if let Some(asked) = asked {
         let side = distance(authority, asked);
-        format!("  bounds   {low_high}, {long} of {name}; the request {side}\n")
-    });
+        let said = format!("{low_high}, {long} of {name}; the request {side}");
+        rows.push(("bounds".into(), said));
+    }
     let tag = if value.tag == 1 { "tagged" } else { "no tag" };
     let held = rights(value.metadata).join(" ");
     let held = if held.is_empty() {
@@ -189,20 +212,14 @@ fn authority_lines(authority: &Authority, asked: Option<Asked>) -> String {
         held
     };
     let kind = type_words(value.metadata);
-    let _ = writeln!(
-        text,
-        "  {name:<8} {:08x}, {tag}, {held}, {kind}",
-        value.address
-    );
+    let said = format!("{:08x}, {tag}, {held}, {kind}", value.address);
+    rows.push((name.clone(), said));
     if let Some(said) = revocation {
         let words = revocation_words(*said);
-        let _ = writeln!(
-            text,
-            "  revoked  {:08x}, its low bound, is {words}",
-            bounds.low
-        );
+        let said = format!("{:08x}, its low bound, is {words}", bounds.low);
+        rows.push(("revoked".into(), said));
     }
-    text
+    rows
 }
 
 /// On which side of the bounds the request lies.
@@ -219,7 +236,7 @@ fn distance(authority: &Authority, asked: Asked) -> String {
 }
 
 /// The memory around a request, with a mark below each byte asked for.
-fn memory_there(asked: Asked, state: &State) -> String {
+pub fn memory_there(asked: Asked, state: &State) -> String {
     let rows = rows(asked, state);
     let mut text = String::from("\n  memory there\n");
     if rows.is_empty() {
@@ -272,36 +289,50 @@ pub fn registers(state: &State) -> String {
         "  register   address   tag  bounds                 rights                type\n",
     );
     for place in 0..CAPABILITIES {
-        text.push_str(&register_line(&place_name(place), state.capability(place)));
+        let (name, value) = (place_name(place), state.capability(place));
+        let (address, tag, held) = (value.address, value.tag, contents(value));
+        let start = format!("  {name:<10} {address:08x}  {tag}    ");
+        let _ = match held {
+            Held::Integer(number) => writeln!(text, "{start}integer {number}"),
+            Held::Capability([bounds, rights, kind]) => {
+                writeln!(text, "{start}{bounds:<22} {rights:<21} {kind}")
+            }
+        };
     }
-    let (status, cause) = (state.register(MSTATUS), state.register(MCAUSE));
-    let value = state.register(MTVAL);
-    let _ = writeln!(
-        text,
-        "  mstatus {status:08x}, mcause {cause:08x}, mtval {value:08x}"
-    );
-    let (mark, base) = (state.register(MSHWM), state.register(MSHWMB));
-    let (time, compare) = (state.long(TIME), state.long(COMPARE));
-    let _ = writeln!(
-        text,
-        "  mshwm {mark:08x}, mshwmb {base:08x}, time {time}, compare {compare}"
-    );
-    if state.edition != REPORT_EDITION {
-        let _ = writeln!(text, "  edition {}", edition::name(state.edition));
-    }
+    let control = control_lines(state).into_iter();
+    text.extend(control.map(|line| format!("  {line}\n")));
     text
 }
 
-fn register_line(name: &str, value: Capability) -> String {
-    let (address, tag) = (value.address, value.tag);
-    let start = format!("  {name:<10} {address:08x}  {tag}    ");
+/// What a register holds, in words.
+pub enum Held {
+    Integer(i32),
+    /// Bounds, rights and type.
+    Capability([String; 3]),
+}
+
+pub fn contents(value: Capability) -> Held {
     if is_integer(value) {
-        return format!("{start}integer {}\n", address as i32);
+        return Held::Integer(value.address as i32);
     }
-    let bounds = region(bounds(value));
-    let kind = type_words(value.metadata);
     let held = rights(value.metadata).join(" ");
-    format!("{start}{bounds:<22} {held:<21} {kind}\n")
+    Held::Capability([region(bounds(value)), held, type_words(value.metadata)])
+}
+
+/// The words of the register file that are no capabilities.
+pub fn control_lines(state: &State) -> Vec<String> {
+    let (status, cause) = (state.register(MSTATUS), state.register(MCAUSE));
+    let value = state.register(MTVAL);
+    let (mark, base) = (state.register(MSHWM), state.register(MSHWMB));
+    let (time, compare) = (state.long(TIME), state.long(COMPARE));
+    let mut lines = vec![
+        format!("mstatus {status:08x}, mcause {cause:08x}, mtval {value:08x}"),
+        format!("mshwm {mark:08x}, mshwmb {base:08x}, time {time}, compare {compare}"),
+    ];
+    if state.edition != REPORT_EDITION {
+        lines.push(format!("edition {}", edition::name(state.edition)));
+    }
+    lines
 }
 
 /// The parts of an image, one after the other: where each lies, its words, and how many zeros follow.

@@ -1,7 +1,7 @@
 //! Saving a file whole or not at all: it is written beside its place and then moved there.
 
 use std::fs::{self, File};
-use std::io::{Error, Write};
+use std::io::{BufWriter, Error, Write};
 use std::path::{Path, PathBuf};
 
 /// A place that a file can be saved to.
@@ -45,10 +45,19 @@ impl Place {
 
     /// Puts bytes there. If that fails, what was there stays, and nothing lies beside it.
     pub fn write(&self, bytes: &[u8]) -> Result<(), String> {
-        let mut file = File::create(&self.beside).map_err(|error| self.told(error))?;
-        let written = file
-            .write_all(bytes)
-            .and_then(|()| file.sync_all())
+        self.write_by(|file| file.write_all(bytes))
+    }
+
+    /// Puts there what is written piece by piece, in the same way.
+    pub fn write_by(
+        &self,
+        write: impl FnOnce(&mut BufWriter<File>) -> Result<(), Error>,
+    ) -> Result<(), String> {
+        let file = File::create(&self.beside).map_err(|error| self.told(error))?;
+        let mut file = BufWriter::new(file);
+        let written = write(&mut file)
+            .and_then(|()| file.flush())
+            .and_then(|()| file.get_ref().sync_all())
             .and_then(|()| fs::rename(&self.beside, &self.path));
         written.map_err(|error| {
             self.clear();

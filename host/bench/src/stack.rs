@@ -35,6 +35,11 @@ impl Stack {
         u64::from(self.start) + u64::from(self.size)
     }
 
+    /// Its first address and the one after its last.
+    pub fn range(self) -> (u64, u64) {
+        (self.start.into(), self.end())
+    }
+
     /// The mark of a stack that is not used: its end, or the last word if that is 2^32. A store of the last byte of
     /// the address space alone is then not seen.
     fn unused(self) -> u32 {

@@ -2,17 +2,19 @@
 
 use super::fit::{rows, verdict, Beside, Board, Labelled};
 use super::{read_state, refused_state, say, say_json};
+use crate::account::Account;
 use crate::arguments::Run;
-use crate::drive::{self, End, Outcome, Plan};
+use crate::drive::{self, Outcome, Plan};
 use crate::edition::Edition;
-use crate::image::{self, Image, DEFAULT_START};
+use crate::image::{self, Image, Segment, DEFAULT_START};
+use crate::last::Last;
 use crate::names::Names;
+use crate::page::{self, Answer, Source, Subject, LAST};
 use crate::proved::sheets::NEITHER;
 use crate::proved::{self, Counts, Refusal, MOST_STEPS};
 use crate::save::Place;
 use crate::sheet::Sheet;
 use crate::stack::Stack;
-use crate::trap::Trap;
 use crate::{complain, file, json, report, state_file, trace, Status};
 use indicatif::{ProgressBar, ProgressStyle};
 use lent::{State, Window, COMPARE, TIME};
@@ -29,23 +31,28 @@ const MOST_SIZE: u64 = 1 << 24;
 pub fn run(asked: Run) -> Result<Status, String> {
     let board = asked.map.as_deref().map(board).transpose()?;
     let map = board.as_ref().map(|board| &board.sheet);
-    let files = asked.images.iter().map(|path| file::read(path));
-    let files: Vec<Vec<u8>> = files.collect::<Result<_, _>>()?;
+    let bytes = asked.images.iter().map(|path| file::read(path));
+    let bytes: Vec<Vec<u8>> = bytes.collect::<Result<_, _>>()?;
+    let files: Vec<&[u8]> = bytes.iter().map(Vec::as_slice).collect();
     let labelled = labelled(&asked, &files);
     let fits = fits(board.as_ref(), &labelled);
+    let page = asked.report.as_deref().map(|path| page_place(path, &asked));
+    let task = Task {
+        asked: &asked,
+        files: &files,
+        board: board.as_ref(),
+        fits: &fits,
+        page: page.transpose()?,
+    };
     if let Some(image) = fits.iter().find(|image| !image.fits) {
+        task.write_page(|| page::of(&task.subject(&[])?, &Answer::Misfit))?;
         return misfit(&asked, image);
     }
-    let stack = stack(&asked, map)?;
-    let (mut state, images) = start(&asked, &files, map)?;
-    set_words(&asked, stack, &mut state);
-    if let Err(refusal) = proved::run(&mut state, 0) {
-        return refused_state(refusal, &state, asked.json);
-    }
-    image::load(&mut state, &images.segments)?;
-    let mut names = map.map_or(Vec::new(), Sheet::names);
-    names.extend(images.names);
-    let names = Names(names);
+    let ready = match ready(&asked, &files, map) {
+        Err(Halt::Refused(refusal, state)) => return refused_state(refusal, &state, asked.json),
+        Err(Halt::Bad(reason)) => return Err(reason),
+        Ok(ready) => ready,
+    };
     let place = asked.save.as_deref().map(|path| place(path, &asked));
     let place = place.transpose()?;
     let told = if asked.json {
@@ -53,26 +60,143 @@ pub fn run(asked: Run) -> Result<Status, String> {
     } else {
         say(&labels_told(&asked, &labelled, &fits))
     };
-    match drive(&asked, &mut state) {
-        Err(refusal) => refused_state(refusal, &state, asked.json),
-        Ok(outcome) => {
-            // What cannot be said is saved nevertheless, and what cannot be saved is said.
-            let said = conclude(&asked, &state, &outcome, (&names, stack), &fits);
-            place.map_or(Ok(()), |place| {
-                place.write(state_file::write(&state).as_bytes())
-            })?;
-            told.and(said)
+    let status = task.carry_out(ready, place)?;
+    told.map(|()| status)
+}
+
+/// What is asked, with the files and the board, and where the page goes.
+struct Task<'a> {
+    asked: &'a Run,
+    files: &'a [&'a [u8]],
+    board: Option<&'a Board>,
+    fits: &'a [Beside<'a>],
+    page: Option<Place>,
+}
+
+impl<'a> Task<'a> {
+    /// Runs, says how the run went, saves the state and writes the page.
+    fn carry_out(&self, mut ready: Ready, place: Option<Place>) -> Result<Status, String> {
+        let (asked, state) = (self.asked, &mut ready.state);
+        let kept = || (state.clone(), Last::new(state, LAST, asked.sweep));
+        let mut kept = self.page.as_ref().map(|_| kept());
+        let outcome = match drive(asked, state, kept.as_mut().map(|(_, last)| last)) {
+            Err(refusal) => return refused_state(refusal, state, asked.json),
+            Ok(outcome) => outcome,
+        };
+        let (named, swept) = ((&ready.names, ready.stack), asked.sweep.is_some());
+        let account = Account::of(state, &outcome, named, self.fits, swept);
+        // What cannot be said is saved nevertheless, and what cannot be saved is said.
+        let said = conclude(asked, &account);
+        let saved = place.map_or(Ok(()), |place| {
+            place.write(state_file::write(state).as_bytes())
+        });
+        let paged = kept.map_or(Ok(()), |(before, last)| {
+            let subject = self.subject(&ready.segments);
+            self.write_page(|| ran_page(&subject?, &account, &before, last))
+        });
+        saved.and(paged).and(said)
+    }
+
+    /// What the page is about.
+    fn subject(&self, segments: &'a [Segment]) -> Result<Subject<'a>, String> {
+        let images = self.asked.images.iter().zip(self.files);
+        let mut files: Vec<Source> = images
+            .map(|(path, bytes)| Source::of(path, bytes))
+            .collect();
+        if let Some(path) = &self.asked.state {
+            files.push(Source::of(path, &file::read(path)?));
         }
+        let named = self.asked.map.as_ref().zip(self.board);
+        Ok(Subject {
+            files,
+            board: named.map(|(path, board)| (Source::of(path, &board.bytes), &board.sheet)),
+            segments,
+            fits: self.fits,
+        })
+    }
+
+    /// Writes a page, if one is wanted.
+    fn write_page(&self, page: impl FnOnce() -> Result<String, String>) -> Result<(), String> {
+        let place = self.page.as_ref();
+        place.map_or(Ok(()), |place| place.write(page()?.as_bytes()))
     }
 }
 
+/// Why nothing is run.
+pub enum Halt {
+    Refused(Refusal, Box<State>),
+    Bad(String),
+}
+
+impl From<String> for Halt {
+    fn from(reason: String) -> Halt {
+        Halt::Bad(reason)
+    }
+}
+
+/// What is there before the first step.
+pub struct Ready {
+    pub state: State,
+    pub segments: Vec<Segment>,
+    pub names: Names,
+    pub stack: Option<Stack>,
+}
+
+/// The images in memory, and what is known of it.
+pub fn ready(asked: &Run, files: &[&[u8]], map: Option<&Sheet>) -> Result<Ready, Halt> {
+    let stack = stack(asked, map)?;
+    let (mut state, images) = start(asked, files, map)?;
+    set_words(asked, stack, &mut state);
+    if let Err(refusal) = proved::run(&mut state, 0) {
+        return Err(Halt::Refused(refusal, Box::new(state)));
+    }
+    image::load(&mut state, &images.segments)?;
+    let mut names = map.map_or(Vec::new(), Sheet::names);
+    names.extend(images.names);
+    Ok(Ready {
+        state,
+        segments: images.segments,
+        names: Names(names),
+        stack,
+    })
+}
+
+/// The page of a run, with its last steps.
+pub fn ran_page(
+    subject: &Subject,
+    account: &Account,
+    before: &State,
+    last: Last,
+) -> Result<String, String> {
+    let counts = account.outcome.counts;
+    let last = last.lines(counts.retired + counts.trapped);
+    let last = last.map_err(|refusal| refusal.reason().to_string())?;
+    let answer = Answer::Ran {
+        account,
+        before,
+        last,
+    };
+    page::of(subject, &answer)
+}
+
+/// The place of the page: no file that is read, nor the one that is saved to.
+fn page_place(path: &Path, asked: &Run) -> Result<Place, String> {
+    if asked.save.as_deref() == Some(path) {
+        let name = path.display();
+        return Err(format!("{name}: the state is saved there"));
+    }
+    let read = asked.images.iter().chain(&asked.map).chain(&asked.state);
+    let read: Vec<&Path> = read.map(PathBuf::as_path).collect();
+    Place::apart(path, &read)
+}
+
 /// The board of a map sheet's file.
-fn board(path: &Path) -> Result<Board, String> {
+pub fn board(path: &Path) -> Result<Board, String> {
     Board::of(file::read(path)?).map_err(|bad| bad.shown(path))
 }
 
 /// The images that have a map sheet, where it is good; a bad one is told as the image is read.
-fn labelled<'a>(asked: &'a Run, files: &'a [Vec<u8>]) -> Vec<Labelled<'a>> {
+fn labelled<'a>(asked: &'a Run, files: &[&'a [u8]]) -> Vec<Labelled<'a>> {
     let files = asked.images.iter().zip(files);
     let files = files.filter(|(_, bytes)| image::is_labelled(asked.format, bytes));
     files
@@ -121,7 +245,7 @@ fn misfit(asked: &Run, image: &Beside) -> Result<Status, String> {
 }
 
 /// The state to start from, a saved one or reset, and the images that go into its memory.
-fn start(asked: &Run, files: &[Vec<u8>], map: Option<&Sheet>) -> Result<(State, Image), String> {
+fn start(asked: &Run, files: &[&[u8]], map: Option<&Sheet>) -> Result<(State, Image), String> {
     let saved = asked.state.as_deref().map(read_state).transpose()?;
     let span = map.and_then(Sheet::span);
     let (map_start, map_size) = span.unwrap_or((DEFAULT_START, DEFAULT_SIZE));
@@ -205,11 +329,14 @@ fn place(path: &Path, asked: &Run) -> Result<Place, String> {
     Place::apart(path, &read)
 }
 
-/// Runs, with a line a step or a bar of progress.
-fn drive(asked: &Run, state: &mut State) -> Result<Outcome, Refusal> {
+/// Runs, with a line a step or a bar of progress. Where the last steps are wanted, states are kept on the way.
+fn drive(asked: &Run, state: &mut State, mut last: Option<&mut Last>) -> Result<Outcome, Refusal> {
     let bar = progress(asked);
     let mut number = 0;
     let mut watch = |before: &State, after: &State, made: Counts| {
+        if let Some(last) = &mut last {
+            last.see(number, before);
+        }
         number += made.retired + made.trapped;
         if asked.trace {
             let told = tell(asked.json, &trace::line(number, before, after, made));
@@ -252,39 +379,11 @@ fn tell(on_error: bool, line: &str) -> bool {
 }
 
 /// Says how the run went.
-fn conclude(
-    asked: &Run,
-    state: &State,
-    outcome: &Outcome,
-    (names, stack): (&Names, Option<Stack>),
-    fits: &[Beside],
-) -> Result<Status, String> {
-    let trap = match &outcome.end {
-        End::Trap(before) => Some(Trap::of_step(before, state)),
-        _ if outcome.counts.trapped > 0 => Trap::recorded(state),
-        _ => None,
-    };
+fn conclude(asked: &Run, account: &Account) -> Result<Status, String> {
     if asked.json {
-        let mut value = json::run(state, outcome, trap.as_ref(), names);
-        value["swept"] = asked.sweep.map(|_| json::sweeps(outcome.swept)).into();
-        value["fit"] = json::images(fits);
-        value["stack"] = json::stack(state, stack);
-        say_json(&value)?;
+        say_json(&json::account(account))?;
     } else {
-        let mut text = report::counts(state, outcome);
-        text.push_str(&report::stack(state, stack));
-        if asked.sweep.is_some() {
-            text.push_str(&report::sweeps(outcome.swept));
-        }
-        if let Some(trap) = &trap {
-            text.push('\n');
-            text.push_str(&report::trap(trap, state, names));
-        }
-        say(&format!("{text}\n{}", report::registers(state)))?;
+        say(&report::run(account))?;
     }
-    Ok(if outcome.counts.trapped > 0 {
-        Status::Trapped
-    } else {
-        Status::Ran
-    })
+    Ok(account.status())
 }

@@ -1,0 +1,140 @@
+//! `bench shelf`: every image of a folder on a board.
+
+use super::refused_sheet;
+use crate::arguments::Shelf as Asked;
+use crate::command::fit::Board;
+use crate::proved::sheets::BAD_BOARD;
+use crate::save::Place;
+use crate::shelf::table::{self, Counted};
+use crate::shelf::{work, Done, Results, Shelf};
+use crate::{complain, file, Status};
+use indicatif::{ProgressBar, ProgressStyle};
+use std::fs;
+use std::io::{BufWriter, Error, ErrorKind, Write};
+use std::path::{Path, PathBuf};
+use std::thread;
+
+pub fn obey(asked: &Asked) -> Result<Status, String> {
+    let board = match Board::of(file::read(&asked.board)?) {
+        Ok(board) => board,
+        Err(bad) => return refused_sheet(BAD_BOARD, &asked.board, &bad, asked.json),
+    };
+    let with = asked
+        .with
+        .iter()
+        .map(|path| Ok((path.clone(), file::read(path)?)));
+    let shelf = Shelf {
+        folder: asked.folder.clone(),
+        board_name: asked.board.clone(),
+        board,
+        with: with.collect::<Result<_, String>>()?,
+        steps: asked.steps,
+        pages: asked.report.clone(),
+    };
+    let names = shelf.names()?;
+    if names.is_empty() {
+        return Err(format!(
+            "{}: there is no image in it",
+            asked.folder.display()
+        ));
+    }
+    let index = asked
+        .report
+        .as_deref()
+        .map(|folder| index(folder, asked))
+        .transpose()?;
+    let kept = kept(asked)?;
+    let results = Results::of(shelf.key()?, &names, kept.as_deref())?;
+    let bar = progress(names.len() as u64);
+    let done = work(&shelf, &names, results, jobs(asked), &bar);
+    bar.finish_and_clear();
+    conclude(asked, &shelf, &done?, index)
+}
+
+/// The jobs that are asked for, or one for each core.
+fn jobs(asked: &Asked) -> usize {
+    let cores = || thread::available_parallelism().map_or(1, usize::from);
+    let asked = asked
+        .jobs
+        .map(|jobs| usize::try_from(jobs).unwrap_or(usize::MAX));
+    asked.unwrap_or_else(cores)
+}
+
+/// The folder of the pages, made where it is missing, and the place of the page of all.
+fn index(folder: &Path, asked: &Asked) -> Result<Place, String> {
+    fs::create_dir_all(folder).map_err(|error| format!("{}: {error}", folder.display()))?;
+    apart(folder, asked)?;
+    Place::apart(&folder.join("index.html"), &[])
+}
+
+/// The file that keeps the results, if one does.
+fn kept(asked: &Asked) -> Result<Option<PathBuf>, String> {
+    let beside = asked
+        .report
+        .as_ref()
+        .map(|folder| folder.join("results.txt"));
+    let kept = asked.results.clone().or(beside);
+    if let Some(folder) = kept.as_deref().and_then(Path::parent) {
+        let here = folder.as_os_str().is_empty();
+        apart(if here { Path::new(".") } else { folder }, asked)?;
+    }
+    Ok(kept)
+}
+
+/// Nothing is written among the images: it would be one of them the next time.
+fn apart(folder: &Path, asked: &Asked) -> Result<(), String> {
+    let same = folder.canonicalize().ok() == asked.folder.canonicalize().ok();
+    match same {
+        true => Err(format!(
+            "{}: the images are there, and nothing is written among them",
+            folder.display()
+        )),
+        false => Ok(()),
+    }
+}
+
+/// A bar on standard error; it draws nothing where that is no terminal.
+fn progress(images: u64) -> ProgressBar {
+    let form = "{elapsed_precise} {wide_bar} {human_pos} of {human_len} images, {eta} left";
+    let style = ProgressStyle::with_template(form);
+    let style = style.unwrap_or_else(|_| ProgressStyle::default_bar());
+    ProgressBar::new(images).with_style(style)
+}
+
+/// Says what came of the shelf, and writes the page of all.
+fn conclude(
+    asked: &Asked,
+    shelf: &Shelf,
+    done: &Done,
+    index: Option<Place>,
+) -> Result<Status, String> {
+    let results = &done.results;
+    if let Some(index) = index {
+        index.write_by(|file| table::page(file, results, shelf))?;
+    }
+    if done.at_hand > 0 {
+        let (at_hand, all) = (done.at_hand, results.rows().count());
+        complain(&format!("{at_hand} of {all} results were at hand"));
+    }
+    let mut out = BufWriter::new(std::io::stdout().lock());
+    let said = match (asked.csv, asked.json) {
+        (true, _) => table::csv(&mut out, results),
+        (_, true) => table::json(&mut out, results),
+        _ => table::text(&mut out, results),
+    };
+    unless_closed(said.and_then(|()| out.flush()))?;
+    Ok(match Counted::of(results).all_good() {
+        true => Status::Ran,
+        false => Status::NoFit,
+    })
+}
+
+/// A reader that has gone away is no error.
+fn unless_closed(written: Result<(), Error>) -> Result<(), String> {
+    match written {
+        Err(error) if error.kind() != ErrorKind::BrokenPipe => {
+            Err(format!("standard output: {error}"))
+        }
+        _ => Ok(()),
+    }
+}

@@ -1,0 +1,140 @@
+//! A folder of images on one board: each is judged by its label and run, several at a time. What comes of an image
+//! depends on its bytes, the board, the steps and the program alone, so that the answer is the same for any number of
+//! jobs, and a result that was kept can stand for it.
+
+mod judge;
+mod results;
+pub mod row;
+pub mod table;
+mod work;
+
+pub use results::Results;
+pub use work::{work, Done};
+
+use crate::command::fit::Board;
+use crate::page::digest;
+use std::ffi::{OsStr, OsString};
+use std::fs;
+use std::path::{Path, PathBuf};
+
+/// What every image of a shelf meets.
+pub struct Shelf {
+    pub folder: PathBuf,
+    pub board_name: PathBuf,
+    pub board: Board,
+    /// The board's own files, with their bytes.
+    pub with: Vec<(PathBuf, Vec<u8>)>,
+    pub steps: u64,
+    /// Where pages go.
+    pub pages: Option<PathBuf>,
+}
+
+impl Shelf {
+    /// The names of the images: the folder's regular files, but for those that belong to the board, by the order of
+    /// their bytes.
+    pub fn names(&self) -> Result<Vec<OsString>, String> {
+        let told = |error| format!("{}: {error}", self.folder.display());
+        let own = self.with.iter().map(|(path, _)| path);
+        let own = own.chain([&self.board_name]);
+        let own: Vec<PathBuf> = own.filter_map(|path| path.canonicalize().ok()).collect();
+        let mut names = Vec::new();
+        for entry in fs::read_dir(&self.folder).map_err(told)? {
+            let entry = entry.map_err(told)?;
+            let path = entry.path();
+            let is_file = fs::metadata(&path).is_ok_and(|there| there.is_file());
+            let is_own = path.canonicalize().is_ok_and(|path| own.contains(&path));
+            // What cannot be looked at is an image that cannot be read, unless it is seen to be something else.
+            let is_broken = fs::metadata(&path).is_err();
+            if (is_file && !is_own) || is_broken {
+                names.push(entry.file_name());
+            }
+        }
+        names.sort();
+        Ok(names)
+    }
+
+    /// A sum of all that decides a result but for the image itself, the program among it.
+    pub fn key(&self) -> Result<String, String> {
+        let program = std::env::current_exe().and_then(fs::read);
+        let program = program.map_err(|error| format!("the program's own file: {error}"))?;
+        let mut parts = vec![digest(&program), self.steps.to_string()];
+        parts.push(format!(
+            "{:?} {}",
+            self.board_name,
+            digest(&self.board.bytes)
+        ));
+        for (path, bytes) in &self.with {
+            parts.push(format!("{path:?} {}", digest(bytes)));
+        }
+        Ok(digest(parts.join("\n").as_bytes()))
+    }
+
+    /// Where an image's page lies.
+    fn page(&self, name: &OsStr) -> Option<PathBuf> {
+        let folder = self.pages.as_ref()?;
+        Some(folder.join(page_name(&name_text(name))))
+    }
+}
+
+/// A file's name as text; one that is none, with its odd bytes written out.
+fn name_text(name: &OsStr) -> String {
+    match name.to_str() {
+        Some(text) => text.into(),
+        None => name.as_encoded_bytes().escape_ascii().to_string(),
+    }
+}
+
+/// The most letters of an image's name in that of its page.
+const MOST_LETTERS: usize = 60;
+
+/// The name of an image's page, of letters that mean nothing to a link or a file system, told apart by a sum.
+pub fn page_name(file: &str) -> String {
+    let plain = |letter: char| match letter {
+        letter if letter.is_ascii_alphanumeric() || matches!(letter, '.' | '-' | '_') => letter,
+        _ => '_',
+    };
+    let letters: String = file.chars().take(MOST_LETTERS).map(plain).collect();
+    let letters = letters.trim_start_matches('.');
+    format!("{letters}-{}.html", &digest(file.as_bytes())[..12])
+}
+
+/// Writes a page beside its place and moves it there.
+fn write_page(path: &Path, page: &str) -> Result<(), String> {
+    let mut beside = path.as_os_str().to_owned();
+    beside.push(".part");
+    let written = fs::write(&beside, page).and_then(|()| fs::rename(&beside, path));
+    written.map_err(|error| format!("{}: {error}", path.display()))
+}
+
+#[cfg(test)]
+mod tests {
+    use super::*;
+
+    #[test]
+    fn names_that_are_no_text_are_told_apart() {
+        use std::os::unix::ffi::OsStrExt;
+        let text = |bytes| name_text(OsStr::from_bytes(bytes));
+        assert_eq!(text(b"a b\xc3\xa9"), "a b\u{e9}");
+        assert_eq!([text(b"a\xff"), text(b"a\xfe\n")], ["a\\xff", "a\\xfe\\n"]);
+    }
+
+    #[test]
+    fn a_page_has_a_plain_name_of_its_own() {
+        let names = [
+            "a.img",
+            "a b.img",
+            "a\u{202e}b.img",
+            "../x",
+            "..",
+            &"y".repeat(300),
+        ]
+        .map(page_name);
+        assert!(names[0].starts_with("a.img-") && names[0].ends_with(".html"));
+        for name in &names {
+            assert!(!name.starts_with('.') && name.len() < 90, "{name}");
+            let plain = |letter: char| letter.is_ascii_alphanumeric() || "._-".contains(letter);
+            assert!(name.chars().all(plain), "{name}");
+        }
+        assert_ne!(names[1], names[2]);
+    }
+}

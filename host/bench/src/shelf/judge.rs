@@ -1,0 +1,184 @@
+//! One image of a shelf: its label beside the board, its run, its row and its page.
+
+use super::row::{Label, Row};
+use super::Shelf;
+use crate::account::Account;
+use crate::arguments::Run;
+use crate::command::fit::{Beside, Labelled};
+use crate::command::run::{ran_page, ready, Halt, Ready};
+use crate::drive::{self, Plan};
+use crate::image::{self, Format, Segment};
+use crate::last::Last;
+use crate::page::{self, Answer, Source, Subject, LAST};
+use crate::proved::{Counts, Refusal, MOST_STEPS};
+use crate::sheet::label::Placed;
+use crate::sheet::Bad;
+use lent::State;
+use std::panic::{catch_unwind, AssertUnwindSafe};
+use std::path::{Path, PathBuf};
+
+/// An image's row, and its page where pages are wanted.
+pub struct Judged {
+    pub row: Row,
+    pub page: Option<String>,
+}
+
+/// Judges an image by its name and bytes. Whatever is wrong with it is said in its row, and stops no other.
+pub fn judge(shelf: &Shelf, row: &Row, bytes: &[u8]) -> Result<Judged, String> {
+    let name = PathBuf::from(&row.file);
+    let image = Image {
+        shelf,
+        name: &name,
+        bytes,
+    };
+    let judged = catch_unwind(AssertUnwindSafe(|| image.judged(row.clone())));
+    judged.unwrap_or_else(|_| unread(shelf, row, "the bench itself failed at it".into()))
+}
+
+/// The row and the page of a file that could not be read.
+pub fn unread(shelf: &Shelf, row: &Row, why: String) -> Result<Judged, String> {
+    let name = PathBuf::from(&row.file);
+    let image = Image {
+        shelf,
+        name: &name,
+        bytes: &[],
+    };
+    image.bad(row.clone(), why)
+}
+
+struct Image<'a> {
+    shelf: &'a Shelf,
+    name: &'a Path,
+    bytes: &'a [u8],
+}
+
+impl Image<'_> {
+    fn judged(&self, mut row: Row) -> Result<Judged, String> {
+        if !image::is_labelled(Format::Auto, self.bytes) {
+            row.label = Label::None;
+            return self.run(row, &[]);
+        }
+        let labelled = match Labelled::of(self.name, self.bytes) {
+            Ok(labelled) => labelled,
+            Err(line) => {
+                let bad = Bad::of_image(self.bytes, line);
+                return self.bad(row, format!("line {}: {}", bad.line, bad.reason));
+            }
+        };
+        let fits = [Beside::of(&self.shelf.board, &labelled)];
+        if fits[0].fits {
+            row.label = Label::Fits;
+            return self.run(row, &fits);
+        }
+        row.label = Label::Misfit;
+        row.why = reasons(&fits[0].regions);
+        let page = self.page(|| page::of(&self.subject(&[], &fits), &Answer::Misfit));
+        Ok(Judged {
+            row,
+            page: page.transpose()?,
+        })
+    }
+
+    /// The image in the board's memory, beside the board's own files, and run.
+    fn run(&self, mut row: Row, fits: &[Beside]) -> Result<Judged, String> {
+        let with = &self.shelf.with;
+        let own = with.iter().map(|(path, _)| path.clone());
+        let asked = Run {
+            images: own.chain([self.name.into()]).collect(),
+            steps: self.shelf.steps,
+            ..Run::default()
+        };
+        let own = with.iter().map(|(_, bytes)| bytes.as_slice());
+        let files: Vec<&[u8]> = own.chain([self.bytes]).collect();
+        let mut ready = match ready(&asked, &files, Some(&self.shelf.board.sheet)) {
+            Ok(ready) => ready,
+            Err(halt) => return self.bad(row, said(halt)),
+        };
+        let before = ready.state.clone();
+        let mut last = Last::new(&before, LAST, None);
+        let outcome = match driven(&mut ready, self.shelf.steps, &mut last) {
+            Ok(outcome) => outcome,
+            Err(refusal) => return self.bad(row, refusal_said(refusal)),
+        };
+        let named = (&ready.names, ready.stack);
+        let account = Account::of(&ready.state, &outcome, named, fits, false);
+        row.take(&account);
+        let subject = || self.subject(&ready.segments, fits);
+        let page = self.page(|| ran_page(&subject(), &account, &before, last));
+        Ok(Judged {
+            row,
+            page: page.transpose()?,
+        })
+    }
+
+    /// An image that cannot be judged or run, and why; its own name is not said again.
+    fn bad(&self, mut row: Row, why: String) -> Result<Judged, String> {
+        let own = [self.shelf.folder.join(self.name), self.name.into()];
+        let own = own.map(|path| format!("{}: ", path.display()));
+        let short = own.iter().find_map(|own| why.strip_prefix(own));
+        row.why = short.unwrap_or(&why).into();
+        let answer = Answer::Bad(row.why.clone());
+        let page = self.page(|| page::of(&self.subject(&[], &[]), &answer));
+        Ok(Judged {
+            row,
+            page: page.transpose()?,
+        })
+    }
+
+    fn page<T>(&self, made: impl FnOnce() -> T) -> Option<T> {
+        self.shelf.pages.as_ref().map(|_| made())
+    }
+
+    fn subject<'b>(&'b self, segments: &'b [Segment], fits: &'b [Beside<'b>]) -> Subject<'b> {
+        let own = self.shelf.with.iter();
+        let own = own.map(|(path, bytes)| Source::of(path, bytes));
+        let (name, board) = (&self.shelf.board_name, &self.shelf.board);
+        Subject {
+            files: [Source::of(self.name, self.bytes)]
+                .into_iter()
+                .chain(own)
+                .collect(),
+            board: Some((Source::of(name, &board.bytes), &board.sheet)),
+            segments,
+            fits,
+        }
+    }
+}
+
+fn said(halt: Halt) -> String {
+    match halt {
+        Halt::Refused(refusal, _) => refusal_said(refusal),
+        Halt::Bad(reason) => reason,
+    }
+}
+
+fn refusal_said(refusal: Refusal) -> String {
+    format!("refused, number {}: {}", refusal.0, refusal.reason())
+}
+
+/// Why an image does not fit: what is said of each region that does not.
+fn reasons(regions: &[Placed]) -> String {
+    let amiss = regions.iter().filter_map(|placed| {
+        let reason = placed.place.as_ref().err()?;
+        Some(format!("{}: {reason}", placed.region.name))
+    });
+    amiss.collect::<Vec<String>>().join("; ")
+}
+
+/// Runs, and keeps states for the last steps.
+fn driven(ready: &mut Ready, steps: u64, last: &mut Last) -> Result<drive::Outcome, Refusal> {
+    let mut made = 0;
+    let mut watch = |before: &State, _: &State, counts: Counts| {
+        last.see(made, before);
+        made += counts.retired + counts.trapped;
+        true
+    };
+    let plan = Plan {
+        steps,
+        through_traps: false,
+        call: MOST_STEPS,
+        sweep: None,
+        watch: &mut watch,
+    };
+    drive::run(&mut ready.state, plan)
+}

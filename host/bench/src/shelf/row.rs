@@ -1,0 +1,116 @@
+//! A row of a shelf: what came of one image, in plain words and numbers. The same row is kept, and shown in every form.
+
+use crate::account::Account;
+use crate::drive::End;
+use crate::proved::instruction;
+use crate::stack::Used;
+use serde::{Deserialize, Serialize};
+
+/// What an image's label says beside the board.
+#[derive(Clone, Copy, PartialEq, Eq, Debug, Serialize, Deserialize)]
+#[serde(rename_all = "lowercase")]
+pub enum Label {
+    Fits,
+    Misfit,
+    /// It has none.
+    None,
+    /// The file could not be judged.
+    Bad,
+}
+
+/// How a run went.
+#[derive(Clone, Copy, PartialEq, Eq, Debug, Serialize, Deserialize)]
+#[serde(rename_all = "lowercase")]
+pub enum Ran {
+    /// To its end: it jumps to itself.
+    Ended,
+    /// All the steps that were asked for.
+    Running,
+    Trapped,
+    /// It was not run.
+    No,
+}
+
+#[derive(Clone, PartialEq, Eq, Debug, Serialize, Deserialize)]
+pub struct Row {
+    pub file: String,
+    pub bytes: u64,
+    pub sha256: String,
+    pub label: Label,
+    pub run: Ran,
+    /// Why it does not fit, cannot be run or trapped.
+    pub why: String,
+    pub retired: Option<u64>,
+    pub trapped: Option<u64>,
+    /// Where it trapped, by which instruction, what was asked and what its authority allows.
+    pub at: Option<u32>,
+    pub instruction: Option<String>,
+    pub asked_low: Option<u32>,
+    pub asked_high: Option<u64>,
+    pub bounds_low: Option<u32>,
+    pub bounds_high: Option<u64>,
+    pub stack_used: Option<u64>,
+    pub stack_size: Option<u64>,
+    pub stack_mark: Option<u32>,
+}
+
+impl Row {
+    /// The row of an image of which nothing is known yet.
+    pub fn new(file: String, bytes: u64, sha256: String) -> Row {
+        Row {
+            file,
+            bytes,
+            sha256,
+            label: Label::Bad,
+            run: Ran::No,
+            why: String::new(),
+            retired: None,
+            trapped: None,
+            at: None,
+            instruction: None,
+            asked_low: None,
+            asked_high: None,
+            bounds_low: None,
+            bounds_high: None,
+            stack_used: None,
+            stack_size: None,
+            stack_mark: None,
+        }
+    }
+
+    /// Takes up what a run came to.
+    pub fn take(&mut self, account: &Account) {
+        let (outcome, trap) = (account.outcome, account.trap.as_ref());
+        self.run = match outcome.end {
+            End::Still => Ran::Ended,
+            End::Steps => Ran::Running,
+            End::Trap(_) => Ran::Trapped,
+        };
+        self.retired = Some(outcome.counts.retired);
+        self.trapped = Some(outcome.counts.trapped);
+        if let Some(trap) = trap {
+            self.why.clone_from(&trap.cause);
+            self.at = Some(trap.pcc.address);
+            self.instruction = trap.word.map(instruction);
+        }
+        let asked = trap.and_then(|trap| trap.asked);
+        self.asked_low = asked.map(|asked| asked.address);
+        self.asked_high = asked.map(|asked| asked.end());
+        let bounds = trap.and_then(|trap| Some(trap.authority.as_ref()?.bounds));
+        self.bounds_low = bounds.map(|bounds| bounds.low);
+        self.bounds_high = bounds.map(|bounds| bounds.high);
+        let used = Used::of(account.state, account.stack);
+        self.stack_mark = used.map(|used| used.mark);
+        (self.stack_used, self.stack_size) = used.and_then(|used| used.bytes).unzip();
+    }
+
+    /// Whether it was run without a trap.
+    pub fn is_quiet(&self) -> bool {
+        matches!(self.run, Ran::Ended | Ran::Running)
+    }
+
+    /// Whether it fits by its label and was run without a trap.
+    pub fn is_good(&self) -> bool {
+        self.label == Label::Fits && self.is_quiet()
+    }
+}

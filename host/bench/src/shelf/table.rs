@@ -1,0 +1,189 @@
+//! The rows of a shelf as text, CSV, JSON and a page, one row after the other.
+
+use super::row::{Label, Ran, Row};
+use super::{page_name, Results, Shelf};
+use crate::capability_text::{count, grouped};
+use crate::page::{filled, Source};
+use crate::visible::{shortened, visible};
+use serde_json::{json, Value};
+use std::io::{Error, Write};
+
+/// How many images are what.
+#[derive(Clone, Copy, Default, PartialEq, Eq, Debug)]
+pub struct Counted {
+    pub images: u64,
+    pub good: u64,
+    pub misfits: u64,
+    pub trapped: u64,
+    /// Judged or run they could not be.
+    pub bad: u64,
+    pub unlabelled: u64,
+}
+
+impl Counted {
+    pub fn of(results: &Results) -> Counted {
+        let mut counted = Counted::default();
+        for row in results.rows() {
+            counted.images += 1;
+            counted.good += u64::from(row.is_good());
+            counted.misfits += u64::from(row.label == Label::Misfit);
+            counted.trapped += u64::from(row.run == Ran::Trapped);
+            counted.bad += u64::from(row.run == Ran::No && row.label != Label::Misfit);
+            counted.unlabelled += u64::from(row.label == Label::None);
+        }
+        counted
+    }
+
+    /// Whether every image fits and ran without a trap.
+    pub fn all_good(&self) -> bool {
+        self.good == self.images
+    }
+
+    fn said(&self) -> String {
+        let parts = [
+            (self.misfits, "do not fit"),
+            (self.trapped, "trapped"),
+            (self.bad, "could not be run"),
+            (self.unlabelled, "have no label to be judged by"),
+        ];
+        let (images, good) = (count(self.images, "image"), grouped(self.good));
+        let mut text = format!("{images}: {good} fit and ran without a trap");
+        for (number, what) in parts.iter().filter(|(number, _)| *number > 0) {
+            text.push_str(&format!("; {} {what}", grouped(*number)));
+        }
+        text + "."
+    }
+}
+
+/// The most letters of a name that the table makes room for.
+const MOST_LETTERS: usize = 40;
+
+fn label(row: &Row) -> &'static str {
+    match row.label {
+        Label::Fits => "fits",
+        Label::Misfit => "does not fit",
+        Label::None => "no label",
+        Label::Bad => "bad",
+    }
+}
+
+fn run(row: &Row) -> &'static str {
+    match row.run {
+        Ran::Ended => "ended",
+        Ran::Running => "running",
+        Ran::Trapped => "trapped",
+        Ran::No => "not run",
+    }
+}
+
+fn stack(row: &Row) -> String {
+    match (row.stack_used, row.stack_size) {
+        (Some(used), Some(size)) => format!("{} of {}", grouped(used), grouped(size)),
+        _ => String::new(),
+    }
+}
+
+/// Why, and of a trap where.
+fn why(row: &Row) -> String {
+    match row.at {
+        Some(at) => format!("at {at:08x}: {}", row.why),
+        None => row.why.clone(),
+    }
+}
+
+/// The table for people.
+pub fn text(out: &mut impl Write, results: &Results) -> Result<(), Error> {
+    let letters = results.rows().map(|row| visible(&row.file).chars().count());
+    let width = letters.max().unwrap_or(0).clamp(5, MOST_LETTERS);
+    writeln!(
+        out,
+        "{:<width$}  label         run      {:>14}  {:>16}  why",
+        "image", "steps", "stack"
+    )?;
+    for row in results.rows() {
+        let (file, steps) = (
+            visible(&row.file),
+            row.retired.map_or(String::new(), grouped),
+        );
+        let line = format!(
+            "{file:<width$}  {:<12}  {:<7}  {steps:>14}  {:>16}  {}",
+            label(&row),
+            run(&row),
+            stack(&row),
+            visible(&why(&row)),
+        );
+        writeln!(out, "{}", line.trim_end())?;
+    }
+    writeln!(out, "\n{}", Counted::of(results).said())
+}
+
+/// The rows as CSV, under the names that JSON has.
+pub fn csv(out: &mut impl Write, results: &Results) -> Result<(), Error> {
+    let mut writer = csv::Writer::from_writer(out);
+    for row in results.rows() {
+        writer.serialize(row).map_err(Error::other)?;
+    }
+    writer.flush()
+}
+
+/// The rows as JSON, and how many are what.
+pub fn json(out: &mut impl Write, results: &Results) -> Result<(), Error> {
+    write!(out, "{{\n  \"rows\": [")?;
+    for (place, row) in results.rows().enumerate() {
+        let comma = if place == 0 { "" } else { "," };
+        write!(out, "{comma}\n    {}", serde_json::to_string(&row)?)?;
+    }
+    let counted = Counted::of(results);
+    let counts = json!({
+        "images": counted.images, "good": counted.good, "misfits": counted.misfits, "trapped": counted.trapped,
+        "bad": counted.bad, "unlabelled": counted.unlabelled,
+    });
+    writeln!(out, "\n  ],\n  \"counts\": {counts}\n}}")
+}
+
+fn fill(out: &mut impl Write, template: &str, value: &Value) -> Result<(), Error> {
+    let text = filled(template, value).map_err(Error::other)?;
+    out.write_all(text.as_bytes())
+}
+
+/// The page of all, with a link to each image's own.
+pub fn page(out: &mut impl Write, results: &Results, shelf: &Shelf) -> Result<(), Error> {
+    let counted = Counted::of(results);
+    let (kind, head) = match counted.all_good() {
+        true => (
+            "quiet",
+            "Every image fits the board and ran without a trap.",
+        ),
+        false => (
+            "bad",
+            "Not every image fits the board and ran without a trap.",
+        ),
+    };
+    let folder = shortened(&shelf.folder.display().to_string());
+    let board = shortened(&shelf.board_name.display().to_string());
+    let title = format!("{folder} on {board}");
+    let head = json!({ "title": title, "kind": kind, "head": head, "summary": counted.said() });
+    fill(out, "shelf_head.html", &head)?;
+    for row in results.rows() {
+        let kind = match row.label {
+            _ if row.run == Ran::Trapped => "trapped",
+            Label::Misfit => "not-fit",
+            _ if row.run == Ran::No => "bad",
+            _ => "quiet",
+        };
+        let steps = row.retired.map_or(String::new(), grouped);
+        let value = json!({
+            "kind": kind, "page": page_name(&row.file), "file": shortened(&row.file), "label": label(&row),
+            "end": run(&row), "steps": steps, "stack": stack(&row), "why": why(&row),
+        });
+        fill(out, "shelf_row.html", &value)?;
+    }
+    let own = shelf
+        .with
+        .iter()
+        .map(|(path, bytes)| Source::of(path, bytes));
+    let board = Source::of(&shelf.board_name, &shelf.board.bytes);
+    let files: Vec<_> = own.chain([board]).map(|source| source.value()).collect();
+    let foot = json!({ "files": files, "version": env!("CARGO_PKG_VERSION") });
+    fill(out, "shelf_foot.html", &foot)
+}
