@@ -67,9 +67,12 @@ impl Last {
             _ => self.older,
         };
         let first = steps.saturating_sub(self.wanted);
+        // States that follow so closely were not kept. Where a value was then loaded that no start may hold, the run
+        // may have gone on from the last of them, so that state is found again: these steps are made one by one.
+        let close = at.made + self.wanted;
         while at.made < first {
-            let call = (first - at.made).min(MOST_STEPS);
-            advance(&mut at, call, self.sweep)?;
+            let call = if at.made < close { 1 } else { first - at.made };
+            advance(&mut at, call.min(MOST_STEPS), self.sweep)?;
         }
         let step = |_| {
             let before = at.state.clone();
