@@ -112,12 +112,17 @@ pub fn revocation(state: &State, low: u32) -> Revocation {
 pub fn unsound(state: &State) -> Vec<usize> {
     let alone = |&place: &usize| {
         let mut scratch = state.clone();
-        for other in (0..CAPABILITIES).filter(|&other| other != place) {
-            scratch.regs[3 * other + 2] = 0;
-        }
+        untag_others(&mut scratch, place);
         proved::run(&mut scratch, 0) == Err(UNSOUND)
     };
     (0..CAPABILITIES).filter(alone).collect()
+}
+
+/// Clears the tag of every register but one.
+fn untag_others(state: &mut State, place: usize) {
+    for other in (0..CAPABILITIES).filter(|&other| other != place) {
+        state.regs[3 * other + 2] = 0;
+    }
 }
 
 /// The target of a jump by a register whose authority is at `address`.
@@ -127,10 +132,12 @@ pub fn register_jump(word: u32, address: u32) -> Option<u32> {
     target(scratch(0, word, register, authority))
 }
 
-/// The target of the branch or CJAL that `state` is at, with PCC widened to the root, and without interrupts.
+/// The target of the branch or CJAL that `state` is at, with PCC widened to the root, and without interrupts. It goes
+/// by no other tag, and one that no start may hold would be refused.
 pub fn relative_jump(state: &State, pcc: Capability) -> Option<u32> {
     let mut state = state.clone();
     state.regs[MSTATUS] = 0;
+    untag_others(&mut state, PCC);
     state.set(PCC, Capability::tagged(pcc.address, EXECUTABLE_ROOT));
     target(state)
 }

@@ -242,6 +242,30 @@ fn the_trace_shows_products_and_quotients() {
 }
 
 /// An endless loop: whoever has read enough is not kept waiting, but a state is saved all the same.
+/// A run that loads a value with low above high goes on, and its page has the lines of its trace.
+#[test]
+fn the_page_of_a_run_that_loads_what_no_start_may_hold() {
+    let directory = directory("loads_unsound");
+    // CLC c2, 64(c1)
+    let code = [addi(10, 0, 1), 0x0400_B103, addi(10, 10, 1), EBREAK];
+    let mut state = with_code(&code);
+    state.set(1, Capability::tagged(START, MEMORY_ROOT));
+    let unsound = Capability::tagged(0x0500_0000, 0x7E3C_0805);
+    state.write_capability(START + 64, unsound);
+    std::fs::write(directory.join("start"), text(&state)).unwrap();
+    let run = ["run", "--state", "start"];
+    let paged = bench_in(&directory, &[&run[..], &["--report", "page"]].concat());
+    assert_eq!(paged.status, 1, "{}", paged.err);
+    let traced = bench_in(&directory, &[&run[..], &["--trace", "--json"]].concat());
+    let lines: Vec<&str> = traced.err.lines().collect();
+    assert_eq!(lines.len(), 4, "{}", traced.err);
+    assert!(lines[1].contains("c2 := 05000000"), "{}", lines[1]);
+    let page = std::fs::read_to_string(directory.join("page")).unwrap();
+    for line in lines {
+        assert!(page.contains(line), "{line}");
+    }
+}
+
 #[test]
 fn a_trace_ends_with_its_reader() {
     let directory = directory("trace_reader");

@@ -70,6 +70,19 @@ fn a_relative_jumps_target_is_pccs_plus_the_offset() {
 }
 
 #[test]
+fn a_target_is_told_beside_what_no_start_may_hold() {
+    // BEQ c2, c3, 64 and CJAL c2, 64; low of c2 is above its high.
+    for word in [0x0431_0063, 0x0400_016F] {
+        let unsound = Capability::tagged(0x0500_0000, 0x7E3C_0805);
+        let mut state = scratch(0x4000_0000, word, 2, unsound);
+        state.set(3, unsound);
+        assert_eq!(super::unsound(&state), [2, 3]);
+        let pcc = state.capability(PCC);
+        assert_eq!(relative_jump(&state, pcc), Some(0x4000_0040), "{word:08x}");
+    }
+}
+
+#[test]
 fn the_last_target_is_told_too() {
     // CJALR c0, 0(c1) and CJALR c0, -2(c1); CJAL c0, 126.
     let (here, two_below, forward) = (0x0000_8067, 0xFFE0_8067, 0x07E0_006F);
