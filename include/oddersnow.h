@@ -7,7 +7,7 @@
  *
  *   libraries: `rt staticlib label` has the first six functions (target/staticlib/liblabel.a),
  *   `rt staticlib call_lists` oddersnow_calls (target/staticlib/libcall_lists.a), `rt staticlib bench_api`
- *   oddersnow_step, oddersnow_run and oddersnow_sweep (target/staticlib/libbench_api.a), `rt staticlib sheet_api` the
+ *   oddersnow_step, oddersnow_run, oddersnow_run_watched and oddersnow_sweep (target/staticlib/libbench_api.a), `rt staticlib sheet_api` the
  *   functions about sheets (target/staticlib/libsheet_api.a), `rt staticlib listing_api` oddersnow_list and
  *   oddersnow_assemble (target/staticlib/liblisting_api.a). A program may link all of them.
  */
@@ -94,6 +94,19 @@ uint64_t oddersnow_run(uint32_t *regs, size_t regs_len, uint32_t start,
                        uint8_t *mem, size_t mem_len, uint8_t *tags, size_t tags_len,
                        uint32_t window_start, uint32_t window_size, const uint8_t *revoked, size_t revoked_len,
                        uint32_t edition, uint32_t steps);
+
+/* A run with a watch record: two ranges of addresses, and for each how many stores touched it. It answers as oddersnow_run does and
+ * leaves the same registers, memory and tags. A range is length bytes from a start address on, its end a whole number, up to 2^32 or past
+ * it; one of length 0 is never touched. For each range that a retired store has a byte in common with, its count rises by 1; a
+ * count stops at 2^32 - 1. A store that traps touches nothing. Where the number of the answer is not 0, both counts stay. The two counts are two
+ * words, neither of them part of a slice.
+ */
+uint64_t oddersnow_run_watched(uint32_t *regs, size_t regs_len, uint32_t start,
+                               uint8_t *mem, size_t mem_len, uint8_t *tags, size_t tags_len,
+                               uint32_t window_start, uint32_t window_size, const uint8_t *revoked, size_t revoked_len,
+                               uint32_t edition, uint32_t steps,
+                               uint32_t start1, uint32_t length1, uint32_t *count1,
+                               uint32_t start2, uint32_t length2, uint32_t *count2);
 
 /* The sweeper: one granule of 8 bytes a call, by its number from 0. Lent are memory, tags, window and revocation bits as for a
  * step; memory is only read, and no registers are lent: they are not swept. The granule's tag is cleared where the load filter

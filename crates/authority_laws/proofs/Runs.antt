@@ -24,6 +24,10 @@ use Rattle.commit.specs.Commit.{applyEffect}
 use Rattle.execution.specs.Step.{seen, effectAt, stepOf, lengthIn, fetchedIn}
 use Rattle.machine.specs.Refusals.{refusalOf}
 use Rattle.machine.specs.Run.{stepRefusal, stepAfter, Ran, ran, oneMore, iterate, ranFrom, runAfter}
+use Rattle.machine.specs.Watching.{WatchPromise}
+use Rattle.machine.specs.declared.RunAnswer.{RunAnswer}
+use Rattle.watch.specs.declared.Watch.{Watch}
+use Rattle.bench_api.specs.Watches.{WatchPacked}
 use Rattle.sweep.specs.Visits.{tagsAfter}
 use Rattle.sweep.proofs.Laws.{stored-tag, stored-alike, tag-falls, bytes-stay}
 use Rattle.machine_laws.specs.Fits.{InType}
@@ -237,6 +241,14 @@ reached-gains-none s a h (by-visit {b} g board revoked answer r same p) =
     kept-by-visit (reached-gains-none s b h r) board revoked a g same (p .tags-are)
 reached-gains-none s a h (by-c-visit {b} g board revoked answer r same p) =
     kept-by-visit (reached-gains-none s b h r) board revoked a g same (p .tags-are)
+
+-- A run with a watch record, of the machine or for C, is one of these calls: its promise has a run's.
+module _ (s b a : State) (n : ℕ) (board : Board) (revoked : List ℕ) (reached : Reached s b) where
+  pub by-watched : (w left : Watch) (answer : RunAnswer) → WatchPromise n board revoked b a w left answer → Reached s a
+  by-watched w left answer p = by-run n board revoked answer reached (p .run-is)
+
+  pub by-c-watched : (w : Watch) (count1 count2 answer : ℕ) → WatchPacked n board revoked b a w count1 count2 answer → Reached s a
+  by-c-watched w count1 count2 answer p = by-c-run n board revoked answer reached (p .run-is)
 
 -- no run gains authority
 pub authority-claim : (s : State) → Start s → AuthorityClaim s

@@ -65,8 +65,9 @@ pub record Unwritten (before after : State) : Type 0 where
   pub same-registers : after .regs ≡ before .regs
   pub same-memory : after .mem ≡ before .mem
 
--- What calls leave, one after another and whatever they answer: a constructor for each function that changes what is lent, with its promise. Board and
--- revocation bits may differ from call to call. A caller's own write to registers, memory or tags is none of them: it begins a new start.
+-- What calls leave, one after another and whatever they answer: a constructor for each function that changes what is lent, with its promise; a run with a
+-- watch record has a run's (laws `by-watched`, `by-c-watched`). Board and revocation bits may differ from call to call.
+-- A caller's own write to registers, memory or tags is none of them: it begins a new start.
 pub data Reached (s : State) : State → Type 0 where
   at-start : Reached s s
   by-step : {b a : State} (board : Board) (revoked : List ℕ) (answer : StepAnswer) → Reached s b → StepPromise board revoked b a answer → Reached s a

@@ -1,16 +1,19 @@
-// A step, a run and the sweeper for C: slices and numbers, the answer packed into one number.
+// A step, a run, a run with a watch record and the sweeper for C: slices and numbers, the answer packed into one number.
 ghost use mathlib.Core.Path.{_≡_};
 ghost use Prim.Native.Nat.{_<_, _≤_, _^_};
 ghost use Rattle.state.specs.Lent.{state, reportEdition};
 ghost use Rattle.machine.specs.Run.{stepNumber, stepRetired, stepTrapped, runNumber, runRetired, runTrapped};
 ghost use Rattle.sweep.specs.Visits.{visitNumber};
 ghost use Rattle.bench_api.specs.Packing.{packed, boardOf, StepPacked, RunPacked, packedVisit, VisitPacked};
+ghost use Rattle.bench_api.specs.Watches.{watchOf, WatchPacked};
 use machine::RunAnswer;
 use machine::StepAnswer;
 use state::Board;
 use state::REPORT_EDITION;
 use state::Window;
 use sweep::SweepAnswer;
+use watch::Range;
+use watch::Watch;
 
 // The places of a number, 2^48, of the trapped steps, 2^24, and of the word that says which granule was the last, 2^32, in an answer.
 pub const NUMBER_PLACE: u64 = 0x1_0000_0000_0000;
@@ -145,6 +148,64 @@ pub extern "C" fn oddersnow_run(
         edition,
     };
     let a = machine::run(regs, board, mem, tags, revoked, steps);
+    pack(run_number(a), run_trapped(a), run_retired(a))
+}
+
+// The watch record of plain numbers.
+fn watch_of(start1: u32, length1: u32, count1: u32, start2: u32, length2: u32, count2: u32) -> Watch
+    ensures { λ r. ⌜ r ≡ watchOf start1 length1 count1 start2 length2 count2 ⌝ }
+{
+    Watch {
+        first: Range {
+            start: start1,
+            length: length1,
+            count: count1,
+        },
+        second: Range {
+            start: start2,
+            length: length2,
+            count: count2,
+        },
+    }
+}
+
+// A run of some steps with a watch record: two ranges, and their counts, which rise in place.
+#[no_mangle]
+pub extern "C" fn oddersnow_run_watched(
+    regs: &mut [u32],
+    start: u32,
+    mem: &mut [u8],
+    tags: &mut [u8],
+    window_start: u32,
+    window_size: u32,
+    revoked: &[u8],
+    edition: u32,
+    steps: u32,
+    start1: u32,
+    length1: u32,
+    count1: &mut u32,
+    start2: u32,
+    length2: u32,
+    count2: &mut u32,
+) -> u64
+    ensures { λ r. ⌜ WatchPacked steps (boardOf start «window_start» «window_size» edition) (now (revoked .entry))
+        (state (now (regs .entry)) (now (mem .entry)) (now (tags .entry))) (state (now (regs .exit)) (now (mem .exit)) (now (tags .exit)))
+        (watchOf start1 length1 (now (count1 .entry)) start2 length2 (now (count2 .entry))) (now (count1 .exit)) (now (count2 .exit)) r ⌝ }
+{
+    let board = Board {
+        start,
+        window: Window {
+            start: window_start,
+            size: window_size,
+        },
+        edition,
+    };
+    let w = watch_of(start1, length1, *count1, start2, length2, *count2);
+    let done = machine::watched_run(regs, board, mem, tags, revoked, steps, w);
+    let left = done.watch;
+    *count1 = left.first.count;
+    *count2 = left.second.count;
+    let a = done.answer;
     pack(run_number(a), run_trapped(a), run_retired(a))
 }
 

@@ -1,2 +1,3 @@
 pub mod Commit
 pub mod Touched
+pub mod Kept

@@ -6,17 +6,49 @@ ghost use Rattle.state.specs.Layout.{csrIndex};
 ghost use Rattle.state.specs.Memory.{storeWidth, granuleBytes};
 ghost use Rattle.state.specs.Lent.{state};
 ghost use Rattle.commit.specs.Commit.{advanced, trapped, jumped, withScr, withCsr, stored, retagged, storedCapability, writtenBy, applyEffect};
-ghost use Rattle.commit.specs.Commit.{retires};
+ghost use Rattle.commit.specs.Kept.{withStore, withTrap, keptAfter};
 use capability::Capability;
 use instructions::Csr;
 use instructions::Scr;
 use instructions::StoreKind;
 use state::Effect;
 use state::GRANULE;
+use state::GRANULE_BYTES;
 use state::MEPCC_INDEX;
 use state::MTCC_INDEX;
 use state::PCC_INDEX;
 use std::num::wrapping_add_u32;
+use watch::Watch;
+
+// What a run keeps beside the buffers: how many steps trapped, and the watch record. It goes through the commit, and not the commit's answer back to the
+// loop: so an instruction that stores nothing and does not trap does nothing for it.
+pub struct Kept {
+    pub trapped: u32,
+    pub watch: Watch,
+}
+
+impl Kept {
+    // After a store of some bytes at an address.
+    fn with_store(self, address: u32, width: u32) -> Kept
+        ensures { λ r. ⌜ r ≡ withStore self address width ⌝ }
+    {
+        Kept {
+            trapped: self.trapped,
+            watch: self.watch.touched(address, width),
+        }
+    }
+
+    // After a trap.
+    fn with_trap(self) -> Kept
+        ensures { λ r. ⌜ r ≡ withTrap self ⌝ }
+    {
+        let watch = self.watch;
+        Kept {
+            trapped: wrapping_add_u32(self.trapped, 1),
+            watch,
+        }
+    }
+}
 
 // PCC after an instruction of some bytes.
 pub fn advance(regs: &mut [u32], bytes: u32)
@@ -111,7 +143,7 @@ pub fn store_capability(mem: &mut [u8], tags: &mut [u8], at: u32, c: Capability)
     }
 }
 
-// All but time: the effect of an instruction of some bytes, and the mark, which a store may move. Answers whether the instruction retires.
+// All but time: the effect of an instruction of some bytes, and the mark, which a store may move. Answers what is kept.
 fn write_effect(
     regs: &mut [u32],
     start: u32,
@@ -119,31 +151,37 @@ fn write_effect(
     tags: &mut [u8],
     bytes: u32,
     e: Effect,
-) -> bool
-    ensures { λ r. ⌜ (r ≡ retires e) × (state (now (regs .exit)) (now (mem .exit)) (now (tags .exit))
+    kept: Kept,
+) -> Kept
+    ensures { λ r. ⌜ (r ≡ keptAfter start e kept) × (state (now (regs .exit)) (now (mem .exit)) (now (tags .exit))
         ≡ writtenBy start bytes e (state (now (regs .entry)) (now (mem .entry)) (now (tags .entry)))) ⌝ }
 {
     match e {
         Effect::Advance => {
             advance(regs, bytes);
-            true
+            kept
         }
         Effect::Write { rd, value } => {
             state::write_register(regs, rd, value);
             advance(regs, bytes);
-            true
+            kept
         }
         Effect::Store { kind, at, value } => {
+            let address = wrapping_add_u32(start, at);
+            // First: so the loop is shortest.
+            let after = kept.with_store(address, state::store_width(kind));
             store(mem, tags, kind, at, value);
             advance(regs, bytes);
-            state::move_mark(regs, wrapping_add_u32(start, at));
-            true
+            state::move_mark(regs, address);
+            after
         }
         Effect::StoreCapability { at, value } => {
+            let address = wrapping_add_u32(start, at);
+            let after = kept.with_store(address, GRANULE_BYTES);
             store_capability(mem, tags, at, value);
             advance(regs, bytes);
-            state::move_mark(regs, wrapping_add_u32(start, at));
-            true
+            state::move_mark(regs, address);
+            after
         }
         Effect::Jump {
             rd,
@@ -152,7 +190,7 @@ fn write_effect(
             mstatus,
         } => {
             jump(regs, rd, link, target, mstatus);
-            true
+            kept
         }
         Effect::WriteScr {
             rd,
@@ -161,7 +199,7 @@ fn write_effect(
             value,
         } => {
             write_scr(regs, bytes, rd, old, scr, value);
-            true
+            kept
         }
         Effect::WriteCsr {
             rd,
@@ -170,16 +208,16 @@ fn write_effect(
             value,
         } => {
             write_csr(regs, bytes, rd, old, csr, value);
-            true
+            kept
         }
         Effect::Trap { cause, value } => {
             enter_trap(regs, cause, value);
-            false
+            kept.with_trap()
         }
     }
 }
 
-// The effect of an instruction of some bytes on the lent buffers, memory from a start on. Answers whether the instruction retires.
+// The effect of an instruction of some bytes on the lent buffers, memory from a start on. Answers what is kept.
 pub fn commit_effect(
     regs: &mut [u32],
     start: u32,
@@ -187,11 +225,12 @@ pub fn commit_effect(
     tags: &mut [u8],
     bytes: u32,
     e: Effect,
-) -> bool
-    ensures { λ r. ⌜ (r ≡ retires e) × (state (now (regs .exit)) (now (mem .exit)) (now (tags .exit))
+    kept: Kept,
+) -> Kept
+    ensures { λ r. ⌜ (r ≡ keptAfter start e kept) × (state (now (regs .exit)) (now (mem .exit)) (now (tags .exit))
         ≡ applyEffect start bytes e (state (now (regs .entry)) (now (mem .entry)) (now (tags .entry)))) ⌝ }
 {
-    let retired = write_effect(regs, start, mem, tags, bytes, e);
+    let kept_now = write_effect(regs, start, mem, tags, bytes, e, kept);
     state::tick(regs);
-    retired
+    kept_now
 }

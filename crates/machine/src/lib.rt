@@ -1,5 +1,6 @@
 // The machine over lent buffers: a step, and a run of steps.
 use capability::Capability;
+use commit::Kept;
 use state::Board;
 use state::CAPABILITY_COUNT;
 use state::CAPABILITY_WORDS;
@@ -7,6 +8,7 @@ use state::GRANULE_BYTES;
 use state::LATER_EDITION;
 use state::REGISTER_WORDS;
 use state::REPORT_EDITION;
+use watch::Watch;
 ghost use mathlib.Core.Path.{_≡_};
 ghost use mathlib.Core.Bool.{not, _&&_};
 ghost use Prim.Native.Nat.{_/_};
@@ -17,6 +19,7 @@ ghost use Rattle.state.specs.Checks.{failIf};
 ghost use Rattle.machine.specs.Refusals.{blockBytes, goodMemory, goodWindow, goodTags, goodZero, goodWords, goodEdition};
 ghost use Rattle.machine.specs.Refusals.{sound, soundIfTagged, goodBounds, refusalOf};
 ghost use Rattle.machine.specs.Run.{StepPromise, ran, iterate, RunPromise};
+ghost use Rattle.machine.specs.Watching.{watchedBy, WatchPromise};
 
 // The answer to a step.
 pub enum StepAnswer {
@@ -255,7 +258,7 @@ pub fn step(
         return StepAnswer::Refused(no);
     }
     // By the run's loop: what has one caller is compiled into it.
-    let counts = take_steps(regs, board, mem, tags, revoked, 1);
+    let counts = take_watched(regs, board, mem, tags, revoked, 1, Watch::none());
     if counts.retired == 1 {
         StepAnswer::Retired
     } else {
@@ -263,40 +266,45 @@ pub fn step(
     }
 }
 
-// How many steps retired and trapped.
-struct Counts {
-    retired: u32,
-    trapped: u32,
+// How many steps retired and trapped, and the watch record after them.
+pub struct Tally {
+    pub retired: u32,
+    pub trapped: u32,
+    pub watch: Watch,
 }
 
 // n steps. Nothing is refused.
-fn take_steps(
+pub fn take_watched(
     regs: &mut [u32],
     board: Board,
     mem: &mut [u8],
     tags: &mut [u8],
     revoked: &[u8],
     n: u32,
-) -> Counts
-    ensures { λ r. ⌜ ran (state (now (regs .exit)) (now (mem .exit)) (now (tags .exit))) (r .retired) (r .trapped)
-        ≡ iterate n board (now (revoked .entry)) (ran (state (now (regs .entry)) (now (mem .entry)) (now (tags .entry))) 0 0) ⌝ }
+    w: Watch,
+) -> Tally
+    ensures { λ r. ⌜ (ran (state (now (regs .exit)) (now (mem .exit)) (now (tags .exit))) (r .retired) (r .trapped)
+        ≡ iterate n board (now (revoked .entry)) (ran (state (now (regs .entry)) (now (mem .entry)) (now (tags .entry))) 0 0))
+        × (r .watch ≡ watchedBy n board (now (revoked .entry)) (state (now (regs .entry)) (now (mem .entry)) (now (tags .entry))) w) ⌝ }
 {
-    let mut retired: u32 = 0;
-    let mut trapped: u32 = 0;
+    let mut kept = Kept {
+        trapped: 0,
+        watch: w,
+    };
     let mut k: u32 = 0;
     while k < n {
-        // Two calls, not one function of both: that would be too large to be compiled into the loop. And a branch, not a sum: what is written and what is
-        // counted are compiled as one.
+        // Two calls, not one function of both: that would be too large to be compiled into the loop.
         let turn = execution::turn_at(regs, board, mem, tags, revoked);
         let effect = turn.effect;
         k += 1;
-        if commit::commit_effect(regs, board.start, mem, tags, turn.bytes, effect) {
-            retired += 1;
-        } else {
-            trapped += 1;
-        }
+        kept = commit::commit_effect(regs, board.start, mem, tags, turn.bytes, effect, kept);
     }
-    Counts { retired, trapped }
+    let watch = kept.watch;
+    Tally {
+        retired: n - kept.trapped,
+        trapped: kept.trapped,
+        watch,
+    }
 }
 
 // n steps, and how many of them retired and trapped. A refusal changes nothing.
@@ -315,9 +323,46 @@ pub fn run(
     if no != 0 {
         return RunAnswer::Refused(no);
     }
-    let counts = take_steps(regs, board, mem, tags, revoked, n);
+    let counts = take_watched(regs, board, mem, tags, revoked, n, Watch::none());
     RunAnswer::Ran {
         retired: counts.retired,
         trapped: counts.trapped,
+    }
+}
+
+// The answer to a run with a watch record, and the record after it.
+pub struct Watched {
+    pub answer: RunAnswer,
+    pub watch: Watch,
+}
+
+// A run with a watch record, by value. A refusal changes nothing, the record neither.
+pub fn watched_run(
+    regs: &mut [u32],
+    board: Board,
+    mem: &mut [u8],
+    tags: &mut [u8],
+    revoked: &[u8],
+    n: u32,
+    w: Watch,
+) -> Watched
+    ensures { λ r. ⌜ WatchPromise n board (now (revoked .entry)) (state (now (regs .entry)) (now (mem .entry)) (now (tags .entry)))
+        (state (now (regs .exit)) (now (mem .exit)) (now (tags .exit))) w (r .watch) (r .answer) ⌝ }
+{
+    let no = refusal(n, regs, board, mem, tags, revoked);
+    if no != 0 {
+        return Watched {
+            answer: RunAnswer::Refused(no),
+            watch: w,
+        };
+    }
+    let counts = take_watched(regs, board, mem, tags, revoked, n, w);
+    let watch = counts.watch;
+    Watched {
+        answer: RunAnswer::Ran {
+            retired: counts.retired,
+            trapped: counts.trapped,
+        },
+        watch,
     }
 }

@@ -1,12 +1,13 @@
 -- Each arm: what its writer leaves, and that the effect is that variant.
 use Rattle.commit.specs.Commit.{retires}
+use Rattle.commit.specs.Kept.{keptAfter}
 use borrow.Author.Needs.{needs}
 use Rattle.commit.proofs.write_effect.Statement.{statement}
 use Rattle.commit.proofs.write_effect.Tie as tie
 
 -- Advance
 returns : tie.Need-returns
-unfolding retires
+unfolding keptAfter retires
 returns c =
     let c3 = c .before .before .before in (
       simp (c3 .before .enum-told .given .1),
@@ -15,7 +16,7 @@ returns c =
 
 -- Write
 returns-2 : tie.Need-returns-2
-unfolding retires
+unfolding keptAfter retires
 returns-2 c =
     let c3 = c .before .before .before in
     let c6 = c3 .before .before .before in
@@ -26,16 +27,18 @@ returns-2 c =
 
 -- Store
 returns-3 : tie.Need-returns-3
-unfolding retires
+unfolding keptAfter retires
 returns-3 c =
     let moved = c .before .before in
-    let on = moved .before .before .before .before .before in
+    let on = moved .before .before .before .before in
     let put = on .before .before .before .before .before .before in
-    let told = put .before .before .before .before in (
-      simp (told .e2 .given .1),
+    let touched = put .before .before .before in
+    let address = touched .before .before in
+    let told = address .before .before in (
+      rw (touched .with-store .ensures, touched .before .store-width .ensures, address .wrapping-add-u32 .ensures, told .e2 .given .1),
       rw (
         moved .move-mark .ensures,
-        moved .before .wrapping-add-u32 .ensures,
+        address .wrapping-add-u32 .ensures,
         on .advance3 .ensures,
         put .store .ensures .0,
         put .store .ensures .1,
@@ -45,16 +48,18 @@ returns-3 c =
 
 -- StoreCapability
 returns-4 : tie.Need-returns-4
-unfolding retires
+unfolding keptAfter retires
 returns-4 c =
     let moved = c .before .before in
-    let on = moved .before .before .before .before .before in
+    let on = moved .before .before .before .before in
     let put = on .before .before .before .before .before .before in
-    let told = put .before .before .before .before in (
-      simp (told .e3 .given .1),
+    let touched = put .before .before .before in
+    let address = touched .before in
+    let told = address .before .before in (
+      rw (touched .with-store2 .ensures, address .wrapping-add-u322 .ensures, told .e3 .given .1),
       rw (
         moved .move-mark2 .ensures,
-        moved .before .wrapping-add-u322 .ensures,
+        address .wrapping-add-u322 .ensures,
         on .advance4 .ensures,
         put .store-capability .ensures .0,
         put .store-capability .ensures .1,
@@ -64,7 +69,7 @@ returns-4 c =
 
 -- Jump
 returns-5 : tie.Need-returns-5
-unfolding retires
+unfolding keptAfter retires
 returns-5 c =
     let c3 = c .before .before .before in (
       simp (c3 .before .before .e4 .given .1),
@@ -73,7 +78,7 @@ returns-5 c =
 
 -- WriteScr
 returns-6 : tie.Need-returns-6
-unfolding retires
+unfolding keptAfter retires
 returns-6 c =
     let c3 = c .before .before .before in (
       simp (c3 .before .before .e5 .given .1),
@@ -82,7 +87,7 @@ returns-6 c =
 
 -- WriteCsr
 returns-7 : tie.Need-returns-7
-unfolding retires
+unfolding keptAfter retires
 returns-7 c =
     let c3 = c .before .before .before in (
       simp (c3 .before .before .e6 .given .1),
@@ -91,11 +96,12 @@ returns-7 c =
 
 -- Trap
 returns-8 : tie.Need-returns-8
-unfolding retires
+unfolding keptAfter retires
 returns-8 c =
-    let c3 = c .before .before .before in (
-      simp (c3 .before .before .e7 .given .1),
-      simp (c .before .before .enter-trap .ensures, c3 .before .before .e7 .given .1),
+    let entered = c .before .before .before in
+    let told = entered .before .before .before in (
+      rw (c .with-trap .ensures, told .e7 .given .1),
+      rw (entered .enter-trap .ensures, told .e7 .given .1),
     )
 
 pub write-effect-spec : {M : Type 1} → statement M
@@ -112,18 +118,22 @@ write-effect-spec =
     (λ c κs. search needs)
     (λ c κs. search needs)
     (λ c κs. search needs)
-    (λ c. search needs)
-    (λ c κs. search needs)
-    (λ c κs. search needs)
     (λ c κs. search needs)
     (λ c κs. search needs)
     (λ c. search needs)
     (λ c κs. search needs)
+    (λ c κs. search needs)
+    (λ c κs. search needs)
+    (λ c κs. search needs)
+    (λ c κs. search needs)
+    (λ c. search needs)
+    (λ c κs. search needs)
     (λ c. search needs)
     (λ c κs. search needs)
     (λ c. search needs)
     (λ c κs. search needs)
     (λ c. search needs)
+    (λ c κs. search needs)
     (λ c κs. search needs)
     (λ c. search needs)
     returns

@@ -11,8 +11,8 @@ returns c = laws.run-refused _ _ _ _ _ (c .before .refusal .ensures) (c .if1 .ta
 returns-2 : tie.Need-returns-2
 returns-2 c =
     let stepped = c .before .before .before .before .before .before in
-    let judged = stepped .before .before .before .before in
-    laws.run-done _ _ _ _ _ _ _ (sym (judged .if1 .left) ∙ judged .before .refusal .ensures) (stepped .take-steps .ensures)
+    let judged = stepped .before .before .before .before .before in
+    laws.run-done _ _ _ _ _ _ _ (sym (judged .if1 .left) ∙ judged .before .refusal .ensures) (stepped .take-watched .ensures .0)
 
 pub run-spec : {M : Type 1} → statement M
 run-spec =
@@ -23,6 +23,7 @@ run-spec =
     (λ c. search needs)
     (λ c. search needs)
     returns
+    (λ c κs. search needs)
     (λ c κs. search needs)
     (λ c. search needs)
     (λ c. search needs)

@@ -12,17 +12,17 @@ returns c = laws.step-refused _ _ _ _ (c .before .refusal .ensures) (c .if1 .tak
 returns-2 : tie.Need-returns-2
 returns-2 c =
     let stepped = c .before .before .before .before .before .before .before .before in
-    let judged = stepped .before .before .before .before in
+    let judged = stepped .before .before .before .before .before in
     let good = sym (judged .if1 .left) ∙ judged .before .refusal .ensures in
-    laws.one-retired _ _ _ _ _ _ good (stepped .take-steps .ensures) (c .if2 .taken)
+    laws.one-retired _ _ _ _ _ _ good (stepped .take-watched .ensures .0) (c .if2 .taken)
 
 -- trapped
 returns-3 : tie.Need-returns-3
 returns-3 c =
     let stepped = c .before .before .before .before .before .before .before .before in
-    let judged = stepped .before .before .before .before in
+    let judged = stepped .before .before .before .before .before in
     let good = sym (judged .if1 .left) ∙ judged .before .refusal .ensures in
-    laws.one-trapped _ _ _ _ _ _ good (stepped .take-steps .ensures) (c .if2 .left)
+    laws.one-trapped _ _ _ _ _ _ good (stepped .take-watched .ensures .0) (c .if2 .left)
 
 pub step-spec : {M : Type 1} → statement M
 step-spec =
@@ -33,6 +33,7 @@ step-spec =
     (λ c. search needs)
     (λ c. search needs)
     returns
+    (λ c κs. search needs)
     (λ c κs. search needs)
     (λ c. search needs)
     (λ c. search needs)
