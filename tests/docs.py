@@ -104,12 +104,12 @@ class Tree:
         return name in self.rest or name in self.crates or any(self.has(name, c) for c in self.crates)
 
     def public(self, crate):
-        """The functions that the crate's library gives out."""
+        """The functions that the crate's library gives out, methods among them."""
         if not os.path.isfile(os.path.join(ROOT, f"crates/{crate}/src/lib.rt")):
             return []
         text = read(f"crates/{crate}/src/lib.rt")
         used = " ".join(re.findall(r"(?m)^pub use (?:\w+::)+(\w+;|\{[^}]*\};)", text))
-        return re.findall(r'(?m)^pub (?:extern "C" )?fn (\w+)', text) + re.findall(r"\b[a-z]\w*\b", used)
+        return re.findall(r'(?m)^(?:    )?pub (?:extern "C" )?fn (\w+)', text) + re.findall(r"\b[a-z]\w*\b", used)
 
 
 class Document:

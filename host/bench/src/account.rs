@@ -6,7 +6,7 @@ use crate::names::Names;
 use crate::stack::Stack;
 use crate::trap::Trap;
 use crate::Status;
-use lent::State;
+use lent::{Range, State};
 
 /// A run that was made, on which board and with which images.
 pub struct Account<'a> {
@@ -19,6 +19,8 @@ pub struct Account<'a> {
     pub fits: &'a [Beside<'a>],
     /// Whether memory was to be swept on the way.
     pub swept: bool,
+    /// The watched ranges at the end, where stores were to be counted.
+    pub watched: &'a [Range],
 }
 
 impl<'a> Account<'a> {
@@ -43,6 +45,7 @@ impl<'a> Account<'a> {
             stack,
             fits,
             swept,
+            watched: &[],
         }
     }
 

@@ -2,7 +2,7 @@
 
 use crate::edition::Edition;
 use crate::image::Format;
-use clap::{Args, Parser, Subcommand};
+use clap::{ArgAction, Args, Parser, Subcommand};
 use std::path::PathBuf;
 
 /// The bench: runs an image on the proved CHERIoT machine and shows what happened.
@@ -84,6 +84,9 @@ pub struct Run {
     /// Sweep all of memory after every so many steps
     #[arg(long, value_name = "STEPS", value_parser = not_zero)]
     pub sweep: Option<u64>,
+    /// Count the stores that touch a range of addresses; may be given twice
+    #[arg(long, value_names = ["START", "LENGTH"], num_args = 2, value_parser = word, action = ArgAction::Append)]
+    pub watch: Vec<u32>,
     /// A map sheet that names the board's regions; memory is then what they span
     #[arg(long, value_name = "SHEET")]
     pub map: Option<PathBuf>,

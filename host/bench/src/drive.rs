@@ -7,13 +7,14 @@ mod tests;
 
 use crate::proved::{self, Counts, Refusal, MOST_STEPS};
 use crate::sweep;
-use lent::{State, COMPARE, MIE, MSTATUS, TIME};
+use lent::{State, Watch, COMPARE, MIE, MSTATUS, TIME};
 pub use origin::Origin;
 
 /// Why a run ended.
-#[derive(Clone, PartialEq, Eq, Debug)]
+#[derive(Clone, Default, PartialEq, Eq, Debug)]
 pub enum End {
     /// All the steps were made.
+    #[default]
     Steps,
     /// The program jumps to itself: every further step that was asked for retires and changes time alone.
     Still,
@@ -28,11 +29,13 @@ pub struct Swept {
     pub tags: u64,
 }
 
-#[derive(Clone, PartialEq, Eq, Debug)]
+#[derive(Clone, Default, PartialEq, Eq, Debug)]
 pub struct Outcome {
     pub counts: Counts,
     pub end: End,
     pub swept: Swept,
+    /// The watch record at the end.
+    pub record: Watch,
 }
 
 /// What is asked of a run, and who is shown each call's counts, with the states before and after
@@ -44,43 +47,44 @@ pub struct Plan<'a> {
     pub call: u64,
     /// After how many steps all of memory is swept, again and again.
     pub sweep: Option<u64>,
+    /// The watch record at the start.
+    pub record: Watch,
     pub watch: &'a mut dyn FnMut(&State, &State, Counts) -> bool,
 }
 
 /// Runs a plan. A refused run changes nothing.
 pub fn run(state: &mut State, plan: Plan) -> Result<Outcome, Refusal> {
     proved::run(state, 0)?;
-    let mut counts = Counts::default();
     let most = plan.call.clamp(1, MOST_STEPS);
     let (mut left, mut call) = (plan.steps, 1);
-    let mut swept = Swept::default();
+    let mut done = Outcome {
+        record: plan.record,
+        ..Outcome::default()
+    };
     let mut origin = Origin::default();
     while left > 0 {
         let steps = left.min(call).min(origin.room());
-        let steps = steps.min(until_sweep(&plan, counts));
-        let (before, earlier) = (state.clone(), origin.clone());
-        let made = origin.run(state, steps)?;
-        let wanted = (plan.watch)(&before, state, made);
+        let steps = steps.min(until_sweep(&plan, done.counts));
+        let (before, earlier) = ((state.clone(), done.record), origin.clone());
+        let made = origin.run_watched(state, steps, &mut done.record)?;
+        let wanted = (plan.watch)(&before.0, state, made);
         if stops((state, &origin), made, plan.through_traps, left - steps)? {
-            *state = before;
-            let at = (state, earlier);
-            let (counts, end) = first_stop(at, (steps, left), plan.through_traps, counts)?;
-            return Ok(Outcome { counts, end, swept });
+            (*state, done.record) = before;
+            let at = (state, &mut done.record, earlier);
+            let stop = first_stop(at, (steps, left), plan.through_traps, done.counts)?;
+            (done.counts, done.end) = stop;
+            return Ok(done);
         }
-        if steps == until_sweep(&plan, counts) {
-            swept.passes += 1;
-            swept.tags += sweep::pass(state, |_| ())?.len() as u64;
+        if steps == until_sweep(&plan, done.counts) {
+            done.swept.passes += 1;
+            done.swept.tags += sweep::pass(state, |_| ())?.len() as u64;
             origin.forget();
         }
-        counts = sum(counts, made);
+        done.counts = sum(done.counts, made);
         left = if wanted { left - steps } else { 0 };
         call = (2 * call).min(most);
     }
-    Ok(Outcome {
-        counts,
-        end: End::Steps,
-        swept,
-    })
+    Ok(done)
 }
 
 /// How many steps are left to the next sweep, after some.
@@ -102,7 +106,7 @@ fn stops(
 }
 
 /// Whether a step retires and changes time alone; then no further step changes anything else either, unless
-/// the timer interrupts among those that are left.
+/// the timer interrupts among those that are left. Such a step leaves PCC, and so is no store.
 fn is_still((state, origin): (&State, &Origin), left: u64) -> Result<bool, Refusal> {
     let mut next = state.clone();
     let made = origin.clone().run(&mut next, 1)?;
@@ -119,26 +123,26 @@ fn interrupts_within(state: &State, steps: u64) -> bool {
 /// Makes the steps up to and with the first one that stops the run, which is among the next `steps` of those
 /// that are `left`.
 fn first_stop(
-    (state, mut origin): (&mut State, Origin),
+    (state, record, mut origin): (&mut State, &mut Watch, Origin),
     (mut steps, mut left): (u64, u64),
     through_traps: bool,
     mut counts: Counts,
 ) -> Result<(Counts, End), Refusal> {
     while steps > 1 {
         let half = steps / 2;
-        let (mut trial, mut tried) = (state.clone(), origin.clone());
-        let made = tried.run(&mut trial, half)?;
+        let (mut trial, mut trial_record, mut tried) = (state.clone(), *record, origin.clone());
+        let made = tried.run_watched(&mut trial, half, &mut trial_record)?;
         if stops((&trial, &tried), made, through_traps, left - half)? {
             steps = half;
         } else {
-            (*state, origin) = (trial, tried);
+            (*state, *record, origin) = (trial, trial_record, tried);
             counts = sum(counts, made);
             steps -= half;
             left -= half;
         }
     }
     let before = Box::new(state.clone());
-    let made = origin.run(state, 1)?;
+    let made = origin.run_watched(state, 1, record)?;
     let end = if made.trapped > 0 && !through_traps {
         End::Trap(before)
     } else {

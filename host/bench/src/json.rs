@@ -16,8 +16,8 @@ use crate::stack::{Stack, Used};
 use crate::sweep::{self, Went};
 use crate::trap::{Action, Asked, Authority, Trap};
 use lent::{
-    instruction_bytes, place_name, Capability, State, CAPABILITIES, COMPARE, MCAUSE, MSHWM, MSHWMB,
-    MSTATUS, MTVAL, TIME,
+    instruction_bytes, place_name, Capability, Range, State, CAPABILITIES, COMPARE, MCAUSE, MSHWM,
+    MSHWMB, MSTATUS, MTVAL, TIME,
 };
 use serde_json::{json, Value};
 use std::path::Path;
@@ -29,6 +29,7 @@ pub fn account(account: &Account) -> Value {
     value["swept"] = account.swept.then(|| sweeps(outcome.swept)).into();
     value["fit"] = images(account.fits);
     value["stack"] = stack(state, account.stack);
+    value["watch"] = watch(account.watched);
     value
 }
 
@@ -46,6 +47,12 @@ fn run(state: &State, outcome: &Outcome, trap: Option<&Trap>, names: &Names) -> 
         "trap": trap.map(|trap| self::trap(trap, state, names)),
         "state": self::state(state),
     })
+}
+
+/// The watched ranges, and how many stores touched each.
+fn watch(ranges: &[Range]) -> Value {
+    let range = |range: &Range| json!({ "start": range.start, "length": range.length, "stores": range.count });
+    ranges.iter().map(range).collect()
 }
 
 /// The sweeps of a run.

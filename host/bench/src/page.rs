@@ -177,6 +177,7 @@ fn ran(account: &Account) -> (&'static str, String, Vec<String>) {
     };
     let mut text = report::counts(state, outcome);
     text.push_str(&report::stack(state, account.stack));
+    text.push_str(&report::watch(account.watched));
     if account.swept {
         text.push_str(&report::sweeps(outcome.swept));
     }

@@ -8,7 +8,7 @@ pub mod sheets;
 pub use ::proved::{assemble, list, Refused};
 
 use ::proved::{bounds_high, bounds_low, cut_exact, cut_high, cut_low, cut_number};
-use lent::{instruction_bytes, number_and_rest, Answer, Capability, State};
+use lent::{instruction_bytes, number_and_rest, Answer, Capability, State, Watch};
 
 /// The most steps that one call runs (document 01, refusal 5).
 pub const MOST_STEPS: u64 = lent::MOST_STEPS as u64;
@@ -53,8 +53,13 @@ impl Refusal {
 
 /// Runs at most `MOST_STEPS` steps. A refused run changes nothing.
 pub fn run(state: &mut State, steps: u64) -> Result<Counts, Refusal> {
+    run_watched(state, steps, &mut Watch::default())
+}
+
+/// Runs them with a watch record, whose counts rise. A refused run changes nothing of it either.
+pub fn run_watched(state: &mut State, steps: u64, record: &mut Watch) -> Result<Counts, Refusal> {
     let steps = u32::try_from(steps).unwrap_or(u32::MAX);
-    let answer = Answer::of(state.run(::proved::run, steps));
+    let answer = Answer::of(state.run_watched(::proved::run_watched, steps, record));
     match answer.number {
         0 => Ok(Counts {
             retired: answer.retired,

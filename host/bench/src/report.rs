@@ -13,15 +13,16 @@ use crate::request::digits;
 use crate::stack::{Stack, Used};
 use crate::sweep::{self, Went};
 use crate::trap::{Action, Asked, Authority, Trap};
-use lent::{place_name, Capability, State, CAPABILITIES, GRANULE};
+use lent::{place_name, Capability, Range, State, CAPABILITIES, GRANULE};
 use lent::{COMPARE, MCAUSE, MIE, MSHWM, MSHWMB, MSTATUS, MTVAL, PCC, REPORT_EDITION, TIME};
 use std::fmt::Write;
 
-/// A run: its counts, how deep the stack went, the sweeps, the trap, the registers.
+/// A run: its counts, how deep the stack went, the watched ranges, the sweeps, the trap, the registers.
 pub fn run(account: &Account) -> String {
     let Account { state, outcome, .. } = account;
     let mut text = counts(state, outcome);
     text.push_str(&stack(state, account.stack));
+    text.push_str(&watch(account.watched));
     if account.swept {
         text.push_str(&sweeps(outcome.swept));
     }
@@ -76,6 +77,21 @@ pub fn stack(state: &State, stack: Option<Stack>) -> String {
         }
         None => format!("Stack: used down to {mark:08x}{above}.\n"),
     }
+}
+
+/// The watched ranges, and how many stores touched each.
+pub fn watch(ranges: &[Range]) -> String {
+    ranges.iter().map(watched).collect()
+}
+
+fn watched(range: &Range) -> String {
+    let (start, bytes) = (range.start, count(range.length.into(), "byte"));
+    let stores = count(range.count.into(), "store");
+    let more = match range.count {
+        u32::MAX => " or more",
+        _ => "",
+    };
+    format!("Watch: {bytes} from {start:08x}, touched by {stores}{more}.\n")
 }
 
 /// The sweeps of a run.

@@ -39,6 +39,7 @@ pub mod sweeps;
 pub mod timer;
 pub mod told;
 pub mod unsound;
+pub mod watches;
 
 use options::Options;
 use std::fmt::Debug;

@@ -1,13 +1,15 @@
-//! What is lent to a machine (document 01, "What is lent"; document 02, 5 and 8), good or bad, and the
+//! What is lent to a machine (document 01, "What is lent"; document 02, 5, 8 and 14), good or bad, and the
 //! answer. It knows no machine: each is a function on slices.
 
 #![forbid(unsafe_code)]
 
 mod answer;
 mod registers;
+mod watch;
 
 pub use answer::{number_and_rest, Answer, MOST_STEPS};
 pub use registers::*;
+pub use watch::{Range, Watch};
 
 /// The bytes of a granule, which has one tag and one revocation bit.
 pub const GRANULE: usize = 8;
@@ -65,6 +67,8 @@ pub enum Revocation {
 pub type Step = fn(&mut [u32], Board, &mut [u8], &mut [u8], &[u8]) -> u64;
 /// A machine's run, with its number of steps after the rest.
 pub type Run = fn(&mut [u32], Board, &mut [u8], &mut [u8], &[u8], u32) -> u64;
+/// A machine's run with a watch record, which it changes in place.
+pub type RunWatched = fn(&mut [u32], Board, &mut [u8], &mut [u8], &[u8], u32, &mut Watch) -> u64;
 
 /// A machine's sweeper: the board's numbers, memory, tags, revocation bits, the granule to visit; its
 /// answer.
@@ -150,6 +154,21 @@ impl State {
         let board = self.board();
         let (mem, tags) = (&mut self.mem, &mut self.tags);
         run(&mut self.regs, board, mem, tags, &self.revoked, steps)
+    }
+
+    /// Makes a machine's run with a watch record.
+    pub fn run_watched(&mut self, run: RunWatched, steps: u32, watch: &mut Watch) -> u64 {
+        let board = self.board();
+        let (mem, tags) = (&mut self.mem, &mut self.tags);
+        run(
+            &mut self.regs,
+            board,
+            mem,
+            tags,
+            &self.revoked,
+            steps,
+            watch,
+        )
     }
 
     /// Makes a machine's sweeper visit a granule. No registers are lent to it.

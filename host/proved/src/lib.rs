@@ -24,7 +24,7 @@ unsafe extern "C" {
     pub safe fn bounds_high(address: u32, metadata: u32) -> u64;
 }
 
-use lent::Board;
+use lent::{Board, Watch};
 
 /// A function of the machine. The step and the run take the same lent buffers, so their arguments stand
 /// here once; the run has its number of steps after them.
@@ -86,6 +86,74 @@ machine_function! {
 machine_function! {
     /// A run of some steps, with the same answer.
     run is oddersnow_run, steps: u32
+}
+
+/// A run with a watch record: the ranges go as numbers, and the two counts are lent.
+macro_rules! watched_function {
+    ($(#[$doc:meta])* $name:ident is $declared:ident) => {
+        // SAFETY: declared as in include/oddersnow.h.
+        unsafe extern "C" {
+            fn $declared(
+                regs: *mut u32,
+                regs_len: usize,
+                start: u32,
+                mem: *mut u8,
+                mem_len: usize,
+                tags: *mut u8,
+                tags_len: usize,
+                window_start: u32,
+                window_size: u32,
+                revoked: *const u8,
+                revoked_len: usize,
+                edition: u32,
+                steps: u32,
+                start1: u32,
+                length1: u32,
+                count1: *mut u32,
+                start2: u32,
+                length2: u32,
+                count2: *mut u32,
+            ) -> u64;
+        }
+
+        $(#[$doc])*
+        #[inline]
+        pub fn $name(
+            regs: &mut [u32], board: Board, mem: &mut [u8], tags: &mut [u8], revoked: &[u8],
+            steps: u32, watch: &mut Watch,
+        ) -> u64 {
+            let [first, second] = watch;
+            // SAFETY: as for the machine; the two counts are words of their own.
+            unsafe {
+                $declared(
+                    regs.as_mut_ptr(),
+                    regs.len(),
+                    board.start,
+                    mem.as_mut_ptr(),
+                    mem.len(),
+                    tags.as_mut_ptr(),
+                    tags.len(),
+                    board.window.start,
+                    board.window.size,
+                    revoked.as_ptr(),
+                    revoked.len(),
+                    board.edition,
+                    steps,
+                    first.start,
+                    first.length,
+                    &mut first.count,
+                    second.start,
+                    second.length,
+                    &mut second.count,
+                )
+            }
+        }
+    };
+}
+
+watched_function! {
+    /// A run of some steps with a watch record, whose counts rise in place; the same answer.
+    run_watched is oddersnow_run_watched
 }
 
 // SAFETY: declared as in include/oddersnow.h.

@@ -21,7 +21,7 @@ pub mod text;
 pub use calls::calls;
 pub use capability::{bounds, cut, Capability, Cut};
 pub use listing::{assemble, list};
-pub use machine::{run, step};
+pub use machine::{run, run_watched, step};
 pub use sweep::sweep;
 pub use text::cutting_program;
 

@@ -1,6 +1,6 @@
 //! The machine: lent state and its refusals, fetch, every instruction, traps, a step and a
-//! run (document 01, "What is lent", "Answers" and "Traps"; document 02, 5, 6, 8 and 13; the CHERIoT report,
-//! 7 and 9).
+//! run (document 01, "What is lent", "Answers" and "Traps"; document 02, 5, 6, 8, 13 and 14; the CHERIoT
+//! report, 7 and 9).
 
 #[cfg(test)]
 mod tests;
@@ -14,7 +14,7 @@ use crate::decode::{
     LoadWidth, Operand, Pairing, Query, Register, Special, StoreWidth, CGP, LONG_BYTES,
     SHORT_BYTES,
 };
-use lent::Board;
+use lent::{Board, Range, Watch};
 
 // Places in the register file, counted in capabilities, then in words.
 const PCC: usize = 16;
@@ -174,6 +174,15 @@ fn legalised(capability: Capability, bits: u32) -> Capability {
     move_address(capability, capability.address & !bits)
 }
 
+/// Whether a store of so many bytes has a byte in a watched range, whose end is a whole number and which has
+/// none if its length is 0 (document 02, 14).
+fn touches(range: Range, address: u32, size: u32) -> bool {
+    let first = u64::from(range.start);
+    let after = first + u64::from(range.length);
+    let mut bytes = (0..size).map(|byte| u64::from(address) + u64::from(byte));
+    bytes.any(|byte| first <= byte && byte < after)
+}
+
 /// The lent state, checked.
 struct Machine<'a> {
     words: &'a mut [u32; WORDS],
@@ -184,6 +193,7 @@ struct Machine<'a> {
     window: (u64, u64),
     revoked: &'a [u8],
     edition: u32,
+    watch: Watch,
 }
 
 /// What the revocation bits say of an address (document 02, 5).
@@ -244,6 +254,7 @@ impl<'a> Machine<'a> {
             window: (first, first + u64::from(window.size)),
             revoked,
             edition: board.edition,
+            watch: Watch::default(),
         })
     }
 
@@ -359,6 +370,16 @@ impl<'a> Machine<'a> {
         let (mark, base) = (self.words[MSHWM], self.words[MSHWMB]);
         if base <= address && address < mark {
             self.words[MSHWM] = address & !MARK_BITS;
+        }
+    }
+
+    /// Counts a store, once its bytes are written, for each watched range that it touches; a count stops at its
+    /// last number.
+    fn count_touched(&mut self, address: u32, size: u32) {
+        for range in &mut self.watch {
+            if touches(*range, address, size) {
+                range.count = range.count.saturating_add(1);
+            }
         }
     }
 
@@ -643,6 +664,7 @@ impl<'a> Machine<'a> {
             value: address,
         })?;
         self.lower_mark(address);
+        self.count_touched(address, size);
         Ok(())
     }
 
@@ -670,6 +692,7 @@ impl<'a> Machine<'a> {
                 value: address,
             })?;
         self.lower_mark(address);
+        self.count_touched(address, CAPABILITY_BYTES);
         Ok(())
     }
 
@@ -923,6 +946,20 @@ pub fn run(
     revoked: &[u8],
     steps: u32,
 ) -> u64 {
+    let mut nothing = Watch::default();
+    run_watched(regs, board, mem, tags, revoked, steps, &mut nothing)
+}
+
+/// A run with a watch record, whose counts rise in place; a refused one leaves them (document 02, 14).
+pub fn run_watched(
+    regs: &mut [u32],
+    board: Board,
+    mem: &mut [u8],
+    tags: &mut [u8],
+    revoked: &[u8],
+    steps: u32,
+    watch: &mut Watch,
+) -> u64 {
     let mut machine = match Machine::lent(regs, board, mem, tags, revoked) {
         Ok(machine) => machine,
         Err(number) => return answer(number, 0, 0),
@@ -937,9 +974,11 @@ pub fn run(
     if !(0..CAPABILITIES).all(|place| is_sound(machine.capability(place))) {
         return answer(8, 0, 0);
     }
+    machine.watch = *watch;
     let mut retired = 0;
     for _ in 0..steps {
         retired += u32::from(machine.step());
     }
+    *watch = machine.watch;
     answer(0, steps - retired, retired)
 }

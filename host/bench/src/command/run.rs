@@ -17,7 +17,7 @@ use crate::sheet::Sheet;
 use crate::stack::Stack;
 use crate::{complain, file, json, report, state_file, trace, Status};
 use indicatif::{ProgressBar, ProgressStyle};
-use lent::{State, Window, COMPARE, TIME};
+use lent::{Range, State, Watch, Window, COMPARE, TIME};
 use std::io::Write;
 use std::path::{Path, PathBuf};
 
@@ -79,12 +79,17 @@ impl<'a> Task<'a> {
         let (asked, state) = (self.asked, &mut ready.state);
         let kept = || (state.clone(), Last::new(state, LAST, asked.sweep));
         let mut kept = self.page.as_ref().map(|_| kept());
-        let outcome = match drive(asked, state, kept.as_mut().map(|(_, last)| last)) {
+        let outcome = match drive(
+            asked,
+            (state, ready.record),
+            kept.as_mut().map(|(_, last)| last),
+        ) {
             Err(refusal) => return refused_state(refusal, state, asked.json),
             Ok(outcome) => outcome,
         };
         let (named, swept) = ((&ready.names, ready.stack), asked.sweep.is_some());
-        let account = Account::of(state, &outcome, named, self.fits, swept);
+        let mut account = Account::of(state, &outcome, named, self.fits, swept);
+        account.watched = left(asked, &outcome);
         // What cannot be said is saved nevertheless, and what cannot be saved is said.
         let said = conclude(asked, &account);
         let saved = place.map_or(Ok(()), |place| {
@@ -140,11 +145,13 @@ pub struct Ready {
     pub segments: Vec<Segment>,
     pub names: Names,
     pub stack: Option<Stack>,
+    pub record: Watch,
 }
 
 /// The images in memory, and what is known of it.
 pub fn ready(asked: &Run, files: &[&[u8]], map: Option<&Sheet>) -> Result<Ready, Halt> {
     let stack = stack(asked, map)?;
+    let record = record(&asked.watch)?;
     let (mut state, images) = start(asked, files, map)?;
     set_words(asked, stack, &mut state);
     if let Err(refusal) = proved::run(&mut state, 0) {
@@ -158,6 +165,7 @@ pub fn ready(asked: &Run, files: &[&[u8]], map: Option<&Sheet>) -> Result<Ready,
         segments: images.segments,
         names: Names(names),
         stack,
+        record,
     })
 }
 
@@ -301,6 +309,20 @@ fn stack(asked: &Run, map: Option<&Sheet>) -> Result<Option<Stack>, String> {
     }
 }
 
+/// The record of the ranges that are watched, none or one or two; one that is not asked for is empty.
+fn record(numbers: &[u32]) -> Result<Watch, String> {
+    let range = |range: &[u32]| Range {
+        start: range[0],
+        length: range[1],
+        count: 0,
+    };
+    let mut ranges = numbers.chunks(2).map(range);
+    match numbers.len() {
+        0..=4 => Ok([(); 2].map(|()| ranges.next().unwrap_or_default())),
+        _ => Err("--watch is given at most twice".into()),
+    }
+}
+
 /// Sets the mark for the stack at reset, and the timer as it is asked for.
 fn set_words(asked: &Run, stack: Option<Stack>, state: &mut State) {
     if let (None, Some(stack)) = (&asked.state, stack) {
@@ -330,7 +352,11 @@ fn place(path: &Path, asked: &Run) -> Result<Place, String> {
 }
 
 /// Runs, with a line a step or a bar of progress. Where the last steps are wanted, states are kept on the way.
-fn drive(asked: &Run, state: &mut State, mut last: Option<&mut Last>) -> Result<Outcome, Refusal> {
+fn drive(
+    asked: &Run,
+    (state, record): (&mut State, Watch),
+    mut last: Option<&mut Last>,
+) -> Result<Outcome, Refusal> {
     let bar = progress(asked);
     let mut number = 0;
     let mut watch = |before: &State, after: &State, made: Counts| {
@@ -350,6 +376,7 @@ fn drive(asked: &Run, state: &mut State, mut last: Option<&mut Last>) -> Result<
         through_traps: asked.through_traps,
         call: if asked.trace { 1 } else { MOST_STEPS },
         sweep: asked.sweep,
+        record,
         watch: &mut watch,
     };
     let outcome = drive::run(state, plan);
@@ -376,6 +403,11 @@ fn tell(on_error: bool, line: &str) -> bool {
         return true;
     }
     writeln!(std::io::stdout(), "{line}").is_ok()
+}
+
+/// The watched ranges at the end, as many as were asked for.
+fn left<'a>(asked: &Run, outcome: &'a Outcome) -> &'a [Range] {
+    &outcome.record[..asked.watch.len() / 2]
 }
 
 /// Says how the run went.

@@ -2,7 +2,8 @@
 
 use super::*;
 use crate::proved::UNSOUND;
-use lent::{Capability, COMPARE, MCAUSE, MEMORY_ROOT, MIE, MSTATUS, PCC, TIME, TIMER_INTERRUPT};
+use lent::{Capability, Range, COMPARE, MCAUSE, MEMORY_ROOT};
+use lent::{MIE, MSTATUS, PCC, TIME, TIMER_INTERRUPT};
 
 const EBREAK: u32 = 0x0010_0073;
 const JUMP_TO_ITSELF: u32 = 0x0000_006F;
@@ -32,6 +33,7 @@ fn plan(
         through_traps,
         call: MOST_STEPS,
         sweep: None,
+        record: Watch::default(),
         watch,
     }
 }
@@ -284,4 +286,58 @@ fn such_a_run_ends_a_million_steps_on_or_at_a_sweep() {
     swept.sweep = Some(30);
     assert_eq!(run(&mut state, swept), Err(UNSOUND));
     assert_eq!(crate::probe::unsound(&state), [2]);
+}
+
+/// SW c10, 48(c1)
+const STORE: u32 = 0x02A0_A823;
+/// bne c10, c11, -8
+const BACK: u32 = 0xFEB5_1CE3;
+
+/// Stores, loads such a value into c2, then stores in each round of three steps.
+fn storing(rounds: u32, last: u32) -> State {
+    let mut state = loading(rounds, last);
+    let start = state.start;
+    let load: [u8; 4] = std::array::from_fn(|place| state.mem[place]);
+    state.write(start, &STORE.to_le_bytes());
+    state.write(start + 4, &load);
+    for (place, word) in [COUNT, STORE, BACK, last].into_iter().enumerate() {
+        state.write(start + 8 + 4 * place as u32, &word.to_le_bytes());
+    }
+    state
+}
+
+/// A record of the stored word and of its last byte, with these counts.
+fn record(first: u32, second: u32) -> Watch {
+    let range = |start, length, count| Range {
+        start,
+        length,
+        count,
+    };
+    [
+        range(0x2000_0030, 4, first),
+        range(0x2000_0033, u32::MAX, second),
+    ]
+}
+
+// What is made again from an earlier state is counted once.
+#[test]
+fn such_a_run_counts_each_store_once() {
+    for (rounds, steps) in [(1, 6), (2, 8), (37, 114), (37, 60), (300_000, u64::MAX)] {
+        for (last, call) in [(EBREAK, 1), (EBREAK, 7), (JUMP_TO_ITSELF, MOST_STEPS)] {
+            let call = if rounds > 100 { MOST_STEPS } else { call };
+            let mut state = storing(rounds, last);
+            let mut together = state.clone();
+            let mut watch = |_: &State, _: &State, _: Counts| true;
+            let mut asked = plan(steps, false, &mut watch);
+            (asked.call, asked.record) = (call, record(5, u32::MAX - 20));
+            let mut expected = asked.record;
+            let outcome = run(&mut state, asked).unwrap();
+            let made = outcome.counts.retired + outcome.counts.trapped;
+            proved::run_watched(&mut together, made, &mut expected).unwrap();
+            assert_eq!((outcome.record, &state), (expected, &together));
+            let stores = 1 + (made.min(2 + 3 * u64::from(rounds)) - 1) / 3;
+            assert_eq!(u64::from(outcome.record[0].count), 5 + stores);
+            assert_eq!(proved::run(&mut state, 1), Err(UNSOUND));
+        }
+    }
 }

@@ -3,7 +3,7 @@
 use super::*;
 use crate::drive::{self, Plan};
 use crate::proved::{Counts, UNSOUND};
-use lent::{Capability, MEMORY_ROOT};
+use lent::{Capability, Watch, MEMORY_ROOT};
 
 /// addi c10, c10, 1; bne c10, c11, -4; ebreak
 const WORDS: [u32; 3] = [0x0015_0513, 0xFEB5_1EE3, 0x0010_0073];
@@ -35,6 +35,7 @@ fn last_of(start: &State, wanted: u64, sweep: Option<u64>) -> (Vec<String>, u64)
         through_traps: false,
         call: MOST_STEPS,
         sweep,
+        record: Watch::default(),
         watch: &mut watch,
     };
     let counts = drive::run(&mut state, plan).unwrap().counts;
@@ -70,6 +71,7 @@ fn trace(start: &State) -> Vec<String> {
         through_traps: false,
         call: 1,
         sweep: None,
+        record: Watch::default(),
         watch: &mut watch,
     };
     drive::run(&mut start.clone(), plan).unwrap();

@@ -178,6 +178,7 @@ fn driven(ready: &mut Ready, steps: u64, last: &mut Last) -> Result<drive::Outco
         through_traps: false,
         call: MOST_STEPS,
         sweep: None,
+        record: ready.record,
         watch: &mut watch,
     };
     drive::run(&mut ready.state, plan)

@@ -18,7 +18,8 @@ use compare::rows::Table;
 use compare::sheets::{self, Sheets};
 use compare::state::Call;
 use compare::sweeps;
-use lent::State;
+use compare::watches;
+use lent::{Run, RunWatched, State};
 use mutants::capability::Cut;
 use mutants::{select, sheet, MUTANTS};
 use std::process::ExitCode;
@@ -39,6 +40,7 @@ const IMAGES_CASES: u64 = 100_000;
 const RIGHT_IMAGES: u64 = 20_000;
 const SWEEP_CASES: u64 = 100_000;
 const RIGHT_SWEEPS: u64 = 20_000;
+const RIGHT_WATCHES: u64 = 20_000;
 
 fn cut(base: u32, length: u32) -> CutAnswer {
     let (number, low, high, exact) = match mutants::capability::cut(base, length) {
@@ -86,6 +88,8 @@ const LISTER: Lister = Lister {
     assemble: mutants::listing::assemble,
 };
 
+const WATCHED: (RunWatched, Run) = (mutants::machine::run_watched, mutants::machine::run);
+
 fn machine(state: &mut State, call: Call) -> u64 {
     call.on(state, mutants::machine::step, mutants::machine::run)
 }
@@ -113,6 +117,9 @@ fn told_apart(comparison: &str, table: &Table, seed: u64, cases: u64) -> Option<
         "sweep" => sweeps::compare(mutants::sweep::sweep, seed, cases.min(SWEEP_CASES))
             .err()
             .map(|found| found.case),
+        "watch" => watches::compare(WATCHED, table, seed, cases)
+            .err()
+            .map(|found| found.case),
         "listing" => listing::compare(LISTER, seed, listing::CASES)
             .err()
             .map(|found| found.case),
@@ -136,6 +143,7 @@ fn run(options: &Options) -> Result<String, String> {
         ("sheets", RIGHT_SHEETS),
         ("images", RIGHT_IMAGES),
         ("sweep", RIGHT_SWEEPS),
+        ("watch", RIGHT_WATCHES),
     ];
     for (comparison, cases) in right.into_iter().chain(fewer) {
         if let Some(case) = told_apart(comparison, &table, options.seed, cases) {

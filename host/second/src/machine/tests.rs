@@ -11,3 +11,4 @@ mod memory;
 mod refusals;
 mod timer;
 mod traps;
+mod watch;

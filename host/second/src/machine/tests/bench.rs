@@ -2,7 +2,7 @@
 
 use crate::capability::{set_bounds, with_type, Capability};
 use crate::machine;
-use lent::{Board, Window};
+use lent::{Board, Watch, Window};
 
 pub const START: u32 = 0x2000_0000;
 pub const HANDLER: u32 = START + 0xC0;
@@ -174,6 +174,19 @@ impl Bench {
             &mut self.tags,
             &self.revoked,
             steps,
+        )
+    }
+
+    pub fn run_watched(&mut self, steps: u32, watch: &mut Watch) -> u64 {
+        let board = self.board();
+        machine::run_watched(
+            &mut self.regs,
+            board,
+            &mut self.mem,
+            &mut self.tags,
+            &self.revoked,
+            steps,
+            watch,
         )
     }
 
