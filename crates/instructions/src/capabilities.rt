@@ -25,7 +25,7 @@ fn special(scr: Scr, rd: u32, rs1: u32) -> Instruction
 }
 
 // CSpecialRW: the rs2 field is the number of a special register.
-fn decode_special(number: u32, rd: u32, rs1: u32) -> Instruction
+pub(crate) fn decode_special(number: u32, rd: u32, rs1: u32) -> Instruction
     ensures { λ r. ⌜ r ≡ specialOf number rd rs1 ⌝ }
 {
     match number {
@@ -44,7 +44,7 @@ fn inspect(what: Inspection, rd: u32, rs1: u32) -> Instruction
 }
 
 // Two registers: the rs2 field selects.
-fn decode_source_dest(func: u32, rd: u32, rs1: u32) -> Instruction
+pub(crate) fn decode_source_dest(func: u32, rd: u32, rs1: u32) -> Instruction
     ensures { λ r. ⌜ r ≡ sourceDestOf func rd rs1 ⌝ }
 {
     match func {
@@ -64,7 +64,7 @@ fn decode_source_dest(func: u32, rd: u32, rs1: u32) -> Instruction
     }
 }
 
-fn combine(what: Combination, rd: u32, rs1: u32, rs2: u32) -> Instruction
+pub(crate) fn combine(what: Combination, rd: u32, rs1: u32, rs2: u32) -> Instruction
     ensures { λ r. ⌜ r ≡ combineOf what rd rs1 rs2 ⌝ }
 {
     match rs2 {

@@ -1,6 +1,7 @@
 // Instructions, and the decoder from a word to one, by value: a module for each family of opcodes, and `decode` over them. The rows of their matches are
 // the tables of the standard and of the report: funct3, funct7 and the rs2 field as numbers, each beside its instruction's name.
 // An arm of a match returns at once: where arms meet, the text that the check generates is about three times as long.
+mod again;
 mod capabilities;
 mod fields;
 mod integer;
@@ -9,6 +10,7 @@ mod memory;
 mod opcodes;
 mod system;
 
+pub use again::decode_again;
 use capabilities::decode_auicgp;
 use capabilities::decode_auipcc;
 use capabilities::decode_capability;

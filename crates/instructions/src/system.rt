@@ -70,7 +70,7 @@ fn csr_immediate(kind: CsrKind, csr: Csr, rd: u32, value: u32) -> Instruction
     }
 }
 
-fn decode_csr(f3: u32, csr: Csr, rd: u32, rs1: u32) -> Instruction
+pub(crate) fn decode_csr(f3: u32, csr: Csr, rd: u32, rs1: u32) -> Instruction
     ensures { λ r. ⌜ r ≡ csrOf f3 csr rd rs1 ⌝ }
 {
     match f3 {
@@ -84,7 +84,7 @@ fn decode_csr(f3: u32, csr: Csr, rd: u32, rs1: u32) -> Instruction
     }
 }
 
-fn decode_whole(w: u32) -> Instruction
+pub(crate) fn decode_whole(w: u32) -> Instruction
     ensures { λ r. ⌜ r ≡ wholeOf w ⌝ }
 {
     match w {

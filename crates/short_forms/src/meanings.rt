@@ -17,12 +17,12 @@ use instructions::StoreKind;
 use instructions::SystemInstruction;
 
 // The registers that a form names without a field: the stack's capability, and the link of a call.
-const SP: u32 = 2;
+pub(crate) const SP: u32 = 2;
 
-const RA: u32 = 1;
+pub(crate) const RA: u32 = 1;
 
 // An instruction that names a register by a full field.
-fn naming(n: u32, i: Instruction) -> Instruction
+pub(crate) fn naming(n: u32, i: Instruction) -> Instruction
     ensures { λ r. ⌜ r ≡ namingOf n i ⌝ }
 {
     match n {
@@ -42,32 +42,32 @@ fn unless_hint(rd: u32, operand: u32) -> u32
 }
 
 // An immediate operation on a register in place.
-fn in_place(op: Alu, rd: u32, value: u32) -> Instruction
+pub(crate) fn in_place(op: Alu, rd: u32, value: u32) -> Instruction
     ensures { λ r. ⌜ r ≡ Instruction.Integer (IntegerInstruction.OpImm op (unlessHint rd value) rd value) ⌝ }
 {
     op_imm(op, unless_hint(rd, value), rd, value)
 }
 
-fn op_imm(op: Alu, rd: u32, rs1: u32, value: u32) -> Instruction
+pub(crate) fn op_imm(op: Alu, rd: u32, rs1: u32, value: u32) -> Instruction
     ensures { λ r. ⌜ r ≡ Instruction.Integer (IntegerInstruction.OpImm op rd rs1 value) ⌝ }
 {
     Instruction::Integer(IntegerInstruction::OpImm { op, rd, rs1, value })
 }
 
-fn op(op: Alu, rd: u32, rs1: u32, rs2: u32) -> Instruction
+pub(crate) fn op(op: Alu, rd: u32, rs1: u32, rs2: u32) -> Instruction
     ensures { λ r. ⌜ r ≡ Instruction.Integer (IntegerInstruction.Op op rd rs1 rs2) ⌝ }
 {
     Instruction::Integer(IntegerInstruction::Op { op, rd, rs1, rs2 })
 }
 
-fn lui(rd: u32, value: u32) -> Instruction
+pub(crate) fn lui(rd: u32, value: u32) -> Instruction
     ensures { λ r. ⌜ r ≡ Instruction.Integer (IntegerInstruction.Lui rd value) ⌝ }
 {
     Instruction::Integer(IntegerInstruction::Lui { rd, value })
 }
 
 // The address of a capability moved on from the stack's.
-fn from_sp(rd: u32, value: u32) -> Instruction
+pub(crate) fn from_sp(rd: u32, value: u32) -> Instruction
     ensures { λ r. ⌜ r ≡ Instruction.Capability (CapabilityInstruction.IncAddrImm rd 2 value) ⌝ }
 {
     Instruction::Capability(CapabilityInstruction::IncAddrImm {
@@ -77,7 +77,7 @@ fn from_sp(rd: u32, value: u32) -> Instruction
     })
 }
 
-fn lw(rd: u32, rs1: u32, offset: u32) -> Instruction
+pub(crate) fn lw(rd: u32, rs1: u32, offset: u32) -> Instruction
     ensures { λ r. ⌜ r ≡ Instruction.Memory (MemoryInstruction.Load LoadKind.Lw rd rs1 offset) ⌝ }
 {
     Instruction::Memory(MemoryInstruction::Load {
@@ -88,13 +88,13 @@ fn lw(rd: u32, rs1: u32, offset: u32) -> Instruction
     })
 }
 
-fn clc(rd: u32, rs1: u32, offset: u32) -> Instruction
+pub(crate) fn clc(rd: u32, rs1: u32, offset: u32) -> Instruction
     ensures { λ r. ⌜ r ≡ Instruction.Memory (MemoryInstruction.LoadCapability rd rs1 offset) ⌝ }
 {
     Instruction::Memory(MemoryInstruction::LoadCapability { rd, rs1, offset })
 }
 
-fn sw(rs1: u32, rs2: u32, offset: u32) -> Instruction
+pub(crate) fn sw(rs1: u32, rs2: u32, offset: u32) -> Instruction
     ensures { λ r. ⌜ r ≡ Instruction.Memory (MemoryInstruction.Store StoreKind.Sw rs1 rs2 offset) ⌝ }
 {
     Instruction::Memory(MemoryInstruction::Store {
@@ -105,26 +105,26 @@ fn sw(rs1: u32, rs2: u32, offset: u32) -> Instruction
     })
 }
 
-fn csc(rs1: u32, rs2: u32, offset: u32) -> Instruction
+pub(crate) fn csc(rs1: u32, rs2: u32, offset: u32) -> Instruction
     ensures { λ r. ⌜ r ≡ Instruction.Memory (MemoryInstruction.StoreCapability rs1 rs2 offset) ⌝ }
 {
     Instruction::Memory(MemoryInstruction::StoreCapability { rs1, rs2, offset })
 }
 
-fn jal(rd: u32, offset: u32) -> Instruction
+pub(crate) fn jal(rd: u32, offset: u32) -> Instruction
     ensures { λ r. ⌜ r ≡ Instruction.Jump (JumpInstruction.Jal rd offset) ⌝ }
 {
     Instruction::Jump(JumpInstruction::Jal { rd, offset })
 }
 
-fn jalr(rd: u32, rs1: u32) -> Instruction
+pub(crate) fn jalr(rd: u32, rs1: u32) -> Instruction
     ensures { λ r. ⌜ r ≡ Instruction.Jump (JumpInstruction.Jalr rd rs1 0) ⌝ }
 {
     Instruction::Jump(JumpInstruction::Jalr { rd, rs1, offset: 0 })
 }
 
 // A comparison with c0.
-fn branch(kind: BranchKind, rs1: u32, offset: u32) -> Instruction
+pub(crate) fn branch(kind: BranchKind, rs1: u32, offset: u32) -> Instruction
     ensures { λ r. ⌜ r ≡ Instruction.Jump (JumpInstruction.Branch kind rs1 0 offset) ⌝ }
 {
     Instruction::Jump(JumpInstruction::Branch {

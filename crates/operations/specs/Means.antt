@@ -1,0 +1,83 @@
+-- What an operation of the second engine stands for: the instruction, and where its registers are. Document 02, 14. Assumes nothing.
+use mathlib.Core.Path.{_≡_}
+use Prim.Native.Nat.{ℕ, _*_, _%_, _≤_}
+use Rattle.instructions.specs.declared.Alu.{Alu}
+use Rattle.instructions.specs.declared.Alu.the-variants.{Add}
+use Rattle.instructions.specs.declared.LoadKind.{LoadKind}
+use Rattle.instructions.specs.declared.LoadKind.the-variants.{Lw}
+use Rattle.instructions.specs.declared.StoreKind.{StoreKind}
+use Rattle.instructions.specs.declared.StoreKind.the-variants.{Sw}
+use Rattle.instructions.specs.declared.IntegerInstruction.the-variants.{Lui, OpImm, Op}
+use Rattle.instructions.specs.declared.JumpInstruction.the-variants.{Jal, Branch}
+use Rattle.instructions.specs.declared.MemoryInstruction.the-variants.{Load, Store, LoadCapability, StoreCapability}
+use Rattle.instructions.specs.declared.CapabilityInstruction.the-variants.{IncAddrImm, SetBoundsImm, Move}
+use Rattle.instructions.specs.declared.Instruction.{Instruction}
+use Rattle.instructions.specs.declared.Instruction.the-variants.{Integer, Jump, Memory, Capability, System, Illegal}
+use Rattle.operations.specs.declared.Operation.{Operation}
+use Rattle.operations.specs.declared.Operation.the-variants as Operation
+
+-- the place of a register's first word
+abbrev pub placeOf : (r : ℕ) → ℕ
+placeOf r = r % 16 * 3
+
+-- an instruction that stores nothing: it is of no load or store
+abbrev pub Quiet : Instruction → Type 0
+Quiet (Integer i) = Unit {0}
+Quiet (Jump i) = Unit {0}
+Quiet (Memory i) = ⊥
+Quiet (Capability i) = Unit {0}
+Quiet (System i) = Unit {0}
+Quiet Illegal = Unit {0}
+
+-- the instruction that an operation stands for; a plain one stands for any that stores nothing
+abbrev pub Means : Operation → Instruction → Type 0
+Means Operation.Plain x = Quiet x
+Means (Operation.Put at value) x = (rd : ℕ) × (x ≡ Integer (Lui rd value)) × (at ≡ placeOf rd)
+Means (Operation.AddImmediate at from value) x =
+    (rd : ℕ) × (rs1 : ℕ) × (x ≡ Integer (OpImm Add rd rs1 value)) × (at ≡ placeOf rd) × (from ≡ placeOf rs1)
+Means (Operation.Immediate op at from value) x =
+    (rd : ℕ) × (rs1 : ℕ) × (x ≡ Integer (OpImm op rd rs1 value)) × (at ≡ placeOf rd) × (from ≡ placeOf rs1)
+Means (Operation.Two op at from other) x =
+    (rd : ℕ) × (rs1 : ℕ) × (rs2 : ℕ) × (x ≡ Integer (Op op rd rs1 rs2)) × (at ≡ placeOf rd) × (from ≡ placeOf rs1) × (other ≡ placeOf rs2)
+Means (Operation.Go offset) x = (rd : ℕ) × (x ≡ Jump (Jal rd offset)) × (placeOf rd ≡ 0)
+Means (Operation.Branch kind from other offset) x =
+    (rs1 : ℕ) × (rs2 : ℕ) × (x ≡ Jump (Branch kind rs1 rs2 offset)) × (from ≡ placeOf rs1) × (other ≡ placeOf rs2)
+Means (Operation.LoadWord at from offset) x =
+    (rd : ℕ) × (rs1 : ℕ) × (x ≡ Memory (Load Lw rd rs1 offset)) × (at ≡ placeOf rd) × (from ≡ placeOf rs1)
+Means (Operation.LoadSmall kind at from offset) x =
+    (rd : ℕ) × (rs1 : ℕ) × (x ≡ Memory (Load kind rd rs1 offset)) × (at ≡ placeOf rd) × (from ≡ placeOf rs1)
+Means (Operation.StoreWord from other offset) x =
+    (rs1 : ℕ) × (rs2 : ℕ) × (x ≡ Memory (Store Sw rs1 rs2 offset)) × (from ≡ placeOf rs1) × (other ≡ placeOf rs2)
+Means (Operation.StoreSmall kind from other offset) x =
+    (rs1 : ℕ) × (rs2 : ℕ) × (x ≡ Memory (Store kind rs1 rs2 offset)) × (from ≡ placeOf rs1) × (other ≡ placeOf rs2)
+Means (Operation.LoadCapability at from offset) x =
+    (rd : ℕ) × (rs1 : ℕ) × (x ≡ Memory (LoadCapability rd rs1 offset)) × (at ≡ placeOf rd) × (from ≡ placeOf rs1)
+Means (Operation.StoreCapability from other offset) x =
+    (rs1 : ℕ) × (rs2 : ℕ) × (x ≡ Memory (StoreCapability rs1 rs2 offset)) × (from ≡ placeOf rs1) × (other ≡ placeOf rs2)
+Means (Operation.Increment at from offset) x =
+    (rd : ℕ) × (rs1 : ℕ) × (x ≡ Capability (IncAddrImm rd rs1 offset)) × (at ≡ placeOf rd) × (from ≡ placeOf rs1)
+Means (Operation.Cut at from length) x =
+    (rd : ℕ) × (rs1 : ℕ) × (x ≡ Capability (SetBoundsImm rd rs1 length)) × (at ≡ placeOf rd) × (from ≡ placeOf rs1)
+Means (Operation.Copy at from) x = (rd : ℕ) × (rs1 : ℕ) × (x ≡ Capability (Move rd rs1)) × (at ≡ placeOf rd) × (from ≡ placeOf rs1)
+
+-- the places are those of registers
+abbrev pub Place : ℕ → Type 0
+Place p = (p ≤ 45) × (p % 3 ≡ 0)
+
+abbrev pub Placed : Operation → Type 0
+Placed Operation.Plain = Unit {0}
+Placed (Operation.Put at value) = Place at
+Placed (Operation.AddImmediate at from value) = Place at × Place from
+Placed (Operation.Immediate op at from value) = Place at × Place from
+Placed (Operation.Two op at from other) = Place at × Place from × Place other
+Placed (Operation.Go offset) = Unit {0}
+Placed (Operation.Branch kind from other offset) = Place from × Place other
+Placed (Operation.LoadWord at from offset) = Place at × Place from
+Placed (Operation.LoadSmall kind at from offset) = Place at × Place from
+Placed (Operation.StoreWord from other offset) = Place from × Place other
+Placed (Operation.StoreSmall kind from other offset) = Place from × Place other
+Placed (Operation.LoadCapability at from offset) = Place at × Place from
+Placed (Operation.StoreCapability from other offset) = Place from × Place other
+Placed (Operation.Increment at from offset) = Place at × Place from
+Placed (Operation.Cut at from length) = Place at × Place from
+Placed (Operation.Copy at from) = Place at × Place from

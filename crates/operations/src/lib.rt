@@ -1,0 +1,274 @@
+// What the second engine keeps of a decoded instruction: one enum over all families, with registers as places in the register file. An instruction that it has
+// no operation of its own for is left to the plain step.
+ghost use mathlib.Core.Path.{_≡_};
+ghost use Rattle.operations.specs.Means.{placeOf, Means, Placed};
+use instructions::Alu;
+use instructions::BranchKind;
+use instructions::CapabilityInstruction;
+use instructions::Instruction;
+use instructions::IntegerInstruction;
+use instructions::JumpInstruction;
+use instructions::LoadKind;
+use instructions::MemoryInstruction;
+use instructions::StoreKind;
+
+// at, from and other are places of a register's first word.
+pub enum Operation {
+    Plain,
+    Put {
+        at: u32,
+        value: u32,
+    },
+    AddImmediate {
+        at: u32,
+        from: u32,
+        value: u32,
+    },
+    Immediate {
+        op: Alu,
+        at: u32,
+        from: u32,
+        value: u32,
+    },
+    Two {
+        op: Alu,
+        at: u32,
+        from: u32,
+        other: u32,
+    },
+    Go {
+        offset: u32,
+    },
+    Branch {
+        kind: BranchKind,
+        from: u32,
+        other: u32,
+        offset: u32,
+    },
+    LoadWord {
+        at: u32,
+        from: u32,
+        offset: u32,
+    },
+    LoadSmall {
+        kind: LoadKind,
+        at: u32,
+        from: u32,
+        offset: u32,
+    },
+    StoreWord {
+        from: u32,
+        other: u32,
+        offset: u32,
+    },
+    StoreSmall {
+        kind: StoreKind,
+        from: u32,
+        other: u32,
+        offset: u32,
+    },
+    LoadCapability {
+        at: u32,
+        from: u32,
+        offset: u32,
+    },
+    StoreCapability {
+        from: u32,
+        other: u32,
+        offset: u32,
+    },
+    Increment {
+        at: u32,
+        from: u32,
+        offset: u32,
+    },
+    Cut {
+        at: u32,
+        from: u32,
+        length: u32,
+    },
+    Copy {
+        at: u32,
+        from: u32,
+    },
+}
+
+// The words of a capability in the register file, and the general registers.
+const WORDS: u32 = 3;
+
+const REGISTERS: u32 = 16;
+
+// The place of a register's first word.
+pub fn place_of(r: u32) -> u32
+    ensures { λ p. ⌜ p ≡ placeOf r ⌝ }
+{
+    r % REGISTERS * WORDS
+}
+
+fn immediate(op: Alu, rd: u32, rs1: u32, value: u32) -> Operation
+    ensures { λ r. ⌜ Means r (Instruction.Integer (IntegerInstruction.OpImm op rd rs1 value)) × Placed r ⌝ }
+{
+    let at = place_of(rd);
+    let from = place_of(rs1);
+    match op {
+        Alu::Add => return Operation::AddImmediate { at, from, value },
+        _ => return Operation::Immediate {
+            op,
+            at,
+            from,
+            value,
+        },
+    }
+}
+
+fn of_integer(i: IntegerInstruction) -> Operation
+    ensures { λ r. ⌜ Means r (Instruction.Integer i) × Placed r ⌝ }
+{
+    match i {
+        IntegerInstruction::Lui { rd, value } => return Operation::Put {
+            at: place_of(rd),
+            value,
+        },
+        IntegerInstruction::OpImm { op, rd, rs1, value } => return immediate(op, rd, rs1, value),
+        IntegerInstruction::Op { op, rd, rs1, rs2 } => return Operation::Two {
+            op,
+            at: place_of(rd),
+            from: place_of(rs1),
+            other: place_of(rs2),
+        },
+        _ => return Operation::Plain,
+    }
+}
+
+// A jump that links a register is left to the plain step.
+fn go(rd: u32, offset: u32) -> Operation
+    ensures { λ r. ⌜ Means r (Instruction.Jump (JumpInstruction.Jal rd offset)) × Placed r ⌝ }
+{
+    match place_of(rd) {
+        0 => return Operation::Go { offset },
+        _ => return Operation::Plain,
+    }
+}
+
+fn of_jump(i: JumpInstruction) -> Operation
+    ensures { λ r. ⌜ Means r (Instruction.Jump i) × Placed r ⌝ }
+{
+    match i {
+        JumpInstruction::Jal { rd, offset } => return go(rd, offset),
+        JumpInstruction::Branch {
+            kind,
+            rs1,
+            rs2,
+            offset,
+        } => return Operation::Branch {
+            kind,
+            from: place_of(rs1),
+            other: place_of(rs2),
+            offset,
+        },
+        _ => return Operation::Plain,
+    }
+}
+
+fn load(kind: LoadKind, rd: u32, rs1: u32, offset: u32) -> Operation
+    ensures { λ r. ⌜ Means r (Instruction.Memory (MemoryInstruction.Load kind rd rs1 offset)) × Placed r ⌝ }
+{
+    let at = place_of(rd);
+    let from = place_of(rs1);
+    match kind {
+        LoadKind::Lw => return Operation::LoadWord { at, from, offset },
+        _ => return Operation::LoadSmall {
+            kind,
+            at,
+            from,
+            offset,
+        },
+    }
+}
+
+fn store(kind: StoreKind, rs1: u32, rs2: u32, offset: u32) -> Operation
+    ensures { λ r. ⌜ Means r (Instruction.Memory (MemoryInstruction.Store kind rs1 rs2 offset)) × Placed r ⌝ }
+{
+    let from = place_of(rs1);
+    let other = place_of(rs2);
+    match kind {
+        StoreKind::Sw => return Operation::StoreWord {
+            from,
+            other,
+            offset,
+        },
+        _ => return Operation::StoreSmall {
+            kind,
+            from,
+            other,
+            offset,
+        },
+    }
+}
+
+fn of_memory(i: MemoryInstruction) -> Operation
+    ensures { λ r. ⌜ Means r (Instruction.Memory i) × Placed r ⌝ }
+{
+    match i {
+        MemoryInstruction::Load {
+            kind,
+            rd,
+            rs1,
+            offset,
+        } => return load(kind, rd, rs1, offset),
+        MemoryInstruction::Store {
+            kind,
+            rs1,
+            rs2,
+            offset,
+        } => return store(kind, rs1, rs2, offset),
+        MemoryInstruction::LoadCapability { rd, rs1, offset } => return Operation::LoadCapability {
+            at: place_of(rd),
+            from: place_of(rs1),
+            offset,
+        },
+        MemoryInstruction::StoreCapability { rs1, rs2, offset } => {
+            return Operation::StoreCapability {
+                from: place_of(rs1),
+                other: place_of(rs2),
+                offset,
+            }
+        }
+    }
+}
+
+fn of_capability(i: CapabilityInstruction) -> Operation
+    ensures { λ r. ⌜ Means r (Instruction.Capability i) × Placed r ⌝ }
+{
+    match i {
+        CapabilityInstruction::IncAddrImm { rd, rs1, offset } => return Operation::Increment {
+            at: place_of(rd),
+            from: place_of(rs1),
+            offset,
+        },
+        CapabilityInstruction::SetBoundsImm { rd, rs1, length } => return Operation::Cut {
+            at: place_of(rd),
+            from: place_of(rs1),
+            length,
+        },
+        CapabilityInstruction::Move { rd, rs1 } => return Operation::Copy {
+            at: place_of(rd),
+            from: place_of(rs1),
+        },
+        _ => return Operation::Plain,
+    }
+}
+
+// The operation of an instruction.
+pub fn operation_of(x: Instruction) -> Operation
+    ensures { λ r. ⌜ Means r x × Placed r ⌝ }
+{
+    match x {
+        Instruction::Integer(i) => return of_integer(i),
+        Instruction::Jump(i) => return of_jump(i),
+        Instruction::Memory(i) => return of_memory(i),
+        Instruction::Capability(i) => return of_capability(i),
+        Instruction::System(_) => return Operation::Plain,
+        Instruction::Illegal => return Operation::Plain,
+    }
+}
