@@ -1,0 +1,13 @@
+pub mod Look
+pub mod Onward
+pub mod Targets
+pub mod Families
+pub mod Inside
+pub mod Reach
+pub mod Accesses
+pub mod Steady
+pub mod Quiet
+pub mod Arms
+pub mod Standing
+pub mod Turning
+pub mod Forget

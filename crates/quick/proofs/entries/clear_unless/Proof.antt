@@ -1,0 +1,80 @@
+use mathlib.Core.List.{List, [], _∷_}
+use lib.Dec.{eqb}
+use lib.ListN.{set}
+use lib.Seq.{getD-set-other}
+use borrow.Author.Tests.{eqb-true, eqb-false}
+use Rattle.words.proofs.Word.{by-test}
+use Prim.Native.Nat.{_+_}
+use native.Mathlib.Omega.{arith}
+use mathlib.Core.Path.{_≡_, refl, sym, _∙_}
+use mathlib.Core.Logic.{inl, inr}
+use Prim.Native.Nat.{ℕ, zero, suc, _-_, _≤_, _<_}
+use lib.ListN.{getD}
+use Rattle.quick.proofs.entries.clear_unless.Statement.{statement}
+use Rattle.quick.proofs.entries.clear_unless.Tie as tie
+use Rattle.quick.proofs.entries.clear_unless.Reads as reads
+use Rattle.quick.proofs.entries.clear_unless.Lts as lts
+
+zero-put : (l : List ℕ) (i : ℕ) → getD (set l i 0) i 0 ≡ 0
+zero-put [] i = refl
+zero-put (x ∷ l) zero = refl
+zero-put (x ∷ l) (suc i) = zero-put l i
+
+-- one place more is 0
+put-less : (l : List ℕ) (i j : ℕ) → ((k : ℕ) → k < i → getD l k 0 ≡ 0) → j < i + 1 → getD (set l i 0) j 0 ≡ 0
+put-less l i j p q =
+    by-test (eqb j i) (λ t. rw (eqb-true j i t) (zero-put l i))
+    (λ f. getD-set-other l i j 0 0 (λ e. eqb-false j i f e) ∙ p j (omega (arith, q, eqb-false j i f)))
+
+abbrev Inv-loop : tie.InvT-loop
+Inv-loop lens₀ trapped i₀ lens i = (i ≤ 1024) × ((j : ℕ) → j < i → getD lens j 0 ≡ 0)
+
+abbrev μ-loop : tie.MeasureT-loop
+μ-loop lens₀ trapped i₀ lens i = 1024 - i
+
+-- src/entries.rt:128:9
+returns : tie.Need-returns Inv-loop μ-loop
+returns c = inl (c .if1 .taken, refl)
+
+-- src/entries.rt:131:5
+loop-holds : tie.Need-loop-holds Inv-loop μ-loop
+loop-holds c = (omega arith, λ j h. absurd (omega (arith, h)))
+
+-- src/entries.rt:132:9
+mul-lens : tie.Need-mul-lens Inv-loop μ-loop
+mul-lens c = omega (arith, c .loop-test .taken)
+
+-- src/entries.rt:132:9
+element-write-lens : tie.Need-element-write-lens Inv-loop μ-loop
+element-write-lens c = omega (arith, c .loop-test .taken)
+
+-- src/entries.rt:133:9
+add-i : tie.Need-add-i Inv-loop μ-loop
+add-i c = omega (arith, c .loop-test .taken)
+
+-- src/entries.rt:131:5
+loop-less : tie.Need-loop-less Inv-loop μ-loop
+loop-less c = omega (arith, c .loop-test .taken)
+
+-- src/entries.rt:131:5
+loop-again : tie.Need-loop-again Inv-loop μ-loop
+loop-again c = let l = c .before .loop in (omega (arith, c .loop-test .taken), λ j h. put-less (l .lens) (l .i) j (l .inv .1) h)
+
+-- src/entries.rt:124:1
+returns-2 : tie.Need-returns-2 Inv-loop μ-loop
+returns-2 c = inr (c .before .before .if1 .left, λ j h. c .before .loop .inv .1 j (omega (arith, h, c .loop-test .left)))
+
+pub clear-unless-spec : {M : Type 1} → statement M
+clear-unless-spec =
+    tie.close
+    (tie.spec
+    Inv-loop
+    μ-loop
+    returns
+    loop-holds
+    mul-lens
+    element-write-lens
+    add-i
+    loop-less
+    loop-again
+    returns-2)

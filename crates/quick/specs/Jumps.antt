@@ -1,0 +1,37 @@
+-- A turn of a jump that links no register. CHERIoT report, 9.4 (CJAL); document 02, 14. Assumes nothing.
+use mathlib.Core.Bool.{Bool, true, false}
+use mathlib.Core.List.{List}
+use mathlib.Core.Path.{_≡_}
+use Prim.Native.Nat.{ℕ, _+_, _*_, _%_}
+use Rattle.words.specs.Words.{wrap}
+use Rattle.metadata.specs.Rights.{EX}
+use Rattle.instructions.specs.declared.BranchKind.{BranchKind}
+use Rattle.instructions.specs.declared.JumpInstruction.the-variants.{Jal, Branch}
+use Rattle.state.specs.Addresses.{targetBytes, targetAlignment}
+use Rattle.state.specs.Lent.{state}
+use Rattle.jump_instructions.specs.Jumps.{jumpEffect}
+use Rattle.quick.specs.Rows.{Reached}
+use Rattle.quick.specs.Turns.{wentOn, heldAt, pccPlace, Stands, Turned}
+use Rattle.quick.specs.declared.Took.{Took}
+
+-- PCC goes to an aligned target that it reaches; or nothing is changed
+abbrev pub WentIf : Bool → (start size to : ℕ) → (before after : List ℕ) → Type 0
+WentIf true start size to before after =
+    (after ≡ wentOn to before) × (to % targetAlignment ≡ 0) × Reached EX start size (heldAt pccPlace before) to targetBytes
+WentIf false start size to before after = after ≡ before
+
+-- and nothing is stored
+abbrev pub Went : (start size to : ℕ) → (before after : List ℕ) → Took → Type 0
+Went start size to before after t = WentIf (t .done) start size to before after × (t .width ≡ 0)
+
+-- CJAL to c0
+abbrev pub GoTurns : (start offset : ℕ) → (before after : List ℕ) → Took → Type 0
+GoTurns start offset before after t =
+    (rd m a n edition : ℕ) → (mem tags : List ℕ) → Stands before m a n → rd % 16 ≡ 0
+    → Turned start n (jumpEffect n edition (Jal rd offset) before) (state before mem tags) (state after mem tags) t
+
+-- a branch, of registers by their places
+abbrev pub BranchTurns : (start : ℕ) → BranchKind → (from other offset to : ℕ) → (before after : List ℕ) → Took → Type 0
+BranchTurns start kind from other offset to before after t =
+    (rs1 rs2 m a n edition : ℕ) → (mem tags : List ℕ) → Stands before m a n → to ≡ wrap (a + n) → from ≡ rs1 % 16 * 3 → other ≡ rs2 % 16 * 3
+    → Turned start n (jumpEffect n edition (Branch kind rs1 rs2 offset) before) (state before mem tags) (state after mem tags) t

@@ -1,0 +1,39 @@
+// Turns of the capability instructions that the engine knows: the result is written, and on.
+ghost use mathlib.Core.Path.{_≡_};
+ghost use Prim.Native.Nat.{_≤_};
+ghost use lib.ListN.{length};
+ghost use Rattle.capability.specs.Capability.{setBoundsOf};
+ghost use Rattle.capability_instructions.specs.Derivation.{movedBy};
+ghost use Rattle.quick.specs.Turns.{wentOn, writtenAt, heldAt};
+use crate::registers;
+use std::num::wrapping_add_u32;
+
+// CIncAddrImm.
+pub(crate) fn increment(at: u32, from: u32, offset: u32, regs: &mut [u32], to: u32)
+    requires { ⌜ (length (now regs) ≡ 72) × (at ≤ 45) × (from ≤ 45) ⌝ }
+    ensures { λ _. ⌜ now (regs .exit)
+        ≡ wentOn to (writtenAt at (movedBy (heldAt from (now (regs .entry))) offset) (now (regs .entry))) ⌝ }
+{
+    let c = registers::read_capability(regs, from);
+    let moved = capability::move_address(c, wrapping_add_u32(c.address, offset));
+    registers::write(regs, at, moved, to);
+}
+
+// CSetBoundsImm.
+pub(crate) fn cut(at: u32, from: u32, size: u32, regs: &mut [u32], to: u32)
+    requires { ⌜ (length (now regs) ≡ 72) × (at ≤ 45) × (from ≤ 45) ⌝ }
+    ensures { λ _. ⌜ now (regs .exit)
+        ≡ wentOn to (writtenAt at (setBoundsOf (heldAt from (now (regs .entry))) size) (now (regs .entry))) ⌝ }
+{
+    let c = registers::read_capability(regs, from);
+    registers::write(regs, at, capability::set_bounds(c, size), to);
+}
+
+// CMove.
+pub(crate) fn copy(at: u32, from: u32, regs: &mut [u32], to: u32)
+    requires { ⌜ (length (now regs) ≡ 72) × (at ≤ 45) × (from ≤ 45) ⌝ }
+    ensures { λ _. ⌜ now (regs .exit) ≡ wentOn to (writtenAt at (heldAt from (now (regs .entry))) (now (regs .entry))) ⌝ }
+{
+    let c = registers::read_capability(regs, from);
+    registers::write(regs, at, c, to);
+}

@@ -1,0 +1,182 @@
+// Entries: the code that is kept, by slot. Its lengths, keys and operations are three arrays; a length of 0 is no entry.
+use crate::Found;
+use capability::Capability;
+use instructions::Instruction;
+use operations::Operation;
+use short_forms::HALF_BYTES;
+use short_forms::LONG_BYTES;
+use state::EXECUTE_CAUSE;
+use state::NO_CAUSE;
+use state::TARGET_ALIGNMENT;
+use std::num::wrapping_add_u32;
+ghost use mathlib.Core.Path.{_≡_};
+ghost use Prim.Native.Nat.{_+_, _-_, _^_, _≤_, _<_};
+ghost use Rattle.quick.specs.Entries.{slots, slotOf, OpenIf, FoundIf, FirstLook, FoundAs, ReadyIf, ClearedUnless, clearedNear, forgotten};
+
+// How many entries there are.
+pub(crate) const SLOTS: usize = 1024;
+
+// The slot of an address.
+pub(crate) fn slot_of(address: u32) -> usize
+    ensures { λ r. ⌜ (r ≡ slotOf address) × (r < slots) ⌝ }
+{
+    (address / 2 % 1024) as usize
+}
+
+// Whether a fetch at PCC meets no fault, whichever length stands there.
+fn is_open(pcc: Capability, start: u32, size: usize) -> bool
+    ensures { λ r. ⌜ OpenIf r start size pcc ⌝ }
+{
+    if pcc.tag != 1 {
+        return false;
+    }
+    if pcc.address % TARGET_ALIGNMENT != 0 {
+        return false;
+    }
+    if pcc.address < start {
+        return false;
+    }
+    if size < (pcc.address - start) as usize + LONG_BYTES as usize {
+        return false;
+    }
+    state::access_cause(pcc, metadata::EX, EXECUTE_CAUSE, pcc.address, LONG_BYTES) == NO_CAUSE
+}
+
+fn absent() -> Found
+    ensures { λ r. ⌜ r .bytes ≡ 0 ⌝ }
+{
+    Found {
+        bytes: 0,
+        op: Operation::Plain,
+    }
+}
+
+// An instruction of some bytes at PCC, where PCC is itself after it.
+fn standing(pcc: Capability, bytes: u32, x: Instruction) -> Found
+    ensures { λ r. ⌜ FoundAs pcc bytes x r ⌝ }
+{
+    let next = capability::move_address(pcc, wrapping_add_u32(pcc.address, bytes));
+    if next.tag == 1 {
+        Found {
+            bytes,
+            op: operations::operation_of(x),
+        }
+    } else {
+        absent()
+    }
+}
+
+// What stands at PCC, unless it was looked up just now and no entry serves.
+pub(crate) fn look(missed: u32, pcc: Capability, start: u32, mem: &[u8]) -> Found
+    ensures { λ r. ⌜ FoundIf start (now (mem .entry)) pcc r × FirstLook missed r ⌝ }
+{
+    if missed != 0 {
+        return absent();
+    }
+    if !is_open(pcc, start, mem.len()) {
+        return absent();
+    }
+    let word = words::load32(mem, (pcc.address - start) as usize);
+    match word % 4 {
+        3 => return standing(pcc, LONG_BYTES, instructions::decode_again(word)),
+        _ => return standing(
+            pcc,
+            HALF_BYTES,
+            short_forms::instruction_again(word % 0x1_0000),
+        ),
+    }
+}
+
+// No entry left at the five slots around an address.
+fn clear_near(lens: &mut [u32; 1024], address: usize)
+    requires { ⌜ address < 2 ^ 33 ⌝ }
+    ensures { λ _. ⌜ now (lens .exit) ≡ clearedNear address (now (lens .entry)) ⌝ }
+{
+    let first = address / 2 + SLOTS - 1;
+    lens[first % SLOTS] = 0;
+    lens[(first + 1) % SLOTS] = 0;
+    lens[(first + 2) % SLOTS] = 0;
+    lens[(first + 3) % SLOTS] = 0;
+    lens[(first + 4) % SLOTS] = 0;
+}
+
+// The entries after width bytes are stored at a place.
+pub(crate) fn forget(lens: &mut [u32; 1024], low: u64, high: u64, start: u32, at: u32, width: u32)
+    ensures { λ _. ⌜ now (lens .exit) ≡ forgotten low high start at width (now (lens .entry)) ⌝ }
+{
+    if width == 0 {
+        return;
+    }
+    if at as u64 + width as u64 <= low {
+        return;
+    }
+    if high <= at as u64 {
+        return;
+    }
+    clear_near(lens, start as usize + at as usize);
+}
+
+// The place of an address in memory.
+pub(crate) fn place_in(start: u32, address: u32) -> u64
+    ensures { λ r. ⌜ r ≡ address - start ⌝ }
+{
+    if start <= address {
+        return (address - start) as u64;
+    }
+    0
+}
+
+pub(crate) fn smaller(a: u64, b: u64) -> u64
+    ensures { λ r. ⌜ (r ≤ a) × (r ≤ b) ⌝ }
+{
+    if a < b { a } else { b }
+}
+
+pub(crate) fn larger(a: u64, b: u64) -> u64
+    ensures { λ r. ⌜ (a ≤ r) × (b ≤ r) ⌝ }
+{
+    if a < b { b } else { a }
+}
+
+// The key of an address, by PCC's metadata word as a key has it.
+pub(crate) fn key_of(base: u64, address: u32) -> u64
+    requires { ⌜ base + 2 ^ 32 ≤ 2 ^ 64 ⌝ }
+    ensures { λ r. ⌜ r ≡ base + address ⌝ }
+{
+    base + address as u64
+}
+
+// Whether step k stands at an entry for a key.
+pub(crate) fn is_ready(
+    k: u32,
+    limit: u32,
+    lens: &[u32; 1024],
+    keys: &[u64; 1024],
+    i: usize,
+    key: u64,
+) -> bool
+    requires { ⌜ i < slots ⌝ }
+    ensures { λ r. ⌜ ReadyIf r k limit (now (lens .entry)) (now (keys .entry)) i key ⌝ }
+{
+    if limit <= k {
+        return false;
+    }
+    if lens[i] == 0 {
+        return false;
+    }
+    keys[i] == key
+}
+
+// No entry left after a step of which nothing is known, unless it trapped and so stored nothing.
+pub(crate) fn clear_unless(lens: &mut [u32; 1024], trapped: u32)
+    ensures { λ _. ⌜ ClearedUnless trapped (now (lens .entry)) (now (lens .exit)) ⌝ }
+{
+    if trapped != 0 {
+        return;
+    }
+    let mut i = 0;
+    while i < SLOTS {
+        lens[i] = 0;
+        i += 1;
+    }
+}

@@ -1,0 +1,49 @@
+// Turns of the integer instructions: the result is written, and on.
+ghost use mathlib.Core.Path.{_≡_};
+ghost use Prim.Native.Nat.{_≤_};
+ghost use lib.ListN.{getD, length};
+ghost use Rattle.capability.specs.Capability.{integer};
+ghost use Rattle.integer_instructions.specs.Integer.{aluOf};
+ghost use Rattle.quick.specs.Turns.{wentOn, writtenAt};
+use crate::registers;
+use instructions::Alu;
+use std::num::wrapping_add_u32;
+
+// LUI.
+pub(crate) fn put(at: u32, value: u32, regs: &mut [u32], to: u32)
+    requires { ⌜ (length (now regs) ≡ 72) × (at ≤ 45) ⌝ }
+    ensures { λ _. ⌜ now (regs .exit) ≡ wentOn to (writtenAt at (integer value) (now (regs .entry))) ⌝ }
+{
+    registers::write(regs, at, capability::integer(value), to);
+}
+
+// ADDI, the most frequent of OP-IMM.
+pub(crate) fn add_immediate(at: u32, from: u32, value: u32, regs: &mut [u32], to: u32)
+    requires { ⌜ (length (now regs) ≡ 72) × (at ≤ 45) × (from ≤ 45) ⌝ }
+    ensures { λ _. ⌜ now (regs .exit)
+        ≡ wentOn to (writtenAt at (integer (aluOf Alu.Add (getD (now (regs .entry)) from 0) value)) (now (regs .entry))) ⌝ }
+{
+    let sum = wrapping_add_u32(registers::read(regs, from), value);
+    put(at, sum, regs, to);
+}
+
+// OP-IMM.
+pub(crate) fn immediate(op: Alu, at: u32, from: u32, value: u32, regs: &mut [u32], to: u32)
+    requires { ⌜ (length (now regs) ≡ 72) × (at ≤ 45) × (from ≤ 45) ⌝ }
+    ensures { λ _. ⌜ now (regs .exit)
+        ≡ wentOn to (writtenAt at (integer (aluOf op (getD (now (regs .entry)) from 0) value)) (now (regs .entry))) ⌝ }
+{
+    let result = integer_instructions::alu(op, registers::read(regs, from), value);
+    put(at, result, regs, to);
+}
+
+// OP.
+pub(crate) fn two(op: Alu, at: u32, from: u32, other: u32, regs: &mut [u32], to: u32)
+    requires { ⌜ (length (now regs) ≡ 72) × (at ≤ 45) × (from ≤ 45) × (other ≤ 45) ⌝ }
+    ensures { λ _. ⌜ now (regs .exit) ≡ wentOn to
+        (writtenAt at (integer (aluOf op (getD (now (regs .entry)) from 0) (getD (now (regs .entry)) other 0))) (now (regs .entry))) ⌝ }
+{
+    let a = registers::read(regs, from);
+    let b = registers::read(regs, other);
+    put(at, integer_instructions::alu(op, a, b), regs, to);
+}

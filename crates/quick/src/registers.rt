@@ -1,0 +1,81 @@
+// The register file of a turn: registers read and written by their places, PCC moved on by one word, time one on.
+ghost use mathlib.Core.Path.{_≡_};
+ghost use Prim.Native.Nat.{_≤_};
+ghost use lib.ListN.{getD, length};
+ghost use Rattle.state.specs.Marks.{marked};
+ghost use Rattle.quick.specs.Turns.{wentOn, writtenAt, heldAt};
+use capability::Capability;
+use std::num::wrapping_add_u32;
+
+// The places of PCC's address, of the mark and its base, and of time.
+pub(crate) const PCC_PLACE: usize = 48;
+
+pub(crate) const MARK_PLACE: usize = 66;
+
+pub(crate) const BASE_PLACE: usize = 67;
+
+pub(crate) const TIME_PLACE: usize = 68;
+
+pub(crate) const LARGEST_WORD: u32 = 0xFFFF_FFFF;
+
+// PCC at an address of the same word, and time one on.
+pub(crate) fn go_on(regs: &mut [u32], to: u32)
+    requires { ⌜ length (now regs) ≡ 72 ⌝ }
+    ensures { λ _. ⌜ now (regs .exit) ≡ wentOn to (now (regs .entry)) ⌝ }
+{
+    regs[PCC_PLACE] = to;
+    let low = regs[TIME_PLACE];
+    if low == LARGEST_WORD {
+        regs[TIME_PLACE] = 0;
+        regs[TIME_PLACE + 1] = wrapping_add_u32(regs[TIME_PLACE + 1], 1);
+    } else {
+        regs[TIME_PLACE] = low + 1;
+    }
+}
+
+// A register written, and on.
+pub(crate) fn write(regs: &mut [u32], at: u32, c: Capability, to: u32)
+    requires { ⌜ (length (now regs) ≡ 72) × (at ≤ 45) ⌝ }
+    ensures { λ _. ⌜ now (regs .exit) ≡ wentOn to (writtenAt at c (now (regs .entry))) ⌝ }
+{
+    let i = at as usize;
+    if i != 0 {
+        regs[i] = c.address;
+        regs[i + 1] = c.metadata;
+        regs[i + 2] = c.tag;
+    }
+    go_on(regs, to);
+}
+
+// The integer in a register.
+pub(crate) fn read(regs: &[u32], from: u32) -> u32
+    requires { ⌜ (length (now regs) ≡ 72) × (from ≤ 45) ⌝ }
+    ensures { λ r. ⌜ r ≡ getD (now (regs .entry)) from 0 ⌝ }
+{
+    regs[from as usize]
+}
+
+// The capability at a place.
+pub(crate) fn read_capability(regs: &[u32], from: u32) -> Capability
+    requires { ⌜ (length (now regs) ≡ 72) × (from ≤ 48) ⌝ }
+    ensures { λ r. ⌜ r ≡ heldAt from (now (regs .entry)) ⌝ }
+{
+    let i = from as usize;
+    Capability {
+        address: regs[i],
+        metadata: regs[i + 1],
+        tag: regs[i + 2],
+    }
+}
+
+// The mark after a store at an address.
+pub(crate) fn mark(regs: &mut [u32], address: u32)
+    requires { ⌜ length (now regs) ≡ 72 ⌝ }
+    ensures { λ _. ⌜ now (regs .exit) ≡ marked address (now (regs .entry)) ⌝ }
+{
+    if regs[BASE_PLACE] <= address {
+        if address < regs[MARK_PLACE] {
+            regs[MARK_PLACE] = state::clear_low(address);
+        }
+    }
+}

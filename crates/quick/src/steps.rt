@@ -1,0 +1,140 @@
+// The loop of the second engine. Its arrays of operations stay in its own frame: they are not lent.
+use crate::entries;
+use crate::entries::SLOTS;
+use crate::pace;
+use crate::registers;
+use crate::registers::PCC_PLACE;
+use crate::rows::ROW_WORDS;
+use crate::turn;
+use machine::Tally;
+use operations::Operation;
+use state::Board;
+use std::num::wrapping_add_u32;
+use watch::Watch;
+ghost use mathlib.Core.Path.{_≡_};
+ghost use Prim.Native.Nat.{_%_};
+ghost use lib.ListN.{length};
+ghost use Rattle.state.specs.Lent.{state};
+ghost use Rattle.machine.specs.Run.{ran, iterate};
+ghost use Rattle.machine.specs.Watching.{watchedBy};
+ghost use Rattle.quick.specs.Entries.{notedAt};
+
+// No address is so high: the low end of the hull of no entries.
+const NO_LOW: u64 = 0xFFFF_FFFF_FFFF_FFFF;
+
+// The record after a turn that is done.
+fn noted(w: Watch, start: u32, at: u32, width: u32) -> Watch
+    ensures { λ r. ⌜ r ≡ notedAt w start at width ⌝ }
+{
+    if width == 0 {
+        return w;
+    }
+    w.touched(wrapping_add_u32(start, at), width)
+}
+
+// n steps. Nothing is refused.
+pub(crate) fn take_quick(
+    regs: &mut [u32],
+    board: Board,
+    mem: &mut [u8],
+    tags: &mut [u8],
+    revoked: &[u8],
+    n: u32,
+    w: Watch,
+) -> Tally
+    requires { ⌜ (length (now regs) ≡ 72) × (board .start % 8 ≡ 0) ⌝ }
+    ensures { λ r. ⌜ (ran (state (now (regs .exit)) (now (mem .exit)) (now (tags .exit))) (r .retired) (r .trapped)
+        ≡ iterate n board (now (revoked .entry)) (ran (state (now (regs .entry)) (now (mem .entry)) (now (tags .entry))) 0 0))
+        × (r .watch ≡ watchedBy n board (now (revoked .entry)) (state (now (regs .entry)) (now (mem .entry)) (now (tags .entry))) w) ⌝ }
+{
+    let mut code = [Operation::Plain; SLOTS];
+    let mut keys = [0u64; SLOTS];
+    let mut lens = [0u32; SLOTS];
+    let mut rows = [0u64; ROW_WORDS];
+    let mut low = NO_LOW;
+    let mut high: u64 = 0;
+    let mut base = pace::base_of(regs);
+    let mut limit = pace::limit_from(regs, 0, n);
+    let mut missed: u32 = 0;
+    let mut watch = w;
+    let mut trapped: u32 = 0;
+    let mut k: u32 = 0;
+    while k < n {
+        let pc = regs[PCC_PLACE];
+        let i = entries::slot_of(pc);
+        if entries::is_ready(k, limit, &lens, &keys, i, entries::key_of(base, pc)) {
+            let op = code[i];
+            let bytes = lens[i];
+            let t = turn::turn(op, bytes, &mut rows, regs, board, mem, tags, revoked);
+            entries::forget(&mut lens, low, high, board.start, t.at, t.width);
+            k += 1;
+            missed = 0;
+            if t.done {
+                watch = noted(watch, board.start, t.at, t.width);
+                continue;
+            }
+            let p = machine::take_watched(regs, board, mem, tags, revoked, 1, watch);
+            watch = p.watch;
+            trapped += p.trapped;
+            base = pace::base_of(regs);
+            limit = pace::limit_from(regs, k, n);
+            continue;
+        }
+        let f = entries::look(
+            missed,
+            registers::read_capability(regs, 48),
+            board.start,
+            mem,
+        );
+        base = pace::base_of(regs);
+        if f.bytes != 0 {
+            let op = f.op;
+            let at = entries::place_in(board.start, pc);
+            code[i] = op;
+            keys[i] = entries::key_of(base, pc);
+            lens[i] = f.bytes;
+            low = entries::smaller(low, at);
+            high = entries::larger(high, at + 4);
+            limit = pace::limit_from(regs, k, n);
+            missed = 1;
+            continue;
+        }
+        let p = machine::take_watched(regs, board, mem, tags, revoked, 1, watch);
+        watch = p.watch;
+        trapped += p.trapped;
+        entries::clear_unless(&mut lens, p.trapped);
+        base = pace::base_of(regs);
+        k += 1;
+        limit = pace::limit_from(regs, k, n);
+        missed = 0;
+    }
+    Tally {
+        retired: n - trapped,
+        trapped,
+        watch,
+    }
+}
+
+// Runs so short that the arrays would cost more than they save.
+const SHORT: u32 = 256;
+
+// n steps, a short run by plain ones. Nothing is refused.
+pub(crate) fn take_steps(
+    regs: &mut [u32],
+    board: Board,
+    mem: &mut [u8],
+    tags: &mut [u8],
+    revoked: &[u8],
+    n: u32,
+    w: Watch,
+) -> Tally
+    requires { ⌜ (length (now regs) ≡ 72) × (board .start % 8 ≡ 0) ⌝ }
+    ensures { λ r. ⌜ (ran (state (now (regs .exit)) (now (mem .exit)) (now (tags .exit))) (r .retired) (r .trapped)
+        ≡ iterate n board (now (revoked .entry)) (ran (state (now (regs .entry)) (now (mem .entry)) (now (tags .entry))) 0 0))
+        × (r .watch ≡ watchedBy n board (now (revoked .entry)) (state (now (regs .entry)) (now (mem .entry)) (now (tags .entry))) w) ⌝ }
+{
+    if n < SHORT {
+        return machine::take_watched(regs, board, mem, tags, revoked, n, w);
+    }
+    take_quick(regs, board, mem, tags, revoked, n, w)
+}
