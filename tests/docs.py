@@ -32,7 +32,8 @@ ALLOWED = {
     "words of a format, of an option or of a pattern": """c0 c15 word66 word72 mshwm mshwmb imm type cap explain _ STACK_END outside marked
         later""",
     "libgcc's and Debian's": """__divsi3 __modsi3 __umodsi3 memset binutils-riscv64-unknown-elf librust-clap-dev librust-indicatif-dev
-        librust-object-dev librust-serde-json-dev librust-csv-dev librust-serde-dev librust-serde-derive-dev librust-sha2-dev librust-tera-dev""",
+        librust-object-dev librust-serde-json-dev librust-csv-dev librust-serde-dev librust-serde-derive-dev librust-sha2-dev librust-tera-dev
+        librust-addr2line-dev librust-gimli-dev""",
 }
 
 

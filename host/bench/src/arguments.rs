@@ -3,6 +3,7 @@
 use crate::edition::Edition;
 use crate::image::Format;
 use clap::{ArgAction, Args, Parser, Subcommand};
+use std::ops::Deref;
 use std::path::PathBuf;
 
 /// The bench: runs an image on the proved CHERIoT machine and shows what happened.
@@ -23,6 +24,8 @@ pub struct Arguments {
 pub enum Command {
     /// Runs images, or a saved state
     Run(Run),
+    /// Holds images, or a saved state, for a debugger
+    Gdb(Gdb),
     /// Shows a saved state: its last trap and its registers
     Explain(Explain),
     /// Sweeps a saved state's memory: takes the tags of revoked capabilities, and shows which
@@ -44,8 +47,9 @@ pub enum Command {
     Assemble(Assemble),
 }
 
+/// What a machine starts from.
 #[derive(Args, Default)]
-pub struct Run {
+pub struct Start {
     /// The files to load: raw, ELF or Intel HEX, with a map sheet and an empty line before it or not
     #[arg(required_unless_present = "state")]
     pub images: Vec<PathBuf>,
@@ -78,6 +82,18 @@ pub struct Run {
     /// The address of the first instruction, even [default: the image's, else memory's start]
     #[arg(long, value_parser = even, conflicts_with = "state")]
     pub entry: Option<u32>,
+    /// A map sheet that names the board's regions; memory is then what they span
+    #[arg(long, value_name = "SHEET")]
+    pub map: Option<PathBuf>,
+    /// A saved state to start from instead of reset; images are loaded over it
+    #[arg(long, value_name = "FILE")]
+    pub state: Option<PathBuf>,
+}
+
+#[derive(Args, Default)]
+pub struct Run {
+    #[command(flatten)]
+    pub from: Start,
     /// The most steps to run
     #[arg(long, value_parser = number, default_value = "1000000")]
     pub steps: u64,
@@ -87,12 +103,6 @@ pub struct Run {
     /// Count the stores that touch a range of addresses; may be given twice
     #[arg(long, value_names = ["START", "LENGTH"], num_args = 2, value_parser = word, action = ArgAction::Append)]
     pub watch: Vec<u32>,
-    /// A map sheet that names the board's regions; memory is then what they span
-    #[arg(long, value_name = "SHEET")]
-    pub map: Option<PathBuf>,
-    /// A saved state to start from instead of reset; images are loaded over it
-    #[arg(long, value_name = "FILE")]
-    pub state: Option<PathBuf>,
     /// Where to save the state at the end
     #[arg(long, value_name = "FILE")]
     pub save: Option<PathBuf>,
@@ -102,6 +112,16 @@ pub struct Run {
     /// Go on after a trap, at MTCC
     #[arg(long)]
     pub through_traps: bool,
+    /// Stop before a step at a number, a symbol of the image or a FILE:LINE of its source; the first
+    /// step is made nevertheless. May be given again
+    #[arg(long = "break", value_name = "WHERE")]
+    pub breaks: Vec<String>,
+    /// Show the last so many steps before the stop
+    #[arg(long, value_name = "STEPS", value_parser = clap::value_parser!(u64).range(1..=1_000_000))]
+    pub last: Option<u64>,
+    /// Show how much of the image was executed, by symbol and region
+    #[arg(long)]
+    pub cover: bool,
     /// Show each step on a line, on standard error with --json
     #[arg(long)]
     pub trace: bool,
@@ -111,6 +131,27 @@ pub struct Run {
     /// Where to write the result as a page, one HTML file that loads nothing
     #[arg(long, value_name = "FILE")]
     pub report: Option<PathBuf>,
+}
+
+/// The options of the start are those of a run.
+impl Deref for Run {
+    type Target = Start;
+
+    fn deref(&self) -> &Start {
+        &self.from
+    }
+}
+
+#[derive(Args)]
+pub struct Gdb {
+    #[command(flatten)]
+    pub from: Start,
+    /// The port to listen on, on the loopback interface; 0 takes a free one
+    #[arg(long, default_value_t = 3333)]
+    pub port: u16,
+    /// Listen on every interface: whoever reaches the port then reads and writes the machine
+    #[arg(long)]
+    pub listen_anywhere: bool,
 }
 
 #[derive(Args)]
@@ -285,7 +326,7 @@ fn word(text: &str) -> Result<u32, String> {
 }
 
 /// An address that an instruction may have.
-fn even(text: &str) -> Result<u32, String> {
+pub fn even(text: &str) -> Result<u32, String> {
     match word(text)? {
         address if address % 2 == 0 => Ok(address),
         _ => Err("odd, and an instruction's address is even".into()),

@@ -1,7 +1,9 @@
 //! What each subcommand does.
 
 pub mod fit;
+mod gdb;
 mod listing;
+mod look;
 pub mod run;
 pub mod sheet;
 mod shelf;
@@ -25,6 +27,7 @@ use std::path::Path;
 pub fn obey(command: Command) -> Result<Status, String> {
     match command {
         Command::Run(run) => run::run(run),
+        Command::Gdb(asked) => gdb::obey(asked),
         Command::Explain(explain) => explained(&explain),
         Command::Sweep(asked) => sweep::obey(&asked),
         Command::Cut(cut) => cut_shown(&cut),

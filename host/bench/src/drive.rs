@@ -20,6 +20,8 @@ pub enum End {
     Still,
     /// A step trapped; this is the state before it.
     Trap(Box<State>),
+    /// A breakpoint stands at PCC; the step there is not made.
+    Break,
 }
 
 /// How often memory was swept during a run, and how many tags went.
@@ -115,7 +117,7 @@ fn is_still((state, origin): (&State, &Origin), left: u64) -> Result<bool, Refus
 }
 
 /// Whether the timer interrupts one of the next steps, if nothing but time changes.
-fn interrupts_within(state: &State, steps: u64) -> bool {
+pub fn interrupts_within(state: &State, steps: u64) -> bool {
     let last = u128::from(state.long(TIME)) + u128::from(steps);
     state.register(MSTATUS) & MIE != 0 && last > state.long(COMPARE).into()
 }

@@ -2,11 +2,13 @@
 
 mod elf;
 mod hex;
+pub mod lines;
 
 use crate::names::Name;
 use crate::proved::sheets;
 use crate::sheet::Bad;
 use lent::{State, GRANULE};
+use lines::Lines;
 use std::path::Path;
 
 /// Where memory starts, and raw bytes with it, if nothing else is said.
@@ -57,6 +59,9 @@ pub struct Image {
     pub segments: Vec<Segment>,
     pub entry: Option<u32>,
     pub names: Vec<Name>,
+    /// Every symbol's name and address, those without a size too.
+    pub labels: Vec<(String, u32)>,
+    pub lines: Lines,
 }
 
 /// The image of a file's bytes; raw bytes go to `start`.

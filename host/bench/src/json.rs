@@ -39,6 +39,7 @@ fn run(state: &State, outcome: &Outcome, trap: Option<&Trap>, names: &Names) -> 
         End::Steps => "steps",
         End::Still => "still",
         End::Trap(_) => "trap",
+        End::Break => "break",
     };
     json!({
         "retired": outcome.counts.retired,

@@ -20,6 +20,9 @@ const RS1_IS_C1: u32 = 1 << 15;
 const CGETPERM: u32 = 0xFE00_80DB;
 const CGETTYPE: u32 = 0xFE10_80DB;
 
+/// CSetAddr c1, c1, c2 (the same chapter).
+const CSETADDR: u32 = 0x2020_80DB;
+
 /// CLC c1, 8(c1).
 const CLC: u32 = 0x0080_B083;
 /// The metadata, but for B and T, of a capability of exponent 0 with every right to memory.
@@ -72,6 +75,20 @@ pub fn rights(metadata: u32) -> u32 {
 /// The four-bit type of a capability, 0 if it is unsealed.
 pub fn seal_type(metadata: u32) -> u32 {
     query(CGETTYPE, metadata)
+}
+
+/// A capability moved to an address as CSetAddr moves it; without a tag where the machine does not take it.
+pub fn moved(value: Capability, address: u32) -> Capability {
+    let mut state = scratch(0, CSETADDR, 1, value);
+    state.set(2, Capability::integer(address));
+    match proved::run(&mut state, 1) {
+        Ok(made) if made.retired == 1 => state.capability(1),
+        _ => Capability {
+            address,
+            tag: 0,
+            ..value
+        },
+    }
 }
 
 /// The address that a load or store asks for, its authority at `address`. The same word is tried

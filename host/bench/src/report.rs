@@ -45,6 +45,7 @@ pub fn counts(state: &State, outcome: &Outcome) -> String {
             waiting(state)
         ),
         End::Trap(_) => "Stopped at the trap.".into(),
+        End::Break => format!("Stopped before the step at {at:08x}."),
     };
     format!("{retired} retired, {trapped} trapped. {end}\n")
 }

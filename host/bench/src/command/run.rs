@@ -1,11 +1,12 @@
 //! `bench run`: the start state, the run, what is said and saved at the end.
 
 use super::fit::{rows, verdict, Beside, Board, Labelled};
-use super::{read_state, refused_state, say, say_json};
+use super::{look, read_state, refused_state, say, say_json};
 use crate::account::Account;
 use crate::arguments::Run;
 use crate::drive::{self, Outcome, Plan};
 use crate::edition::Edition;
+use crate::image::lines::Lines;
 use crate::image::{self, Image, Segment, DEFAULT_START};
 use crate::last::Last;
 use crate::names::Names;
@@ -15,6 +16,7 @@ use crate::proved::{self, Counts, Refusal, MOST_STEPS};
 use crate::save::Place;
 use crate::sheet::Sheet;
 use crate::stack::Stack;
+use crate::walk::{self, Look};
 use crate::{complain, file, json, report, state_file, trace, Status};
 use indicatif::{ProgressBar, ProgressStyle};
 use lent::{Range, State, Watch, Window, COMPARE, TIME};
@@ -53,6 +55,7 @@ pub fn run(asked: Run) -> Result<Status, String> {
         Err(Halt::Bad(reason)) => return Err(reason),
         Ok(ready) => ready,
     };
+    let look = look::of(&asked, &ready)?;
     let place = asked.save.as_deref().map(|path| place(path, &asked));
     let place = place.transpose()?;
     let told = if asked.json {
@@ -60,7 +63,7 @@ pub fn run(asked: Run) -> Result<Status, String> {
     } else {
         say(&labels_told(&asked, &labelled, &fits))
     };
-    let status = task.carry_out(ready, place)?;
+    let status = task.carry_out(ready, look, place)?;
     told.map(|()| status)
 }
 
@@ -75,25 +78,28 @@ struct Task<'a> {
 
 impl<'a> Task<'a> {
     /// Runs, says how the run went, saves the state and writes the page.
-    fn carry_out(&self, mut ready: Ready, place: Option<Place>) -> Result<Status, String> {
-        let (asked, state) = (self.asked, &mut ready.state);
+    fn carry_out(
+        &self,
+        mut ready: Ready,
+        mut look: Option<Look>,
+        place: Option<Place>,
+    ) -> Result<Status, String> {
+        let asked = self.asked;
+        let state = &mut ready.state;
         let kept = || (state.clone(), Last::new(state, LAST, asked.sweep));
         let mut kept = self.page.as_ref().map(|_| kept());
-        let outcome = match drive(
-            asked,
-            (state, ready.record),
-            kept.as_mut().map(|(_, last)| last),
-        ) {
+        let last = kept.as_mut().map(|(_, last)| last);
+        let outcome = match drive(asked, (state, ready.record), last, look.as_mut()) {
             Err(refusal) => return refused_state(refusal, state, asked.json),
             Ok(outcome) => outcome,
         };
         let (named, swept) = ((&ready.names, ready.stack), asked.sweep.is_some());
-        let mut account = Account::of(state, &outcome, named, self.fits, swept);
+        let mut account = Account::of(&ready.state, &outcome, named, self.fits, swept);
         account.watched = left(asked, &outcome);
         // What cannot be said is saved nevertheless, and what cannot be saved is said.
-        let said = conclude(asked, &account);
+        let said = conclude(asked, &ready, &account, look.as_ref());
         let saved = place.map_or(Ok(()), |place| {
-            place.write(state_file::write(state).as_bytes())
+            place.write(state_file::write(&ready.state).as_bytes())
         });
         let paged = kept.map_or(Ok(()), |(before, last)| {
             let subject = self.subject(&ready.segments);
@@ -145,6 +151,8 @@ pub struct Ready {
     pub segments: Vec<Segment>,
     pub names: Names,
     pub stack: Option<Stack>,
+    pub labels: Vec<(String, u32)>,
+    pub lines: Lines,
     pub record: Watch,
 }
 
@@ -165,6 +173,8 @@ pub fn ready(asked: &Run, files: &[&[u8]], map: Option<&Sheet>) -> Result<Ready,
         segments: images.segments,
         names: Names(names),
         stack,
+        labels: images.labels,
+        lines: images.lines,
         record,
     })
 }
@@ -204,7 +214,7 @@ pub fn board(path: &Path) -> Result<Board, String> {
 }
 
 /// The images that have a map sheet, where it is good; a bad one is told as the image is read.
-fn labelled<'a>(asked: &'a Run, files: &[&'a [u8]]) -> Vec<Labelled<'a>> {
+pub fn labelled<'a>(asked: &'a Run, files: &[&'a [u8]]) -> Vec<Labelled<'a>> {
     let files = asked.images.iter().zip(files);
     let files = files.filter(|(_, bytes)| image::is_labelled(asked.format, bytes));
     files
@@ -213,7 +223,7 @@ fn labelled<'a>(asked: &'a Run, files: &[&'a [u8]]) -> Vec<Labelled<'a>> {
 }
 
 /// Each of them beside the board, where there is one.
-fn fits<'a>(board: Option<&'a Board>, images: &'a [Labelled]) -> Vec<Beside<'a>> {
+pub fn fits<'a>(board: Option<&'a Board>, images: &'a [Labelled]) -> Vec<Beside<'a>> {
     let beside = |board: &'a Board| {
         images
             .iter()
@@ -224,7 +234,7 @@ fn fits<'a>(board: Option<&'a Board>, images: &'a [Labelled]) -> Vec<Beside<'a>>
 }
 
 /// What is said before a run of the images that have a map sheet.
-fn labels_told(asked: &Run, labelled: &[Labelled], fits: &[Beside]) -> String {
+pub fn labels_told(asked: &Run, labelled: &[Labelled], fits: &[Beside]) -> String {
     let Some(board) = &asked.map else {
         let unchecked = |image: &Labelled| {
             let file = image.path.display();
@@ -239,7 +249,7 @@ fn labels_told(asked: &Run, labelled: &[Labelled], fits: &[Beside]) -> String {
 }
 
 /// Says that an image does not fit the board; nothing is run.
-fn misfit(asked: &Run, image: &Beside) -> Result<Status, String> {
+pub fn misfit(asked: &Run, image: &Beside) -> Result<Status, String> {
     if asked.json {
         say_json(&json::misfit(image))?;
     }
@@ -265,6 +275,8 @@ fn start(asked: &Run, files: &[&[u8]], map: Option<&Sheet>) -> Result<(State, Im
         images.entry = images.entry.or(image.entry);
         images.segments.extend(image.segments);
         images.names.extend(image.names);
+        images.labels.extend(image.labels);
+        images.lines.0.extend(image.lines.0);
     }
     if let Some(state) = saved {
         return Ok((state, images));
@@ -351,11 +363,12 @@ fn place(path: &Path, asked: &Run) -> Result<Place, String> {
     Place::apart(path, &read)
 }
 
-/// Runs, with a line a step or a bar of progress. Where the last steps are wanted, states are kept on the way.
+/// Runs, with a line a step or a bar of progress. Where the page's last steps are wanted, states are kept on the way.
 fn drive(
     asked: &Run,
     (state, record): (&mut State, Watch),
     mut last: Option<&mut Last>,
+    look: Option<&mut Look>,
 ) -> Result<Outcome, Refusal> {
     let bar = progress(asked);
     let mut number = 0;
@@ -379,7 +392,10 @@ fn drive(
         record,
         watch: &mut watch,
     };
-    let outcome = drive::run(state, plan);
+    let outcome = match look {
+        Some(look) => walk::run(state, plan, look),
+        None => drive::run(state, plan),
+    };
     bar.finish_and_clear();
     outcome
 }
@@ -410,12 +426,20 @@ fn left<'a>(asked: &Run, outcome: &'a Outcome) -> &'a [Range] {
     &outcome.record[..asked.watch.len() / 2]
 }
 
-/// Says how the run went.
-fn conclude(asked: &Run, account: &Account) -> Result<Status, String> {
+/// Says how the run went, and what was seen of its steps.
+fn conclude(
+    asked: &Run,
+    ready: &Ready,
+    account: &Account,
+    look: Option<&Look>,
+) -> Result<Status, String> {
     if asked.json {
-        say_json(&json::account(account))?;
+        let mut value = json::account(account);
+        look::put(look, ready, &mut value);
+        say_json(&value)?;
     } else {
         say(&report::run(account))?;
+        say(&look::text(look, ready))?;
     }
     Ok(account.status())
 }

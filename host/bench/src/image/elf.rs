@@ -1,11 +1,12 @@
 //! ELF for 32-bit RISC-V: its loadable segments by their physical addresses, its entry, its
 //! symbols.
 
-use super::{Image, Segment};
+use super::{lines, Image, Segment};
 use crate::names::Name;
 use object::elf::{FileHeader32, ProgramHeader32};
-use object::elf::{EM_RISCV, ET_EXEC, PT_LOAD, STT_FUNC, STT_OBJECT};
-use object::read::elf::{FileHeader, ProgramHeader, Sym};
+use object::elf::{EM_RISCV, ET_EXEC, PT_LOAD, SHN_LORESERVE, SHT_SYMTAB};
+use object::elf::{STT_FUNC, STT_NOTYPE, STT_OBJECT};
+use object::read::elf::{FileHeader, ProgramHeader, SectionHeader, Sym, SymbolTable};
 use object::LittleEndian as Order;
 
 // The marks of the file's class and byte order.
@@ -40,6 +41,8 @@ pub fn read(bytes: &[u8]) -> Result<Image, String> {
         image.segments.extend(segment(header, index, bytes)?);
     }
     image.names = names(header, bytes).unwrap_or_default();
+    image.labels = labels(header, bytes).unwrap_or_default();
+    image.lines = lines::read(|name| section(header, bytes, name));
     if image.segments.is_empty() {
         return Err("it has no segment to load".into());
     }
@@ -80,13 +83,42 @@ fn segment(
     }))
 }
 
+/// The bytes of a section by its name.
+fn section<'a>(header: &FileHeader32<Order>, bytes: &'a [u8], name: &str) -> Option<&'a [u8]> {
+    let order = header.endian().ok()?;
+    let sections = header.sections(order, bytes).ok()?;
+    let (_, section) = sections.section_by_name(order, name.as_bytes())?;
+    section.data(order, bytes).ok()
+}
+
+type Symbols<'a> = SymbolTable<'a, FileHeader32<Order>>;
+
+/// The symbol table.
+fn symbols<'a>(header: &FileHeader32<Order>, bytes: &'a [u8]) -> Option<Symbols<'a>> {
+    let order = header.endian().ok()?;
+    let sections = header.sections(order, bytes).ok()?;
+    sections.symbols(order, bytes, SHT_SYMTAB).ok()
+}
+
+/// Every symbol that stands in a section, with its address: functions, objects and plain labels.
+fn labels(header: &FileHeader32<Order>, bytes: &[u8]) -> Option<Vec<(String, u32)>> {
+    let order = header.endian().ok()?;
+    let symbols = symbols(header, bytes)?;
+    let placed = symbols.iter().filter(|symbol| {
+        let labels = matches!(symbol.st_type(), STT_FUNC | STT_OBJECT | STT_NOTYPE);
+        labels && (1..SHN_LORESERVE).contains(&symbol.st_shndx(order))
+    });
+    let named = placed.map(|symbol| {
+        let name = symbol.name(order, symbols.strings()).ok()?;
+        Some((name.escape_ascii().to_string(), symbol.st_value(order)))
+    });
+    named.collect()
+}
+
 /// The functions and objects that the symbol table names with a size.
 fn names(header: &FileHeader32<Order>, bytes: &[u8]) -> Option<Vec<Name>> {
     let order = header.endian().ok()?;
-    let sections = header.sections(order, bytes).ok()?;
-    let symbols = sections
-        .symbols(order, bytes, object::elf::SHT_SYMTAB)
-        .ok()?;
+    let symbols = symbols(header, bytes)?;
     let mut names = Vec::new();
     for symbol in symbols.iter() {
         let named = matches!(symbol.st_type(), STT_FUNC | STT_OBJECT);

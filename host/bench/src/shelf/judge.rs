@@ -3,7 +3,7 @@
 use super::row::{Label, Row};
 use super::Shelf;
 use crate::account::Account;
-use crate::arguments::Run;
+use crate::arguments::{Run, Start};
 use crate::command::fit::{Beside, Labelled};
 use crate::command::run::{ran_page, ready, Halt, Ready};
 use crate::drive::{self, Plan};
@@ -83,8 +83,12 @@ impl Image<'_> {
     fn run(&self, mut row: Row, fits: &[Beside]) -> Result<Judged, String> {
         let with = &self.shelf.with;
         let own = with.iter().map(|(path, _)| path.clone());
-        let asked = Run {
+        let from = Start {
             images: own.chain([self.name.into()]).collect(),
+            ..Start::default()
+        };
+        let asked = Run {
+            from,
             steps: self.shelf.steps,
             ..Run::default()
         };

@@ -83,7 +83,7 @@ impl Row {
         let (outcome, trap) = (account.outcome, account.trap.as_ref());
         self.run = match outcome.end {
             End::Still => Ran::Ended,
-            End::Steps => Ran::Running,
+            End::Steps | End::Break => Ran::Running,
             End::Trap(_) => Ran::Trapped,
         };
         self.retired = Some(outcome.counts.retired);

@@ -1,0 +1,186 @@
+//! Which words of an image were executed: each word that retired, how often, and by named stretch how many of the
+//! image's bytes that is.
+
+#[cfg(test)]
+mod tests;
+
+use crate::image::Segment;
+use crate::names::{Name, Names};
+use crate::proved::instruction;
+use lent::{instruction_bytes, State};
+use serde_json::{json, Value};
+use std::fmt::Write;
+
+/// The bytes from one place of a word to the next.
+const HALF: usize = 2;
+
+/// The words that retired, by their place in memory.
+#[derive(Clone, PartialEq, Eq, Debug)]
+pub struct Cover {
+    start: u32,
+    /// For each half of memory the last word that began there, and how often one did.
+    words: Vec<(u32, u64)>,
+}
+
+/// A stretch of the image: its bytes, how many of them were executed, and where the others are.
+#[derive(Clone, PartialEq, Eq, Debug)]
+pub struct Row {
+    pub name: String,
+    pub start: u32,
+    pub end: u64,
+    pub bytes: u64,
+    pub executed: u64,
+    pub missed: Vec<(u64, u64)>,
+}
+
+impl Cover {
+    pub fn new(state: &State) -> Cover {
+        Cover {
+            start: state.start,
+            words: vec![(0, 0); state.mem.len() / HALF],
+        }
+    }
+
+    /// A word that retired.
+    pub fn retired(&mut self, address: u32, word: u32) {
+        let place = address.wrapping_sub(self.start) as usize / HALF;
+        if let Some(here) = self.words.get_mut(place) {
+            *here = (word, here.1 + 1);
+        }
+    }
+
+    /// The words that were executed: address, word, how often.
+    fn executed(&self) -> impl Iterator<Item = (u64, u32, u64)> + '_ {
+        let start = u64::from(self.start);
+        let places = self.words.iter().enumerate();
+        let made = places.filter(|(_, (_, times))| *times > 0);
+        made.map(move |(place, (word, times))| (start + (HALF * place) as u64, *word, *times))
+    }
+
+    /// For each byte of memory whether a word that was executed holds it.
+    fn bytes(&self) -> Vec<bool> {
+        let mut bytes = vec![false; HALF * self.words.len() + HALF];
+        for (address, word, _) in self.executed() {
+            let place = (address - u64::from(self.start)) as usize;
+            bytes[place..place + instruction_bytes(word) as usize].fill(true);
+        }
+        bytes
+    }
+
+    /// The image's segments, then the named stretches that hold some of it.
+    pub fn rows(&self, segments: &[Segment], names: &Names) -> Vec<Row> {
+        let bytes = self.bytes();
+        let whole = segments.iter().map(|segment| {
+            let length = segment.bytes.len() as u64;
+            Name::new(segment.origin.as_bytes(), segment.address, length)
+        });
+        let stretches: Vec<Name> = whole.chain(names.0.iter().cloned()).collect();
+        let rows = stretches.iter();
+        rows.map(|stretch| self.row(stretch, segments, &bytes))
+            .filter(|row| row.bytes > 0)
+            .collect()
+    }
+
+    fn row(&self, stretch: &Name, segments: &[Segment], executed: &[bool]) -> Row {
+        let (from, to) = (
+            u64::from(stretch.start),
+            u64::from(stretch.start) + stretch.length,
+        );
+        let mut row = Row {
+            name: stretch.name.clone(),
+            start: stretch.start,
+            end: to,
+            bytes: 0,
+            executed: 0,
+            missed: Vec::new(),
+        };
+        let start = u64::from(self.start);
+        for address in (from..to).filter(|address| in_image(*address, segments)) {
+            let place = address.checked_sub(start).map(|place| place as usize);
+            let done = place.and_then(|place| executed.get(place));
+            row.count(address, done.copied().unwrap_or(false));
+        }
+        row
+    }
+
+    /// The bytes that were executed outside the image: what the program made itself.
+    pub fn outside(&self, segments: &[Segment]) -> u64 {
+        let start = u64::from(self.start);
+        let bytes = self.bytes().into_iter().enumerate();
+        let made = bytes.filter(|(_, executed)| *executed);
+        made.filter(|(place, _)| !in_image(start + *place as u64, segments))
+            .count() as u64
+    }
+
+    /// The rows as a table.
+    pub fn text(&self, segments: &[Segment], names: &Names) -> String {
+        let mut text = String::from("Executed, in bytes of the image:\n");
+        for row in self.rows(segments, names) {
+            let percent = 100 * row.executed / row.bytes;
+            let (executed, bytes) = (row.executed, row.bytes);
+            let first = row.missed.first();
+            let missed = first.map_or(String::new(), |(from, _)| {
+                format!(", first not at {from:08x}")
+            });
+            let place = format!("[{:08x}, {:08x})", row.start, row.end);
+            let _ = writeln!(
+                text,
+                "{executed:>8} of {bytes:>7}  {percent:>3}%  {place:<20}  {}{missed}",
+                row.name
+            );
+        }
+        match self.outside(segments) {
+            0 => text,
+            bytes => text + &format!("{bytes:>8} outside the image\n"),
+        }
+    }
+
+    pub fn json(&self, segments: &[Segment], names: &Names) -> Value {
+        let stretch = |(start, end): &(u64, u64)| json!({ "start": start, "end": end });
+        let row = |row: Row| {
+            json!({
+                "name": row.name,
+                "start": row.start,
+                "end": row.end,
+                "bytes": row.bytes,
+                "executed": row.executed,
+                "missed": row.missed.iter().map(stretch).collect::<Vec<Value>>(),
+            })
+        };
+        let word = |(address, word, times): (u64, u32, u64)| {
+            json!({
+                "address": address,
+                "word": word,
+                "length": instruction_bytes(word),
+                "instruction": instruction(word),
+                "times": times,
+            })
+        };
+        json!({
+            "rows": self.rows(segments, names).into_iter().map(row).collect::<Vec<Value>>(),
+            "words": self.executed().map(word).collect::<Vec<Value>>(),
+            "outside": self.outside(segments),
+        })
+    }
+}
+
+impl Row {
+    /// Counts a byte of the image.
+    fn count(&mut self, address: u64, executed: bool) {
+        self.bytes += 1;
+        self.executed += u64::from(executed);
+        match self.missed.last_mut() {
+            _ if executed => {}
+            Some((_, end)) if *end == address => *end += 1,
+            _ => self.missed.push((address, address + 1)),
+        }
+    }
+}
+
+/// Whether the file has a byte for an address.
+fn in_image(address: u64, segments: &[Segment]) -> bool {
+    segments.iter().any(|segment| {
+        let place = address.checked_sub(segment.address.into());
+        place.is_some_and(|place| place < segment.bytes.len() as u64)
+    })
+}

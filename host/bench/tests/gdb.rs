@@ -1,0 +1,269 @@
+//! The debugger's connection: one client at a time, clients that go away, and bytes of any kind over TCP.
+
+mod common;
+
+use common::state::{text, with_code};
+use common::words::{addi, EBREAK};
+use common::{bench_in, directory, examples};
+use std::io::{BufRead, BufReader, ErrorKind, Read, Write};
+use std::net::TcpStream;
+use std::path::Path;
+use std::process::{Child, ChildStdout, Command, Stdio};
+use std::time::{Duration, Instant};
+
+const JUMP_TO_ITSELF: u32 = 0x0000_006F;
+/// bne c10, c11, -4
+const AGAIN: u32 = 0xFEB5_1EE3;
+
+/// A bench that waits for debuggers, ended with the test.
+struct Bench {
+    child: Child,
+    out: BufReader<ChildStdout>,
+    place: String,
+}
+
+impl Bench {
+    fn start(folder: &Path, arguments: &[&str]) -> Bench {
+        let mut child = Command::new(env!("CARGO_BIN_EXE_bench"))
+            .args(["gdb", "--port", "0"])
+            .args(arguments)
+            .current_dir(folder)
+            .stdout(Stdio::piped())
+            .spawn()
+            .expect("the command runs");
+        let mut out = BufReader::new(child.stdout.take().expect("its output"));
+        let mut line = String::new();
+        while !line.contains("target remote") {
+            line.clear();
+            assert_ne!(out.read_line(&mut line).expect("a line"), 0, "it waits");
+        }
+        let place = line.split("target remote ").nth(1).expect("a place");
+        let place = place.trim_end().trim_end_matches('\'').to_string();
+        Bench { child, out, place }
+    }
+
+    fn of_code(name: &str, code: &[u32]) -> Bench {
+        let folder = directory(name);
+        std::fs::write(folder.join("state"), text(&with_code(code))).expect("a state");
+        Bench::start(&folder, &["--state", "state"])
+    }
+
+    fn connect(&self) -> Client {
+        let stream = TcpStream::connect(&self.place).expect("a connection");
+        let patience = Some(Duration::from_secs(20));
+        stream.set_read_timeout(patience).expect("a timeout");
+        Client(stream)
+    }
+
+    /// A client that the bench serves: one that comes just after another is gone may be too early.
+    fn client(&self) -> Client {
+        for _ in 0..200 {
+            let mut client = self.connect();
+            client.send("qC");
+            if client.answer() == Some("QC1".into()) {
+                return client;
+            }
+            std::thread::sleep(Duration::from_millis(20));
+        }
+        panic!("no client is served");
+    }
+
+    /// Its exit status, and the rest of what it wrote.
+    fn end(mut self) -> (i32, String) {
+        let mut text = String::new();
+        self.out.read_to_string(&mut text).expect("text");
+        let status = self.child.wait().expect("an end");
+        (status.code().expect("a status"), text)
+    }
+}
+
+impl Drop for Bench {
+    fn drop(&mut self) {
+        let _ = self.child.kill();
+        let _ = self.child.wait();
+    }
+}
+
+struct Client(TcpStream);
+
+fn framed(payload: &[u8]) -> Vec<u8> {
+    let sum = payload
+        .iter()
+        .fold(0u8, |sum, byte| sum.wrapping_add(*byte));
+    [b"$", payload, format!("#{sum:02x}").as_bytes()].concat()
+}
+
+impl Client {
+    fn send(&mut self, payload: &str) {
+        let _ = self.0.write_all(&framed(payload.as_bytes()));
+    }
+
+    /// The next packet; none if the connection is closed.
+    fn answer(&mut self) -> Option<String> {
+        let (mut packet, mut byte) = (Vec::new(), [0]);
+        while !(packet.len() > 3 && packet[packet.len() - 3] == b'#') {
+            match self.0.read(&mut byte) {
+                Ok(0) => return None,
+                Err(error) if error.kind() == ErrorKind::ConnectionReset => return None,
+                Err(error) => panic!("{error}"),
+                Ok(_) if packet.is_empty() && byte[0] != b'$' => {}
+                Ok(_) => packet.push(byte[0]),
+            }
+        }
+        Some(String::from_utf8(packet[1..packet.len() - 3].to_vec()).expect("text"))
+    }
+
+    fn ask(&mut self, payload: &str) -> String {
+        self.send(payload);
+        self.answer().expect("an answer")
+    }
+}
+
+#[test]
+fn a_client_that_leaves_or_goes_away_leaves_the_machine() {
+    let bench = Bench::of_code("gdb_leaves", &[addi(10, 10, 1), addi(10, 10, 1), EBREAK]);
+    let mut first = bench.client();
+    assert!(first.ask("s").starts_with("T05"));
+    assert_eq!(first.ask("Z0,20000004,4"), "OK");
+    assert_eq!(first.ask("D"), "OK");
+    assert_eq!(first.answer(), None);
+    // In the middle of a packet, and of a run.
+    for bytes in [&b"$m2000"[..], b"$m20000000,4#", b"$s", b"+", b""] {
+        let mut client = bench.client();
+        client.0.write_all(bytes).expect("written");
+    }
+    let mut last = bench.client();
+    assert_eq!(last.ask("pa"), "01000000");
+    assert_eq!(last.ask("p20"), "04000020");
+    // The first one's breakpoint is gone with it: the machine goes on to the trap.
+    let mut stop = last.ask("c");
+    while stop.starts_with('O') {
+        stop = last.answer().expect("a stop");
+    }
+    assert!(stop.starts_with("T0520:08000020;"), "{stop}");
+    last.send("k");
+    let (status, text) = bench.end();
+    assert_eq!(status, 0);
+    assert!(text.contains("has left; the machine stays."), "{text}");
+    assert!(text.contains("is gone"), "{text}");
+    assert!(
+        text.ends_with("has ended the machine.\n2 steps retired, 0 trapped.\n"),
+        "{text}"
+    );
+}
+
+#[test]
+fn a_second_client_is_told_so_and_the_first_goes_on() {
+    let bench = Bench::of_code("gdb_second", &[addi(10, 10, 1), EBREAK]);
+    let mut first = bench.client();
+    let mut second = bench.connect();
+    assert_eq!(
+        second.answer(),
+        Some("E.another debugger is connected".into())
+    );
+    assert_eq!(second.answer(), None);
+    assert!(first.ask("s").starts_with("T05"));
+    drop(first);
+    assert_eq!(bench.client().ask("pa"), "01000000");
+}
+
+#[test]
+fn a_run_without_an_end_is_interrupted_soon() {
+    let bench = Bench::of_code("gdb_interrupt", &[addi(10, 10, 1), AGAIN, JUMP_TO_ITSELF]);
+    let mut client = bench.client();
+    // c11 is -1, so that the loop is a long one; then with a breakpoint that is never met.
+    assert_eq!(client.ask("Pb=ffffffff"), "OK");
+    for setting in ["qC", "Z0,20000040,4", "Z2,20000040,4"] {
+        client.ask(setting);
+        client.send("c");
+        std::thread::sleep(Duration::from_millis(300));
+        let began = Instant::now();
+        client.0.write_all(b"\x03").expect("written");
+        let mut stop = client.answer().expect("a stop");
+        while stop.starts_with('O') {
+            stop = client.answer().expect("a stop");
+        }
+        assert!(stop.starts_with("T02"), "{stop}");
+        assert!(began.elapsed() < Duration::from_secs(3), "{setting}");
+    }
+    // A client that goes away while the machine runs stops it.
+    client.send("c");
+    drop(client);
+    assert!(bench.client().ask("?").starts_with("T0"));
+}
+
+#[test]
+fn bytes_of_any_kind_over_the_line() {
+    let bench = Bench::of_code("gdb_fuzz", &[addi(10, 10, 1), EBREAK]);
+    let mut number = 1u64;
+    let mut word = || {
+        number = number
+            .wrapping_mul(6_364_136_223_846_793_005)
+            .wrapping_add(1);
+        (number >> 32) as u32
+    };
+    let known = [
+        "g",
+        "m20000000,40",
+        "P2=00000000",
+        "Z0,20000000,4",
+        "s",
+        "qC",
+        "qXfer:features:read:target.xml:0,fff",
+    ];
+    for _ in 0..60 {
+        let mut client = bench.client();
+        client.0.set_nonblocking(true).expect("it can");
+        for _ in 0..50 {
+            let mut payload = known[word() as usize % known.len()].as_bytes().to_vec();
+            let place = word() as usize % payload.len();
+            payload[place] = word() as u8;
+            // k and vKill end the machine, and rightly.
+            if !payload.starts_with(b"k") {
+                let _ = client.0.write_all(&framed(&payload));
+            }
+            let _ = client.0.read(&mut [0; 4096]);
+        }
+    }
+    let mut client = bench.client();
+    assert!(client.ask("?").starts_with("T"));
+    assert_eq!(client.ask("m20000004,4"), "73001000");
+    // A packet of four million bytes.
+    let long = framed(&vec![b'm'; 4_000_000]);
+    client.0.write_all(&long).expect("written");
+    assert_eq!(client.answer(), Some("E03".into()));
+}
+
+#[test]
+fn the_port_is_of_the_loopback_alone_unless_it_is_asked_for() {
+    let folder = examples();
+    let image = ["interlock_small.hex", "interlock_image.hex"];
+    let bench = Bench::start(&folder, &image);
+    assert!(bench.place.starts_with("127.0.0.1:"));
+    let port = bench.place.split(':').nth(1).expect("a port");
+    let again = bench_in(&folder, &["gdb", "--port", port, image[0]]);
+    assert_eq!(again.status, 3);
+    assert!(
+        again.err.contains(&format!("port {port}: ")),
+        "{}",
+        again.err
+    );
+    let anywhere = Bench::start(&folder, &["--listen-anywhere", image[0], image[1]]);
+    assert!(anywhere.place.starts_with("0.0.0.0:"));
+}
+
+#[test]
+fn what_run_refuses_is_refused_before_a_debugger_is_waited_for() {
+    let folder = examples();
+    let misfit = bench_in(
+        &folder,
+        &["gdb", "--map", "interlock_small.map", "interlock_image.img"],
+    );
+    assert_eq!(misfit.status, 2);
+    assert!(misfit.err.contains("does not fit"));
+    let size = bench_in(&folder, &["gdb", "--size", "65", "interlock_image.hex"]);
+    assert_eq!(size.status, 2);
+    assert!(size.err.contains("refused, number 2"));
+    let missing = bench_in(&folder, &["gdb", "nothing.hex"]);
+    assert_eq!((missing.status, missing.out.as_str()), (3, ""));
+}

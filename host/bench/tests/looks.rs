@@ -1,0 +1,157 @@
+//! Runs that someone looks at: breakpoints, the last steps, what was executed.
+
+mod common;
+
+use common::state::{text, with_code};
+use common::words::{addi, EBREAK};
+use common::{bench_in, directory, examples, golden};
+use serde_json::json;
+
+const SMALL: [&str; 5] = [
+    "run",
+    "--map",
+    "interlock_small.map",
+    "interlock_small.hex",
+    "interlock_image.hex",
+];
+
+fn small(further: &[&str]) -> common::Answer {
+    bench_in(&examples(), &[&SMALL[..], further].concat())
+}
+
+#[test]
+fn the_demonstration_with_its_last_steps_and_what_it_executed() {
+    let answer = small(&["--last", "4", "--cover"]);
+    golden("last_and_cover", &answer.text());
+}
+
+#[test]
+fn the_same_as_json() {
+    let value = small(&["--last", "2", "--cover", "--json"]).json();
+    assert_eq!(value["end"], "trap");
+    let last = &value["last"];
+    assert_eq!(last[0]["instruction"], "cjal 1 -44");
+    assert_eq!(last[1]["number"], 365);
+    assert_eq!(last[1]["trap"], "store outside the bounds of c2");
+    assert_eq!(last[2], json!(null));
+    let rows = value["cover"]["rows"].as_array().expect("rows");
+    let image = rows.iter().find(|row| row["name"] == "image");
+    let image = image.expect("the region of the image");
+    assert_eq!(
+        (&image["bytes"], &image["executed"]),
+        (&json!(76), &json!(56))
+    );
+    let missed = json!([{ "start": 0x2000_0108, "end": 0x2000_010C }, { "start": 0x2000_013C, "end": 0x2000_014C }]);
+    assert_eq!(image["missed"], missed);
+    let words = value["cover"]["words"].as_array().expect("words");
+    let plan = words.iter().find(|word| word["address"] == 0x2000_010C);
+    // The first word of plan retired in each call but the last, which trapped.
+    assert_eq!(plan.expect("plan")["times"], 28);
+    let plain = small(&["--json"]).json();
+    assert_eq!(
+        (&plain["last"], &plain["cover"]),
+        (&json!(null), &json!(null))
+    );
+    assert_eq!(plain["state"], value["state"]);
+}
+
+#[test]
+fn a_run_goes_on_from_a_breakpoint_to_the_next_and_leaves_what_one_run_leaves() {
+    let folder = directory("breaks");
+    let saved = folder.join("state").display().to_string();
+    let first = small(&["--break", "0x2000010c", "--save", &saved]);
+    assert_eq!(first.status, 0);
+    assert!(
+        first
+            .out
+            .starts_with("28 steps retired, 0 trapped. Stopped before the step at 2000010c.\n"),
+        "{}",
+        first.out
+    );
+    let again = [
+        "run",
+        "--json",
+        "--state",
+        &saved,
+        "--save",
+        &saved,
+        "--break",
+        "0x2000010c",
+    ];
+    let mut retired = 28;
+    let mut value = json!({ "end": "break" });
+    while value["end"] == "break" {
+        value = bench_in(&folder, &again).json();
+        retired += value["retired"].as_u64().expect("a count");
+    }
+    assert_eq!((value["end"].as_str(), retired), (Some("trap"), 364));
+    let whole = small(&["--json"]).json();
+    assert_eq!(value["state"], whole["state"]);
+}
+
+#[test]
+fn a_trace_ends_at_a_breakpoint() {
+    let folder = directory("trace_to_break");
+    let code = [addi(10, 10, 1), addi(10, 10, 2), EBREAK];
+    std::fs::write(folder.join("state"), text(&with_code(&code))).expect("a state");
+    let traced = [
+        "run",
+        "--state",
+        "state",
+        "--trace",
+        "--break",
+        "0x20000004",
+        "--break",
+        "0x20000008",
+    ];
+    let answer = bench_in(&folder, &traced);
+    let lines: Vec<&str> = answer.out.lines().collect();
+    assert!(
+        lines[0].contains("20000000  00150513  addi 10 10 1"),
+        "{}",
+        answer.out
+    );
+    assert!(lines[1].starts_with("1 step retired, 0 trapped. Stopped before the step at 20000004."));
+    let through = [
+        "run",
+        "--state",
+        "state",
+        "--trace",
+        "--through-traps",
+        "--steps",
+        "4",
+        "--last",
+        "9",
+    ];
+    let answer = bench_in(&folder, &through);
+    assert_eq!(answer.status, 1);
+    assert!(
+        answer.out.contains("The last steps, 4 of 4:"),
+        "{}",
+        answer.out
+    );
+}
+
+#[test]
+fn a_place_that_is_none_is_refused_before_the_run() {
+    for (place, reason) in [
+        (
+            "plan",
+            "no symbol or line of an image has that name, and as a number it is not a decimal number",
+        ),
+        ("0x20000001", "as a number it is odd"),
+        ("0x100000000", "as a number it is not below 2^32"),
+    ] {
+        let answer = small(&["--break", place]);
+        assert_eq!((answer.status, answer.out.as_str()), (3, ""));
+        assert!(
+            answer.err.contains(&format!("--break {place}: ")),
+            "{}",
+            answer.err
+        );
+        assert!(answer.err.contains(reason), "{}", answer.err);
+    }
+    for last in ["0", "1000001", "x"] {
+        assert_eq!(small(&["--last", last]).status, 3);
+    }
+}
