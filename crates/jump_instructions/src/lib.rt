@@ -1,4 +1,8 @@
 // What jumps, branches and MRET do.
+mod again;
+
+pub use again::jal_again;
+pub use again::jalr_again;
 ghost use mathlib.Core.Path.{_≡_};
 ghost use mathlib.Core.Bool.{not, _&&_, _||_};
 ghost use Prim.Native.Nat.{_+_};
@@ -104,7 +108,7 @@ fn later_status(t: u32, mstatus: u32) -> u32
 }
 
 // mstatus after a jump by a target of a type.
-fn jump_status(edition: u32, t: u32, mstatus: u32) -> u32
+pub(crate) fn jump_status(edition: u32, t: u32, mstatus: u32) -> u32
     ensures { λ r. ⌜ r ≡ jumpStatus edition t mstatus ⌝ }
 {
     if edition == LATER_EDITION {
@@ -117,7 +121,7 @@ fn jump_status(edition: u32, t: u32, mstatus: u32) -> u32
 // ---- jumps
 
 // The link of a jump of some bytes: PCC after it, sealed.
-fn link_of(bytes: u32, edition: u32, pcc: Capability, mstatus: u32) -> Capability
+pub(crate) fn link_of(bytes: u32, edition: u32, pcc: Capability, mstatus: u32) -> Capability
     ensures { λ r. ⌜ r ≡ linkOf bytes edition pcc mstatus ⌝ }
 {
     let next = capability::move_address(pcc, wrapping_add_u32(pcc.address, bytes));
@@ -125,7 +129,7 @@ fn link_of(bytes: u32, edition: u32, pcc: Capability, mstatus: u32) -> Capabilit
 }
 
 // The effect where a target is aligned, else the trap.
-fn aligned_effect(target: u32, e: Effect) -> Effect
+pub(crate) fn aligned_effect(target: u32, e: Effect) -> Effect
     ensures { λ r. ⌜ r ≡ aligned target e ⌝ }
 {
     if target % TARGET_ALIGNMENT == 0 {
@@ -139,7 +143,7 @@ fn aligned_effect(target: u32, e: Effect) -> Effect
 }
 
 // The cause for which a target is out of bounds, or 0.
-fn target_cause(c: Capability, target: u32) -> u32
+pub(crate) fn target_cause(c: Capability, target: u32) -> u32
     ensures { λ r. ⌜ r ≡ targetCause c target ⌝ }
 {
     state::bounds_cause(state::in_bounds(c, target, TARGET_BYTES))
@@ -188,7 +192,14 @@ fn is_shut(sealed: bool, accepted: bool, still: bool) -> bool
     sealed && (!accepted || !still)
 }
 
-fn jalr_cause(edition: u32, rd: u32, rs1: u32, c: Capability, offset: u32, target: u32) -> u32
+pub(crate) fn jalr_cause(
+    edition: u32,
+    rd: u32,
+    rs1: u32,
+    c: Capability,
+    offset: u32,
+    target: u32,
+) -> u32
     ensures { λ r. ⌜ r ≡ jalrCause edition rd rs1 c offset target ⌝ }
 {
     first_jalr_cause(

@@ -18,7 +18,7 @@ ghost use Rattle.short_forms.specs.Forms.{movesOf, addsOf};
 ghost use Rattle.short_forms.specs.Forms.{registersOf, quadrant2};
 
 // Quadrant 0.
-fn addi4spn(rd: u32, value: u32) -> ShortForm
+pub(crate) fn addi4spn(rd: u32, value: u32) -> ShortForm
     ensures { λ r. ⌜ r ≡ addi4spnOf rd value ⌝ }
 {
     match value {
@@ -59,7 +59,7 @@ pub(crate) fn quadrant_0(h: u32) -> ShortForm
 }
 
 // Quadrant 1.
-fn addi16sp(value: u32) -> ShortForm
+pub(crate) fn addi16sp(value: u32) -> ShortForm
     ensures { λ r. ⌜ r ≡ addi16spOf value ⌝ }
 {
     match value {
@@ -68,7 +68,7 @@ fn addi16sp(value: u32) -> ShortForm
     }
 }
 
-fn upper(rd: u32, value: u32) -> ShortForm
+pub(crate) fn upper(rd: u32, value: u32) -> ShortForm
     ensures { λ r. ⌜ r ≡ upperOf rd value ⌝ }
 {
     match value {
@@ -89,7 +89,7 @@ fn two(f2: u32, rd: u32, rs2: u32) -> ShortForm
 }
 
 // Bit 12, then bits 11 and 10: a shift by 32 or more and the forms on 32 bits of 64 are none here.
-fn arithmetic(f: u32, f2: u32, rd: u32, rs2: u32, shamt: u32, value: u32) -> ShortForm
+pub(crate) fn arithmetic(f: u32, f2: u32, rd: u32, rs2: u32, shamt: u32, value: u32) -> ShortForm
     ensures { λ r. ⌜ r ≡ arithmeticOf f f2 rd rs2 shamt value ⌝ }
 {
     match f {
@@ -143,7 +143,7 @@ pub(crate) fn quadrant_1(h: u32) -> ShortForm
 }
 
 // Quadrant 2.
-fn slli(f: u32, rd: u32, shamt: u32) -> ShortForm
+pub(crate) fn slli(f: u32, rd: u32, shamt: u32) -> ShortForm
     ensures { λ r. ⌜ r ≡ slliOf f rd shamt ⌝ }
 {
     match f {
@@ -152,7 +152,7 @@ fn slli(f: u32, rd: u32, shamt: u32) -> ShortForm
     }
 }
 
-fn lwsp(rd: u32, offset: u32) -> ShortForm
+pub(crate) fn lwsp(rd: u32, offset: u32) -> ShortForm
     ensures { λ r. ⌜ r ≡ lwspOf rd offset ⌝ }
 {
     match rd {
@@ -161,7 +161,7 @@ fn lwsp(rd: u32, offset: u32) -> ShortForm
     }
 }
 
-fn ldsp(rd: u32, offset: u32) -> ShortForm
+pub(crate) fn ldsp(rd: u32, offset: u32) -> ShortForm
     ensures { λ r. ⌜ r ≡ ldspOf rd offset ⌝ }
 {
     match rd {
@@ -194,7 +194,7 @@ fn adds(rd: u32, rs2: u32) -> ShortForm
     }
 }
 
-fn registers(f: u32, rd: u32, rs2: u32) -> ShortForm
+pub(crate) fn registers(f: u32, rd: u32, rs2: u32) -> ShortForm
     ensures { λ r. ⌜ r ≡ registersOf f rd rs2 ⌝ }
 {
     match f {

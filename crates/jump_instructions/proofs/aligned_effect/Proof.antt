@@ -1,3 +1,4 @@
+-- The one test on the target decides between effect and trap.
 use Rattle.words.proofs.Tests.{tests}
 use Rattle.jump_instructions.specs.Jumps.{aligned}
 use Rattle.jump_instructions.proofs.aligned_effect.Statement.{statement}

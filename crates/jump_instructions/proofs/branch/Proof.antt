@@ -1,3 +1,4 @@
+-- Taken, the effect is the callee's; not taken, the instruction is passed by.
 use Rattle.jump_instructions.specs.Jumps.{branchEffect}
 use borrow.Author.Needs.{needs}
 use Rattle.jump_instructions.proofs.branch.Statement.{statement}

@@ -1,3 +1,4 @@
+-- Six comparisons, an arm each; the two signed ones by the signed order.
 use Rattle.jump_instructions.specs.Jumps.{taken}
 use borrow.Author.Needs.{needs}
 use Rattle.jump_instructions.proofs.is_taken.Statement.{statement}

@@ -1,3 +1,4 @@
+-- PCC and status read, link and target made of them, and the checks before the jump, each by its callee.
 use Rattle.jump_instructions.specs.Jumps.{jalEffect}
 use borrow.Author.Needs.{needs}
 use Rattle.jump_instructions.proofs.jal.Statement.{statement}

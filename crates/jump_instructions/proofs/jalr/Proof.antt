@@ -1,3 +1,4 @@
+-- The target is unsealed, its type decides the status, and the causes come before the alignment; each by its callee.
 use Rattle.jump_instructions.specs.Jumps.{jalrEffect}
 use borrow.Author.Needs.{needs}
 use Rattle.jump_instructions.proofs.jalr.Statement.{statement}

@@ -1,3 +1,4 @@
+-- Tag, seal, EX and bounds, each tested by its callee; the first that fails gives the cause.
 use Rattle.jump_instructions.specs.Jumps.{jalrCause}
 use borrow.Author.Needs.{needs}
 use Rattle.jump_instructions.proofs.jalr_cause.Statement.{statement}

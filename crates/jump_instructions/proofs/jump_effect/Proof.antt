@@ -1,3 +1,4 @@
+-- An arm a kind of jump, its registers read first; for CJALR the sum is that of address and offset.
 use Rattle.jump_instructions.specs.Jumps.{jumpEffect}
 use Rattle.state.proofs.Laws.{integer-is}
 use borrow.Author.Needs.{needs}

@@ -1,3 +1,4 @@
+-- PCC moved past the instruction, then sealed with the edition's type.
 use Rattle.jump_instructions.specs.Jumps.{linkOf}
 use borrow.Author.Needs.{needs}
 use Rattle.jump_instructions.proofs.link_of.Statement.{statement}

@@ -1,3 +1,4 @@
+-- MEPCC made legal and the status put back, under the one check for system access.
 use Rattle.jump_instructions.specs.Jumps.{mretEffect}
 use borrow.Author.Needs.{needs}
 use Rattle.jump_instructions.proofs.mret.Statement.{statement}

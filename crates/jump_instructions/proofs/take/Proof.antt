@@ -1,3 +1,4 @@
+-- PCC moved by the offset; bounds are checked before alignment.
 use Rattle.jump_instructions.specs.Jumps.{takenEffect}
 use borrow.Author.Needs.{needs}
 use Rattle.jump_instructions.proofs.take.Statement.{statement}

@@ -1,3 +1,4 @@
+-- The cause is that of the bounds test, which the callee makes.
 use Rattle.jump_instructions.specs.Jumps.{targetCause}
 use borrow.Author.Needs.{needs}
 use Rattle.jump_instructions.proofs.target_cause.Statement.{statement}

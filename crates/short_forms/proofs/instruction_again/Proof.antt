@@ -7,7 +7,7 @@ use Rattle.short_forms.proofs.instruction_again.Statement.{statement}
 use Rattle.short_forms.proofs.instruction_again.Tie as tie
 
 returns : tie.Need-returns
-returns c = c .meaning-again .ensures ∙ ap meaningOf (c .before .short-form .ensures) ∙ sym (half-means _)
+returns c = c .meaning-again .ensures ∙ ap meaningOf (c .before .short-form-again .ensures) ∙ sym (half-means _)
 
 pub instruction-again-spec : {M : Type 1} → statement M
 instruction-again-spec = tie.close (tie.spec (λ c κs. search needs) (λ c κs. search needs) returns)

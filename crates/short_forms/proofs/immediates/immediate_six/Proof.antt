@@ -1,3 +1,4 @@
+-- Bit 12 above five bits, sign-extended from 6.
 use Rattle.short_forms.specs.Fields.{immediateSix}
 use borrow.Author.Needs.{needs}
 use Rattle.short_forms.proofs.immediates.immediate_six.Statement.{statement}

@@ -1,3 +1,4 @@
+-- Five parts of the half put in order, sign-extended from 10.
 use Rattle.short_forms.specs.Fields.{immediateSixteens}
 use borrow.Author.Needs.{needs}
 use Rattle.short_forms.proofs.immediates.immediate_sixteens.Statement.{statement}

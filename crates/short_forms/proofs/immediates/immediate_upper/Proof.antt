@@ -1,3 +1,4 @@
+-- Six bits in place 12, sign-extended from 18.
 use Rattle.short_forms.specs.Fields.{immediateUpper}
 use borrow.Author.Needs.{needs}
 use Rattle.short_forms.proofs.immediates.immediate_upper.Statement.{statement}

@@ -1,3 +1,4 @@
+-- Four parts in order, by the same sum; none of it leaves a word.
 use mathlib.Core.Path.{refl}
 use Rattle.short_forms.specs.Fields.{immediateWide}
 use borrow.Author.Needs.{needs}

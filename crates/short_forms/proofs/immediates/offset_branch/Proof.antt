@@ -1,3 +1,4 @@
+-- Five parts of the half put in order, sign-extended from 9.
 use Rattle.short_forms.specs.Fields.{offsetBranch}
 use borrow.Author.Needs.{needs}
 use Rattle.short_forms.proofs.immediates.offset_branch.Statement.{statement}

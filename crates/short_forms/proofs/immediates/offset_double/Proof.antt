@@ -1,3 +1,4 @@
+-- Two parts in units of 8, by the same sum.
 use mathlib.Core.Path.{refl}
 use Rattle.short_forms.specs.Fields.{offsetDouble}
 use borrow.Author.Needs.{needs}

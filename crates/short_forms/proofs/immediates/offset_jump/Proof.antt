@@ -1,3 +1,4 @@
+-- Eight parts of the half put in order, sign-extended from 12.
 use Rattle.short_forms.specs.Fields.{offsetJump}
 use borrow.Author.Needs.{needs}
 use Rattle.short_forms.proofs.immediates.offset_jump.Statement.{statement}

@@ -1,3 +1,4 @@
+-- Three parts in units of 8 from the stack's load format, by the same sum.
 use mathlib.Core.Path.{refl}
 use Rattle.short_forms.specs.Fields.{offsetLoadDouble}
 use borrow.Author.Needs.{needs}

@@ -1,3 +1,4 @@
+-- Two parts in units of 8 from the stack's store format, by the same sum.
 use mathlib.Core.Path.{refl}
 use Rattle.short_forms.specs.Fields.{offsetStoreDouble}
 use borrow.Author.Needs.{needs}

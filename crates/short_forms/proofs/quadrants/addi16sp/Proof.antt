@@ -1,3 +1,4 @@
+-- The immediate's key 0 is no form; any other is the addition to the stack pointer.
 use Rattle.words.proofs.Tests.{tests}
 use Rattle.short_forms.specs.Forms.{addi16spOf}
 use Rattle.short_forms.proofs.quadrants.addi16sp.Statement.{statement}

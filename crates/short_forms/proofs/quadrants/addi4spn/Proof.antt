@@ -1,3 +1,4 @@
+-- The immediate's key 0 is no form; any other adds it to the stack pointer into rd.
 use Rattle.words.proofs.Tests.{tests}
 use Rattle.short_forms.specs.Forms.{addi4spnOf}
 use Rattle.short_forms.proofs.quadrants.addi4spn.Statement.{statement}

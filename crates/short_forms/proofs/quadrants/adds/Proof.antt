@@ -1,3 +1,4 @@
+-- By rs2, then by rd: both 0 is EBREAK, rs2 alone a jump with a link, else the sum.
 use Rattle.words.proofs.Tests.{tests}
 use Rattle.short_forms.specs.Forms.{addsOf}
 use Rattle.short_forms.proofs.quadrants.adds.Statement.{statement}

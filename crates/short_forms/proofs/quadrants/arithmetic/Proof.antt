@@ -1,3 +1,4 @@
+-- Every arm is its table's row; key 3 goes on to two registers, and what no key fits is no form.
 use Rattle.words.proofs.Tests.{tests}
 use Rattle.short_forms.specs.Forms.{arithmeticOf}
 use borrow.Author.Needs.{needs}

@@ -1,3 +1,4 @@
+-- By rs2, then by rd: both 0 is no form, rs2 alone a jump, else the move.
 use Rattle.words.proofs.Tests.{tests}
 use Rattle.short_forms.specs.Forms.{movesOf}
 use Rattle.short_forms.proofs.quadrants.moves.Statement.{statement}

@@ -1,3 +1,4 @@
+-- Every arm is its table's row, its offset the callee's; key 0 alone asks a leaf, and the keys that are left are no form.
 use Rattle.words.proofs.Tests.{tests}
 use Rattle.short_forms.specs.Forms.{quadrant0}
 use borrow.Author.Needs.{needs}

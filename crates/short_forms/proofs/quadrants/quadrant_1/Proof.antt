@@ -1,3 +1,4 @@
+-- Every arm is its table's row; key 3 is matched again on rd, and the last arm is what is left.
 use Rattle.words.proofs.Tests.{tests}
 use Rattle.short_forms.specs.Forms.{quadrant1}
 use borrow.Author.Needs.{needs}

@@ -1,3 +1,4 @@
+-- Every arm is its table's row; four of them ask a leaf, and the keys that are left are no form.
 use Rattle.words.proofs.Tests.{tests}
 use Rattle.short_forms.specs.Forms.{quadrant2}
 use borrow.Author.Needs.{needs}

@@ -1,3 +1,4 @@
+-- Bit 12 decides which of the two leaves answers: 0 the moves, else the sums.
 use Rattle.words.proofs.Tests.{tests}
 use Rattle.short_forms.specs.Forms.{registersOf}
 use borrow.Author.Needs.{needs}

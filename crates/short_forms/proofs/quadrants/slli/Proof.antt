@@ -1,3 +1,4 @@
+-- Bit 12 must be 0, the one key; else a shift by 32 or more is no form.
 use Rattle.words.proofs.Tests.{tests}
 use Rattle.short_forms.specs.Forms.{slliOf}
 use Rattle.short_forms.proofs.quadrants.slli.Statement.{statement}

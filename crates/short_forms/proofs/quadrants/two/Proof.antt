@@ -1,3 +1,4 @@
+-- Four operations on two registers: three keys, and the fourth is what is left.
 use Rattle.words.proofs.Tests.{tests}
 use Rattle.short_forms.specs.Forms.{twoOf}
 use Rattle.short_forms.proofs.quadrants.two.Statement.{statement}

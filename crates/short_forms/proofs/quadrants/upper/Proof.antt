@@ -1,3 +1,4 @@
+-- The immediate's key 0 is no form; any other is LUI.
 use Rattle.words.proofs.Tests.{tests}
 use Rattle.short_forms.specs.Forms.{upperOf}
 use Rattle.short_forms.proofs.quadrants.upper.Statement.{statement}
