@@ -1,1 +1,2 @@
+-- What an operation of the second engine stands for: Means.
 pub mod Means

@@ -5,14 +5,18 @@ ghost use Rattle.operations.specs.Means.{placeOf, Means, Placed};
 use instructions::Alu;
 use instructions::BranchKind;
 use instructions::CapabilityInstruction;
+use instructions::Combination;
+use instructions::DivideKind;
+use instructions::Inspection;
 use instructions::Instruction;
 use instructions::IntegerInstruction;
 use instructions::JumpInstruction;
 use instructions::LoadKind;
 use instructions::MemoryInstruction;
+use instructions::MultiplyKind;
 use instructions::StoreKind;
 
-// at, from and other are places of a register's first word.
+// at, from and other are places of a register's first word; rd and rs1 are registers.
 pub enum Operation {
     Plain,
     Put {
@@ -36,7 +40,28 @@ pub enum Operation {
         from: u32,
         other: u32,
     },
+    Multiply {
+        kind: MultiplyKind,
+        at: u32,
+        from: u32,
+        other: u32,
+    },
+    Divide {
+        kind: DivideKind,
+        at: u32,
+        from: u32,
+        other: u32,
+    },
     Go {
+        offset: u32,
+    },
+    JumpLink {
+        rd: u32,
+        offset: u32,
+    },
+    JumpRegister {
+        rd: u32,
+        rs1: u32,
         offset: u32,
     },
     Branch {
@@ -91,12 +116,31 @@ pub enum Operation {
         at: u32,
         from: u32,
     },
+    SetAddress {
+        at: u32,
+        from: u32,
+        other: u32,
+    },
+    IncrementBy {
+        at: u32,
+        from: u32,
+        other: u32,
+    },
+    Address {
+        at: u32,
+        from: u32,
+    },
 }
 
 // The words of a capability in the register file, and the general registers.
 const WORDS: u32 = 3;
 
 const REGISTERS: u32 = 16;
+
+// The places of PCC and of c3, the global pointer.
+const PCC_PLACE: u32 = 48;
+
+const GLOBAL_PLACE: u32 = 9;
 
 // The place of a register's first word.
 pub fn place_of(r: u32) -> u32
@@ -136,17 +180,28 @@ fn of_integer(i: IntegerInstruction) -> Operation
             from: place_of(rs1),
             other: place_of(rs2),
         },
-        _ => return Operation::Plain,
+        IntegerInstruction::Multiply { kind, rd, rs1, rs2 } => return Operation::Multiply {
+            kind,
+            at: place_of(rd),
+            from: place_of(rs1),
+            other: place_of(rs2),
+        },
+        IntegerInstruction::Divide { kind, rd, rs1, rs2 } => return Operation::Divide {
+            kind,
+            at: place_of(rd),
+            from: place_of(rs1),
+            other: place_of(rs2),
+        },
     }
 }
 
-// A jump that links a register is left to the plain step.
+// A jump that links no register is the shorter.
 fn go(rd: u32, offset: u32) -> Operation
     ensures { λ r. ⌜ Means r (Instruction.Jump (JumpInstruction.Jal rd offset)) × Placed r ⌝ }
 {
     match place_of(rd) {
         0 => return Operation::Go { offset },
-        _ => return Operation::Plain,
+        _ => return Operation::JumpLink { rd, offset },
     }
 }
 
@@ -155,6 +210,9 @@ fn of_jump(i: JumpInstruction) -> Operation
 {
     match i {
         JumpInstruction::Jal { rd, offset } => return go(rd, offset),
+        JumpInstruction::Jalr { rd, rs1, offset } => {
+            return Operation::JumpRegister { rd, rs1, offset }
+        }
         JumpInstruction::Branch {
             kind,
             rs1,
@@ -237,6 +295,31 @@ fn of_memory(i: MemoryInstruction) -> Operation
     }
 }
 
+fn inspect(what: Inspection, rd: u32, rs1: u32) -> Operation
+    ensures { λ r. ⌜ Means r (Instruction.Capability (CapabilityInstruction.Inspect what rd rs1)) × Placed r ⌝ }
+{
+    match what {
+        Inspection::GetAddr => return Operation::Address {
+            at: place_of(rd),
+            from: place_of(rs1),
+        },
+        _ => return Operation::Plain,
+    }
+}
+
+fn combine(what: Combination, rd: u32, rs1: u32, rs2: u32) -> Operation
+    ensures { λ r. ⌜ Means r (Instruction.Capability (CapabilityInstruction.Combine what rd rs1 rs2)) × Placed r ⌝ }
+{
+    let at = place_of(rd);
+    let from = place_of(rs1);
+    let other = place_of(rs2);
+    match what {
+        Combination::SetAddr => return Operation::SetAddress { at, from, other },
+        Combination::IncAddr => return Operation::IncrementBy { at, from, other },
+        _ => return Operation::Plain,
+    }
+}
+
 fn of_capability(i: CapabilityInstruction) -> Operation
     ensures { λ r. ⌜ Means r (Instruction.Capability i) × Placed r ⌝ }
 {
@@ -255,7 +338,19 @@ fn of_capability(i: CapabilityInstruction) -> Operation
             at: place_of(rd),
             from: place_of(rs1),
         },
-        _ => return Operation::Plain,
+        CapabilityInstruction::AuiPcc { rd, offset } => return Operation::Increment {
+            at: place_of(rd),
+            from: PCC_PLACE,
+            offset,
+        },
+        CapabilityInstruction::AuiCgp { rd, offset } => return Operation::Increment {
+            at: place_of(rd),
+            from: GLOBAL_PLACE,
+            offset,
+        },
+        CapabilityInstruction::Inspect { what, rd, rs1 } => return inspect(what, rd, rs1),
+        CapabilityInstruction::Combine { what, rd, rs1, rs2 } => return combine(what, rd, rs1, rs2),
+        CapabilityInstruction::ClearTag { rd, rs1 } => return Operation::Plain,
     }
 }
 

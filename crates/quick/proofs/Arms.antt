@@ -5,10 +5,13 @@ use Prim.Native.Nat.{ℕ, _+_, _*_, _%_, _≤_}
 use native.Mathlib.Omega.{arith}
 use lib.ListN.{getD}
 use Rattle.words.specs.Words.{wrap}
-use Rattle.capability.specs.Capability.{integer, setBoundsOf}
+use Rattle.capability.specs.Capability.{integer, moveOf, setBoundsOf}
 use Rattle.instructions.specs.declared.Alu.{Alu}
 use Rattle.instructions.specs.declared.Alu.the-variants.{Add}
+use Rattle.instructions.specs.declared.MultiplyKind.{MultiplyKind}
+use Rattle.instructions.specs.declared.DivideKind.{DivideKind}
 use Rattle.instructions.specs.declared.BranchKind.{BranchKind}
+use Rattle.instructions.specs.declared.JumpInstruction.the-variants.{Jal, Jalr}
 use Rattle.instructions.specs.declared.LoadKind.{LoadKind}
 use Rattle.instructions.specs.declared.LoadKind.the-variants.{Lw}
 use Rattle.instructions.specs.declared.StoreKind.{StoreKind}
@@ -22,17 +25,21 @@ use Rattle.operations.specs.declared.Operation.{Operation}
 use Rattle.operations.specs.declared.Operation.the-variants as Operation
 use Rattle.state.specs.Lent.{State, state, lent}
 use Rattle.state.specs.declared.Board.{Board}
-use Rattle.integer_instructions.specs.Integer.{aluOf}
+use Rattle.state.specs.declared.Effect.{Effect}
+use Rattle.jump_instructions.specs.Jumps.{jumpEffect}
+use Rattle.jump_instructions.proofs.Laws.{jump-storeless}
+use Rattle.integer_instructions.specs.Integer.{aluOf, multipliedOf, dividedOf}
 use Rattle.capability_instructions.specs.Derivation.{movedBy}
 use Rattle.memory_instructions.specs.Access.{memoryEffect}
 use Rattle.execution.specs.Step.{effectOf}
 use Rattle.quick.specs.Turns.{wentOn, writtenAt, heldAt, Stands, Turned, doneTurn, leftTurn}
-use Rattle.quick.specs.Jumps.{GoTurns, BranchTurns}
+use Rattle.quick.specs.Jumps.{GoTurns, BranchTurns, JumpTurns}
 use Rattle.quick.specs.Memory.{Loads, Stores, LoadsCapability, StoresCapability}
 use Rattle.quick.specs.Steady.{SteadyIf, TurnedBy}
 use Rattle.quick.specs.declared.Took.{Took}
 use Rattle.quick.proofs.Onward.{pcc-words}
-use Rattle.quick.proofs.Families.{turned-put, turned-immediate, turned-two, turned-increment, turned-cut, turned-copy}
+use Rattle.quick.proofs.Families.{turned-put, turned-immediate, turned-two, turned-multiply, turned-divide}
+use Rattle.quick.proofs.Families.{turned-increment, turned-cut, turned-copy, turned-set-address, turned-increment-by, turned-address}
 use Rattle.quick.proofs.Quiet.{turned-quiet}
 use Rattle.quick.proofs.Steady.{steady-written, memory-leaves, done-steady}
 
@@ -83,11 +90,48 @@ module _ (board : Board) (revoked regs mem tags : List ℕ) (n to : ℕ) (e : to
       steady-written regs after to at (integer (aluOf op (getD regs from 0) (getD regs other 0))) (s .long) k h,
     )
 
+    pub by-multiply : (kind : MultiplyKind) (from other : ℕ)
+        → after ≡ wentOn to (writtenAt at (integer (multipliedOf kind (getD regs from 0) (getD regs other 0))) regs)
+        → TurnedBy board revoked (Operation.Multiply kind at from other) n (state regs mem tags) (state after mem tags) doneTurn
+    by-multiply kind from other h x word m a (rd, rs1, rs2, i, p, f, o) s = (
+      turned-multiply regs after mem tags (board .start) m a n to s (next m a s) x word (lent board mem tags revoked) kind at from other rd rs1 rs2 i p f o h,
+      steady-written regs after to at (integer (multipliedOf kind (getD regs from 0) (getD regs other 0))) (s .long) k h,
+    )
+
+    pub by-divide : (kind : DivideKind) (from other : ℕ)
+        → after ≡ wentOn to (writtenAt at (integer (dividedOf kind (getD regs from 0) (getD regs other 0))) regs)
+        → TurnedBy board revoked (Operation.Divide kind at from other) n (state regs mem tags) (state after mem tags) doneTurn
+    by-divide kind from other h x word m a (rd, rs1, rs2, i, p, f, o) s = (
+      turned-divide regs after mem tags (board .start) m a n to s (next m a s) x word (lent board mem tags revoked) kind at from other rd rs1 rs2 i p f o h,
+      steady-written regs after to at (integer (dividedOf kind (getD regs from 0) (getD regs other 0))) (s .long) k h,
+    )
+
     pub by-increment : (from offset : ℕ) → after ≡ wentOn to (writtenAt at (movedBy (heldAt from regs) offset) regs)
         → TurnedBy board revoked (Operation.Increment at from offset) n (state regs mem tags) (state after mem tags) doneTurn
-    by-increment from offset h x word m a (rd, rs1, i, p, f) s = (
-      turned-increment regs after mem tags (board .start) m a n to s (next m a s) x word (lent board mem tags revoked) at from rd rs1 offset i p f h,
+    by-increment from offset h x word m a (rd, p, i) s = (
+      turned-increment regs after mem tags (board .start) m a n to s (next m a s) x word (lent board mem tags revoked) at from rd offset i p h,
       steady-written regs after to at (movedBy (heldAt from regs) offset) (s .long) k h,
+    )
+
+    pub by-set-address : (from other : ℕ) → after ≡ wentOn to (writtenAt at (moveOf (heldAt from regs) (getD regs other 0)) regs)
+        → TurnedBy board revoked (Operation.SetAddress at from other) n (state regs mem tags) (state after mem tags) doneTurn
+    by-set-address from other h x word m a (rd, rs1, rs2, i, p, f, o) s = (
+      turned-set-address regs after mem tags (board .start) m a n to s (next m a s) x word (lent board mem tags revoked) at from other rd rs1 rs2 i p f o h,
+      steady-written regs after to at (moveOf (heldAt from regs) (getD regs other 0)) (s .long) k h,
+    )
+
+    pub by-increment-by : (from other : ℕ) → after ≡ wentOn to (writtenAt at (movedBy (heldAt from regs) (getD regs other 0)) regs)
+        → TurnedBy board revoked (Operation.IncrementBy at from other) n (state regs mem tags) (state after mem tags) doneTurn
+    by-increment-by from other h x word m a (rd, rs1, rs2, i, p, f, o) s = (
+      turned-increment-by regs after mem tags (board .start) m a n to s (next m a s) x word (lent board mem tags revoked) at from other rd rs1 rs2 i p f o h,
+      steady-written regs after to at (movedBy (heldAt from regs) (getD regs other 0)) (s .long) k h,
+    )
+
+    pub by-address : (from : ℕ) → after ≡ wentOn to (writtenAt at (integer (getD regs from 0)) regs)
+        → TurnedBy board revoked (Operation.Address at from) n (state regs mem tags) (state after mem tags) doneTurn
+    by-address from h x word m a (rd, rs1, i, p, f) s = (
+      turned-address regs after mem tags (board .start) m a n to s (next m a s) x word (lent board mem tags revoked) at from rd rs1 i p f h,
+      steady-written regs after to at (integer (getD regs from 0)) (s .long) k h,
     )
 
     pub by-cut : (from size : ℕ) → after ≡ wentOn to (writtenAt at (setBoundsOf (heldAt from regs) size) regs)
@@ -120,6 +164,20 @@ module _ (board : Board) (revoked regs mem tags : List ℕ) (n to : ℕ) (e : to
   unfolding effectOf
   by-branch after kind from other offset t g st x word m a (rs1, rs2, i, f, o) s =
       (rw i (g rs1 rs2 m a n (board .edition) mem tags s (next m a s) f o), st)
+
+  pub by-jump-link : (after : List ℕ) (rd offset : ℕ) (e : Effect) (t : Took) → e ≡ jumpEffect n (board .edition) (Jal rd offset) regs
+      → JumpTurns e regs after t → SteadyIf (t .done) regs after
+      → TurnedBy board revoked (Operation.JumpLink rd offset) n (state regs mem tags) (state after mem tags) t
+  unfolding effectOf
+  by-jump-link after rd offset e t q g st x word m a i s =
+      (rw i (rw q at (g (board .start) m a n mem tags s (rw q (jump-storeless n (board .edition) (Jal rd offset) regs)))), st)
+
+  pub by-jump-register : (after : List ℕ) (rd rs1 offset : ℕ) (e : Effect) (t : Took) → e ≡ jumpEffect n (board .edition) (Jalr rd rs1 offset) regs
+      → JumpTurns e regs after t → SteadyIf (t .done) regs after
+      → TurnedBy board revoked (Operation.JumpRegister rd rs1 offset) n (state regs mem tags) (state after mem tags) t
+  unfolding effectOf
+  by-jump-register after rd rs1 offset e t q g st x word m a i s =
+      (rw i (rw q at (g (board .start) m a n mem tags s (rw q (jump-storeless n (board .edition) (Jalr rd rs1 offset) regs)))), st)
 
   -- ---- loads and stores
 

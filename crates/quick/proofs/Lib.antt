@@ -1,3 +1,4 @@
+-- Entries: Look, Forget. Where PCC goes: Onward, Targets. Reach: Inside, Reach, Accesses. Turns and the loop: the others, up to Turning.
 pub mod Look
 pub mod Onward
 pub mod Targets

@@ -40,9 +40,15 @@ set-swap (x ∷ l) (suc i) (suc j) u v h = ap (λ (r : List ℕ). x ∷ r) (set-
 
 -- ---- time: the low word one on, with its carry
 
--- a word that is not the largest is below it
-pub below-largest : (x : ℕ) → x < 2 ^ 32 → (x ≡ 4294967295 → ⊥) → x < 4294967295
-below-largest x h n = by-test (ltb x 4294967295) (λ t. ltb-true x 4294967295 t) (λ t. absurd (n (omega (arith, ltb-false x 4294967295 t))))
+-- one more wraps to 0 from the largest word, and from no other
+pub wraps-largest : (x : ℕ) → x < 2 ^ 32 → wrap (x + 1) ≡ 0 → x ≡ 4294967295
+wraps-largest x h z = omega (arith, h, z)
+
+pub wraps-below : (x : ℕ) → x < 2 ^ 32 → (wrap (x + 1) ≡ 0 → ⊥) → (x < 4294967295) × (wrap (x + 1) ≡ x + 1)
+wraps-below x h n =
+    by-test (ltb x 4294967295)
+    (λ t. let k = ltb-true x 4294967295 t in (k, omega (arith, k)))
+    (λ t. let k : _≡_ {A = ℕ} x 4294967295 = omega (arith, h, ltb-false x 4294967295 t) in absurd (n (omega (arith, k))))
 
 carried : (h : ℕ) → h < 2 ^ 32 → ((h * 2 ^ 32 + 4294967295 + 1) % 2 ^ 64 % 2 ^ 32 ≡ 0) × ((h * 2 ^ 32 + 4294967295 + 1) % 2 ^ 64 / 2 ^ 32 ≡ wrap (h + 1))
 carried h b =
@@ -234,3 +240,18 @@ module _ (regs mem tags : List ℕ) (start m a n to : ℕ) (e : pccOf regs ≡ p
       → state (wentOn to regs) mem tags ≡ applyEffect start n (Jump rd link target mstatus) (state regs mem tags)
   unfolding applyEffect
   took-jump rd mstatus link target z t k = rw (t, k) (ap (λ (r : List ℕ). state (ticked r) mem tags) (sym (jumped-word rd link z)))
+
+  -- the same with a link
+  linked-word : (at rd : ℕ) (link : Capability) → at ≡ rd % 16 * 3 → jumped regs rd link (pccAt m to) (mstatusOf regs) ≡ set (writtenAt at link regs) 48 to
+  unfolding jumped
+  linked-word at rd link z =
+      let w = writeRegister regs rd link in
+      ap (λ (l : List ℕ). set l 63 (mstatusOf regs)) (pcc-moved w m a to (written-pcc regs rd link ∙ e))
+      ∙ set-same (set w 48 to) 63 (mstatusOf regs) (getD-set-other w 48 63 to 0 (λ q. omega arith) ∙ written-other regs rd 63 link (omega arith))
+      ∙ ap (λ (l : List ℕ). set l 48 to) (sym (written-at regs at rd link z))
+
+  pub took-linked : (at rd mstatus : ℕ) (link target : Capability) → at ≡ rd % 16 * 3 → target ≡ pccAt m to → mstatus ≡ mstatusOf regs
+      → state (wentOn to (writtenAt at link regs)) mem tags ≡ applyEffect start n (Jump rd link target mstatus) (state regs mem tags)
+  unfolding applyEffect
+  took-linked at rd mstatus link target z t k =
+      rw (t, k) (ap (λ (r : List ℕ). state (ticked r) mem tags) (sym (linked-word at rd link z)))

@@ -2,15 +2,15 @@
 use mathlib.Core.Path.{_≡_, refl, sym, ap, _∙_}
 use mathlib.Core.Bool.{Bool, true, false, not, true≢false}
 use mathlib.Core.List.{List}
-use Prim.Native.Nat.{ℕ, _+_, _%_}
+use Prim.Native.Nat.{ℕ, _+_, _*_, _%_}
 use native.Mathlib.Omega.{arith}
 use lib.Dec.{eqb}
-use lib.ListN.{getD}
+use lib.ListN.{getD, length}
 use borrow.Author.Tests.{eq-eqb}
 use Rattle.words.specs.Words.{wrap}
 use Rattle.metadata.specs.Rights.{EX}
 use Rattle.metadata.specs.Word.{typeOf}
-use Rattle.capability.specs.Capability.{integer, sealed, moveOf}
+use Rattle.capability.specs.Capability.{capability, integer, sealed, moveOf}
 use Rattle.capability.specs.declared.Capability.{Capability}
 use Rattle.instructions.specs.declared.BranchKind.{BranchKind}
 use Rattle.instructions.specs.declared.JumpInstruction.the-variants.{Jal, Branch}
@@ -24,10 +24,12 @@ use Rattle.jump_instructions.specs.Jumps.{linkOf, aligned, targetCause, jalEffe
 use Rattle.jump_instructions.proofs.Laws.{jump-storeless}
 use Rattle.commit.specs.Commit.{retires}
 use Rattle.quick.specs.Rows.{Reached}
-use Rattle.quick.specs.Turns.{wentOn, pccAt, MayStore, Done, Turned, doneTurn}
-use Rattle.quick.specs.Jumps.{WentIf, Went, GoTurns, BranchTurns}
+use Rattle.quick.specs.Turns.{wentOn, writtenAt, pccAt, MayStore, Done, Turned, doneTurn, leftTurn}
+use Rattle.quick.specs.Jumps.{WentIf, Went, GoTurns, BranchTurns, StaysAt, JumpTurns}
+use Rattle.quick.specs.Steady.{SteadyIf}
 use Rattle.quick.specs.declared.Took.{Took}
-use Rattle.quick.proofs.Onward.{took-advance, took-jump}
+use Rattle.quick.proofs.Onward.{took-advance, took-jump, took-linked, pcc-words}
+use Rattle.quick.proofs.Steady.{steady-written}
 
 -- what stores nothing may store anywhere
 pub may-nothing : (x : Stored) (at width : ℕ) → Nothing x → MayStore x at width
@@ -101,3 +103,27 @@ unfolding jumpEffect branchEffect integerAt retires
 branch-passed regs start offset next kind from other b rs1 rs2 m a n edition mem tags s q f o =
     let c : taken kind (integerAt regs rs1) (integerAt regs rs2) ≡ false = rw (f, o) at b in
     rw c (took-advance regs mem tags start m a n next s q, refl, refl)
+
+-- ---- jumps by their effect
+
+target-at : (c : Capability) (m : ℕ) → c .metadata ≡ m → c .tag ≡ 1 → c ≡ pccAt m (c .address)
+target-at c m p q = ap (λ (x : ℕ). capability (c .address) x (c .tag)) p ∙ ap (λ (x : ℕ). capability (c .address) m x) q
+
+pub linked-turned : (regs after : List ℕ) (e : Effect) (t : Took) (at rd mstatus : ℕ) (link target : Capability) → e ≡ Jump rd link target mstatus
+    → t ≡ doneTurn → at ≡ rd % 16 * 3 → StaysAt target mstatus regs → after ≡ wentOn (target .address) (writtenAt at link regs) → length regs ≡ 72
+    → JumpTurns e regs after t × SteadyIf (t .done) regs after
+unfolding retires
+linked-turned regs after e t at rd mstatus link target q u z w h long =
+    rw (q, u) (
+      λ start m a n mem tags s still. (
+        ap (λ (l : List ℕ). state l mem tags) h
+            ∙ took-linked regs mem tags start m a n (target .address) (s .pcc-is) at rd mstatus link target z
+            (target-at target m (w .word-stays ∙ pcc-words regs m a (s .pcc-is) .1) (w .is-tagged)) (w .status-stays),
+        refl,
+        refl,
+      ),
+      steady-written regs after (target .address) at link long (omega (arith, z)) h,
+    )
+
+pub left-turned : (regs : List ℕ) (e : Effect) (t : Took) → t ≡ leftTurn → JumpTurns e regs regs t × SteadyIf (t .done) regs regs
+left-turned regs e t u = rw u (λ start m a n mem tags s still. (refl, may-nothing (storedBy e) 0 0 still), tt)

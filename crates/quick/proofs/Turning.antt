@@ -68,7 +68,8 @@ module _ (board : Board) (revoked : List ℕ) (n : ℕ) (s₀ : State) (w₀ : W
     reach-holds = rw memory-long g;
     calm-holds = c;
     runs = machine.turn-counts board n k revoked s after (kept trapped watch) (kept trapped' watch') more (r .few-trapped) fits stepped counted ∙ r .runs;
-    watches = machine.turn-watches board n k revoked s after (kept trapped watch) (kept trapped' watch') more (r .few-trapped) fits stepped counted ∙ r .watches;
+    watches =
+        machine.turn-watches board n k revoked s after (kept trapped watch) (kept trapped' watch') more (r .few-trapped) fits stepped counted ∙ r .watches;
   }
 
 -- ---- what a turn that is done counts and records
@@ -136,11 +137,12 @@ unfolding keptAfter watchedBy
 plain-counts board revoked s trapped t w left small e f = go (retires (effectAt board revoked s)) refl
   where
     go : (b : Bool) → retires (effectAt board revoked s) ≡ b
-        → kept (trapped + t) left ≡ record { trapped = cond (retires (effectAt board revoked s)) trapped ((trapped + 1) % 2 ^ 32); watch = watchStep board revoked s w }
+        → kept (trapped + t) left
+        ≡ record { trapped = cond (retires (effectAt board revoked s)) trapped ((trapped + 1) % 2 ^ 32); watch = watchStep board revoked s w }
     go true h = let z : trapped + t ≡ trapped = omega (arith, rw h at e) in rw (h, z, f) refl
     go false h = let z : trapped + t ≡ (trapped + 1) % 2 ^ 32 = omega (arith, small, rw h at e) in rw (h, z, f) refl
 
--- ---- the four ways round
+-- ---- the ways round
 
 -- what does not retire stores nothing
 trap-stores : (f : Effect) (mem : List ℕ) → (retires f ≡ true → ⊥) → memoryAfter (storedBy f) mem ≡ mem
@@ -198,7 +200,8 @@ module _ (board : Board) (revoked : List ℕ) (n : ℕ) (s₀ : State) (w₀ : W
           → (lens' : List ℕ) → lens' ≡ forgotten low high (board .start) (t .at) (t .width) lens
           → Running board revoked n s₀ w₀ after code keys lens' rows' low high base limit watch' trapped (k + 1)
       way-done h far watch' w lens' f =
-          let d = turn-done board revoked s after low high i (getD keys i 0) (getD lens i 0) (getD code i Plain) t here (r .whole-file) pcc-here due-here turned h in
+          let d =
+          turn-done board revoked s after low high i (getD keys i 0) (getD lens i 0) (getD code i Plain) t here (r .whole-file) pcc-here due-here turned h in
           rw f (running-on board revoked n s₀ w₀ s after code keys lens rows low high base limit watch trapped k r more fits (d .0) trapped watch'
           (forgotten low high (board .start) (t .at) (t .width) lens) rows' base limit
           (ap (λ (x : Watch). kept trapped x) w ∙ done-counts (board .start) (t .at) (t .width) trapped (length (s .mem)) watch does (d .1) within (d .2))
@@ -206,12 +209,18 @@ module _ (board : Board) (revoked : List ℕ) (n : ℕ) (s₀ : State) (w₀ : W
           (turn-may board revoked s after low high i (getD keys i 0) (getD lens i 0) (getD code i Plain) t here (r .whole-file) pcc-here due-here turned h))
           good (calm-after base k limit (s .regs) (after .regs) far (d .3) (r .calm-holds) (ready .0)))
 
+      -- a turn that is done and stored nothing: the entries and the record stay
+      pub way-silent : (t .done ≡ true) × (t .width ≡ 0) → compareOf (s .regs) < 2 ^ 64
+          → Running board revoked n s₀ w₀ after code keys lens rows' low high base limit watch trapped (k + 1)
+      way-silent (h, z) far = way-done h far watch (rw z refl) lens (rw z refl)
+
       pub way-left : t .done ≡ false → (last : State) (a b : ℕ) (watch' : Watch) (base' limit' : ℕ) → ran last a b ≡ iterate 1 board revoked (ran after 0 0)
           → watch' ≡ watchedBy 1 board revoked after watch → Calm base' (k + 1) limit' (last .regs)
           → (lens' : List ℕ) → lens' ≡ forgotten low high (board .start) (t .at) (t .width) lens
           → Running board revoked n s₀ w₀ last code keys lens' rows' low high base' limit' watch' (trapped + b) (k + 1)
       way-left h last a b watch' base' limit' g w c lens' f =
-          let d = turn-left board revoked s after low high i (getD keys i 0) (getD lens i 0) (getD code i Plain) t here (r .whole-file) pcc-here due-here turned h in
+          let d =
+          turn-left board revoked s after low high i (getD keys i 0) (getD lens i 0) (getD code i Plain) t here (r .whole-file) pcc-here due-here turned h in
           let p = plain-step board revoked s last a b (g ∙ ap (λ (x : State). iterate 1 board revoked (ran x 0 0)) (d .0)) in
           rw f (running-on board revoked n s₀ w₀ s last code keys lens rows low high base limit watch trapped k r more fits (p .0) (trapped + b) watch'
           (forgotten low high (board .start) (t .at) (t .width) lens) rows' base' limit'
@@ -225,42 +234,44 @@ module _ (board : Board) (revoked : List ℕ) (n : ℕ) (s₀ : State) (w₀ : W
       → Running board revoked n s₀ w₀ last code keys lens' rows low high base' limit' watch' (trapped + b) (k + 1)
   way-plain last a b watch' lens' base' limit' g w cleared c =
       let p = plain-step board revoked s last a b g in
-      running-on board revoked n s₀ w₀ s last code keys lens rows low high base limit watch trapped k r more fits (p .0) (trapped + b) watch' lens' rows base' limit'
-      (plain-counts board revoked s trapped b watch watch' (omega (arith, r .few-trapped, more, fits)) (p .1) w)
-      (entries-cleared (board .start) (s .mem) low high lens keys code b (last .mem) lens' cleared (λ z. memory-is last (p .0) ∙ trap-stores does (s .mem) (λ t. z (rw t at (p .1)))) (r .entries-hold))
+      running-on board revoked n s₀ w₀ s last code keys lens rows low high base limit watch trapped k r more fits (p .0) (trapped + b) watch'
+      lens' rows base' limit' (plain-counts board revoked s trapped b watch watch' (omega (arith, r .few-trapped, more, fits)) (p .1) w)
+      (entries-cleared (board .start) (s .mem) low high lens keys code b (last .mem) lens' cleared
+      (λ z. memory-is last (p .0) ∙ trap-stores does (s .mem) (λ t. z (rw t at (p .1)))) (r .entries-hold))
       (r .reach-holds) c
 
 -- a new entry, and no step
 pub way-found : (board : Board) (revoked : List ℕ) (n : ℕ) (s₀ : State) (w₀ : Watch) (s : State) (code : List Operation) (keys lens rows : List ℕ)
     (low high base limit : ℕ) (watch : Watch) (trapped k : ℕ) → Running board revoked n s₀ w₀ s code keys lens rows low high base limit watch trapped k
     → (i key : ℕ) (pcc : Capability) → i < slots → slotOf (pcc .address) ≡ i → key ≡ keyOf (pcc .metadata) (pcc .address) → (f : Found)
-    → FoundAt (board .start) (s .mem) pcc f → (low' high' base' limit' : ℕ)
-    → low' ≤ low → high ≤ high' → low' ≤ pcc .address - board .start → pcc .address - board .start + 4 ≤ high' → Calm base' k limit' (s .regs)
-    → Running board revoked n s₀ w₀ s (set code i (f .op)) (set keys i key) (set lens i (f .bytes)) rows low' high' base' limit' watch trapped k
-way-found board revoked n s₀ w₀ s code keys lens rows low high base limit watch trapped k r i key pcc slot is key-of f found low' high' base' limit' l h p q c = record {
-  in-run = r .in-run;
-  few-trapped = r .few-trapped;
-  whole-file = r .whole-file;
-  keys-long = length-set keys i key ∙ r .keys-long;
-  code-long = length-set code i (f .op) ∙ r .code-long;
-  entries-hold =
-      entries-put (board .start) (s .mem) low high low' high' lens keys code i key (f .bytes) (f .op) slot (r .keys-long) (r .code-long)
-      (record {
-        word = pcc .metadata;
-        address = pcc .address;
-        instruction = found .stands-there;
-        key-is = key-of;
-        slot-is = is;
-        in-hull = (p, q);
-        decoded = found .is-decoded;
-        means = found .op-means;
-        placed = found .op-placed;
-      }) l h (r .entries-hold);
-  reach-holds = r .reach-holds;
-  calm-holds = c;
-  runs = r .runs;
-  watches = r .watches;
-}
+    → FoundAt (board .start) (s .mem) pcc f → (low' high' base' : ℕ)
+    → low' ≤ low → high ≤ high' → low' ≤ pcc .address - board .start → pcc .address - board .start + 4 ≤ high' → base' ≡ getD (s .regs) 49 0 * 2 ^ 32
+    → Running board revoked n s₀ w₀ s (set code i (f .op)) (set keys i key) (set lens i (f .bytes)) rows low' high' base' limit watch trapped k
+way-found board revoked n s₀ w₀ s code keys lens rows low high base limit watch trapped k r i key pcc slot is key-of f found
+    low' high' base' l h p q b = record {
+      in-run = r .in-run;
+      few-trapped = r .few-trapped;
+      whole-file = r .whole-file;
+      keys-long = length-set keys i key ∙ r .keys-long;
+      code-long = length-set code i (f .op) ∙ r .code-long;
+      entries-hold =
+          entries-put (board .start) (s .mem) low high low' high' lens keys code i key (f .bytes) (f .op) slot (r .keys-long) (r .code-long)
+          (record {
+            word = pcc .metadata;
+            address = pcc .address;
+            instruction = found .stands-there;
+            key-is = key-of;
+            slot-is = is;
+            in-hull = (p, q);
+            decoded = found .is-decoded;
+            means = found .op-means;
+            placed = found .op-placed;
+          }) l h (r .entries-hold);
+      reach-holds = r .reach-holds;
+      calm-holds = (b, r .calm-holds .1);
+      runs = r .runs;
+      watches = r .watches;
+    }
 
 pub compare-fits : (regs : List ℕ) → getD regs 70 0 < 2 ^ 32 → getD regs 71 0 < 2 ^ 32 → compareOf regs < 2 ^ 64
 unfolding compareOf

@@ -33,7 +33,7 @@ use Rattle.quick.specs.Turns.{pccAt}
 
 -- how many entries there are, and the entry that an address has
 abbrev pub slots : ℕ
-slots = 1024
+slots = 2048
 
 abbrev pub slotOf : (a : ℕ) → ℕ
 slotOf a = a / 2 % slots

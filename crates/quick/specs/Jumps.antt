@@ -1,14 +1,18 @@
--- A turn of a jump that links no register. CHERIoT report, 9.4 (CJAL); document 02, 14. Assumes nothing.
+-- A turn of a jump. CHERIoT report, 9.4 (CJAL, CJALR); document 02, 14. Assumes nothing.
 use mathlib.Core.Bool.{Bool, true, false}
 use mathlib.Core.List.{List}
 use mathlib.Core.Path.{_≡_}
 use Prim.Native.Nat.{ℕ, _+_, _*_, _%_}
 use Rattle.words.specs.Words.{wrap}
+use lib.ListN.{getD}
 use Rattle.metadata.specs.Rights.{EX}
+use Rattle.capability.specs.declared.Capability.{Capability}
 use Rattle.instructions.specs.declared.BranchKind.{BranchKind}
 use Rattle.instructions.specs.declared.JumpInstruction.the-variants.{Jal, Branch}
 use Rattle.state.specs.Addresses.{targetBytes, targetAlignment}
 use Rattle.state.specs.Lent.{state}
+use Rattle.state.specs.Effects.{Storeless}
+use Rattle.state.specs.declared.Effect.{Effect}
 use Rattle.jump_instructions.specs.Jumps.{jumpEffect}
 use Rattle.quick.specs.Rows.{Reached}
 use Rattle.quick.specs.Turns.{wentOn, heldAt, pccPlace, Stands, Turned}
@@ -35,3 +39,14 @@ abbrev pub BranchTurns : (start : ℕ) → BranchKind → (from other offset to 
 BranchTurns start kind from other offset to before after t =
     (rs1 rs2 m a n edition : ℕ) → (mem tags : List ℕ) → Stands before m a n → to ≡ wrap (a + n) → from ≡ rs1 % 16 * 3 → other ≡ rs2 % 16 * 3
     → Turned start n (jumpEffect n edition (Branch kind rs1 rs2 offset) before) (state before mem tags) (state after mem tags) t
+
+-- a target at which PCC keeps its word and its tag, and mstatus as it is
+pub record StaysAt (target : Capability) (mstatus : ℕ) (regs : List ℕ) : Type 0 where
+  pub is-tagged : target .tag ≡ 1
+  pub word-stays : target .metadata ≡ getD regs 49 0
+  pub status-stays : mstatus ≡ getD regs 63 0
+
+-- a jump by its effect, which stores nothing
+abbrev pub JumpTurns : Effect → (before after : List ℕ) → Took → Type 0
+JumpTurns e before after t =
+    (start m a n : ℕ) → (mem tags : List ℕ) → Stands before m a n → Storeless e → Turned start n e (state before mem tags) (state after mem tags) t

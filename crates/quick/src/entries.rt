@@ -1,5 +1,6 @@
 // Entries: the code that is kept, by slot. Its lengths, keys and operations are three arrays; a length of 0 is no entry.
 use crate::Found;
+use crate::Took;
 use capability::Capability;
 use instructions::Instruction;
 use operations::Operation;
@@ -10,17 +11,18 @@ use state::NO_CAUSE;
 use state::TARGET_ALIGNMENT;
 use std::num::wrapping_add_u32;
 ghost use mathlib.Core.Path.{_≡_};
+ghost use mathlib.Core.Bool.{true};
 ghost use Prim.Native.Nat.{_+_, _-_, _^_, _≤_, _<_};
 ghost use Rattle.quick.specs.Entries.{slots, slotOf, OpenIf, FoundIf, FirstLook, FoundAs, ReadyIf, ClearedUnless, clearedNear, forgotten};
 
 // How many entries there are.
-pub(crate) const SLOTS: usize = 1024;
+pub(crate) const SLOTS: usize = 2048;
 
 // The slot of an address.
 pub(crate) fn slot_of(address: u32) -> usize
     ensures { λ r. ⌜ (r ≡ slotOf address) × (r < slots) ⌝ }
 {
-    (address / 2 % 1024) as usize
+    (address / 2 % 2048) as usize
 }
 
 // Whether a fetch at PCC meets no fault, whichever length stands there.
@@ -88,7 +90,7 @@ pub(crate) fn look(missed: u32, pcc: Capability, start: u32, mem: &[u8]) -> Foun
 }
 
 // No entry left at the five slots around an address.
-fn clear_near(lens: &mut [u32; 1024], address: usize)
+fn clear_near(lens: &mut [u32; 2048], address: usize)
     requires { ⌜ address < 2 ^ 33 ⌝ }
     ensures { λ _. ⌜ now (lens .exit) ≡ clearedNear address (now (lens .entry)) ⌝ }
 {
@@ -101,7 +103,7 @@ fn clear_near(lens: &mut [u32; 1024], address: usize)
 }
 
 // The entries after width bytes are stored at a place.
-pub(crate) fn forget(lens: &mut [u32; 1024], low: u64, high: u64, start: u32, at: u32, width: u32)
+pub(crate) fn forget(lens: &mut [u32; 2048], low: u64, high: u64, start: u32, at: u32, width: u32)
     ensures { λ _. ⌜ now (lens .exit) ≡ forgotten low high start at width (now (lens .entry)) ⌝ }
 {
     if width == 0 {
@@ -114,6 +116,16 @@ pub(crate) fn forget(lens: &mut [u32; 1024], low: u64, high: u64, start: u32, at
         return;
     }
     clear_near(lens, start as usize + at as usize);
+}
+
+// Whether a turn is done and stored nothing.
+pub(crate) fn is_silent(t: Took) -> bool
+    ensures { λ r. ⌜ (r ≡ true → (t .done ≡ true) × (t .width ≡ 0)) ⌝ }
+{
+    if !t.done {
+        return false;
+    }
+    t.width == 0
 }
 
 // The place of an address in memory.
@@ -150,8 +162,8 @@ pub(crate) fn key_of(base: u64, address: u32) -> u64
 pub(crate) fn is_ready(
     k: u32,
     limit: u32,
-    lens: &[u32; 1024],
-    keys: &[u64; 1024],
+    lens: &[u32; 2048],
+    keys: &[u64; 2048],
     i: usize,
     key: u64,
 ) -> bool
@@ -168,7 +180,7 @@ pub(crate) fn is_ready(
 }
 
 // No entry left after a step of which nothing is known, unless it trapped and so stored nothing.
-pub(crate) fn clear_unless(lens: &mut [u32; 1024], trapped: u32)
+pub(crate) fn clear_unless(lens: &mut [u32; 2048], trapped: u32)
     ensures { λ _. ⌜ ClearedUnless trapped (now (lens .entry)) (now (lens .exit)) ⌝ }
 {
     if trapped != 0 {

@@ -3,10 +3,12 @@ ghost use mathlib.Core.Path.{_≡_};
 ghost use Prim.Native.Nat.{_≤_};
 ghost use lib.ListN.{getD, length};
 ghost use Rattle.capability.specs.Capability.{integer};
-ghost use Rattle.integer_instructions.specs.Integer.{aluOf};
+ghost use Rattle.integer_instructions.specs.Integer.{aluOf, multipliedOf, dividedOf};
 ghost use Rattle.quick.specs.Turns.{wentOn, writtenAt};
 use crate::registers;
 use instructions::Alu;
+use instructions::DivideKind;
+use instructions::MultiplyKind;
 use std::num::wrapping_add_u32;
 
 // LUI.
@@ -46,4 +48,33 @@ pub(crate) fn two(op: Alu, at: u32, from: u32, other: u32, regs: &mut [u32], to:
     let a = registers::read(regs, from);
     let b = registers::read(regs, other);
     put(at, integer_instructions::alu(op, a, b), regs, to);
+}
+
+// MUL and its high halves.
+pub(crate) fn multiply(
+    kind: MultiplyKind,
+    at: u32,
+    from: u32,
+    other: u32,
+    regs: &mut [u32],
+    to: u32,
+)
+    requires { ⌜ (length (now regs) ≡ 72) × (at ≤ 45) × (from ≤ 45) × (other ≤ 45) ⌝ }
+    ensures { λ _. ⌜ now (regs .exit) ≡ wentOn to
+        (writtenAt at (integer (multipliedOf kind (getD (now (regs .entry)) from 0) (getD (now (regs .entry)) other 0))) (now (regs .entry))) ⌝ }
+{
+    let a = registers::read(regs, from);
+    let b = registers::read(regs, other);
+    put(at, integer_instructions::multiplied(kind, a, b), regs, to);
+}
+
+// DIV and REM.
+pub(crate) fn divide(kind: DivideKind, at: u32, from: u32, other: u32, regs: &mut [u32], to: u32)
+    requires { ⌜ (length (now regs) ≡ 72) × (at ≤ 45) × (from ≤ 45) × (other ≤ 45) ⌝ }
+    ensures { λ _. ⌜ now (regs .exit) ≡ wentOn to
+        (writtenAt at (integer (dividedOf kind (getD (now (regs .entry)) from 0) (getD (now (regs .entry)) other 0))) (now (regs .entry))) ⌝ }
+{
+    let a = registers::read(regs, from);
+    let b = registers::read(regs, other);
+    put(at, integer_instructions::divided(kind, a, b), regs, to);
 }

@@ -5,11 +5,11 @@ ghost use lib.ListN.{getD, length};
 ghost use Rattle.quick.specs.Entries.{Quiet, QuietUntil};
 
 // The places of PCC's metadata word and tag, of the status, of time and of compare, and the weight of a key's word.
-const WORD_PLACE: usize = 49;
+pub(crate) const WORD_PLACE: usize = 49;
 
 const TAG_PLACE: usize = 50;
 
-const STATUS_PLACE: usize = 63;
+pub(crate) const STATUS_PLACE: usize = 63;
 
 const TIME_PLACE: usize = 68;
 

@@ -16,20 +16,16 @@ pub(crate) const BASE_PLACE: usize = 67;
 
 pub(crate) const TIME_PLACE: usize = 68;
 
-pub(crate) const LARGEST_WORD: u32 = 0xFFFF_FFFF;
-
 // PCC at an address of the same word, and time one on.
 pub(crate) fn go_on(regs: &mut [u32], to: u32)
     requires { ⌜ length (now regs) ≡ 72 ⌝ }
     ensures { λ _. ⌜ now (regs .exit) ≡ wentOn to (now (regs .entry)) ⌝ }
 {
     regs[PCC_PLACE] = to;
-    let low = regs[TIME_PLACE];
-    if low == LARGEST_WORD {
-        regs[TIME_PLACE] = 0;
+    let low = wrapping_add_u32(regs[TIME_PLACE], 1);
+    regs[TIME_PLACE] = low;
+    if low == 0 {
         regs[TIME_PLACE + 1] = wrapping_add_u32(regs[TIME_PLACE + 1], 1);
-    } else {
-        regs[TIME_PLACE] = low + 1;
     }
 }
 

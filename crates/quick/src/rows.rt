@@ -1,7 +1,7 @@
 // The reach of registers, remembered: the bounds of an authority are decoded once and used again while its metadata word and the range of its address stay.
 ghost use mathlib.Core.Path.{_≡_};
 ghost use mathlib.Core.Bool.{true};
-ghost use Prim.Native.Nat.{_+_, _%_, _≤_};
+ghost use Prim.Native.Nat.{_+_, _%_, _^_, _≤_, _<_};
 ghost use Rattle.quick.specs.Rows.{rightOf, rowOfPcc, Good, InRow, ReachedIf};
 use capability::Capability;
 
@@ -84,6 +84,17 @@ fn fill(rows: &mut [u64; 99], i: usize, c: Capability, right: u32, start: u32, s
     rows[i + 2] = row_end(b.high, start as u64, size as u64);
 }
 
+// Whether a row has them for a capability that is tagged.
+pub(crate) fn has(rows: &[u64; 99], i: usize, c: Capability, address: u32, width: u32) -> bool
+    requires { ⌜ i ≤ rowOfPcc ⌝ }
+    ensures { λ r. ⌜ (r ≡ true → (c .tag ≡ 1) × (c .address < 2 ^ 32) × InRow (now (rows .entry)) i c address width) ⌝ }
+{
+    if c.tag != 1 {
+        return false;
+    }
+    in_row(rows, i, c, address, width)
+}
+
 // Whether width bytes at an address pass every check of an access through a capability and lie in memory; false also where the row is filled only now.
 pub(crate) fn reaches(
     rows: &mut [u64; 99],
@@ -98,12 +109,20 @@ pub(crate) fn reaches(
     requires { ⌜ (i ≤ rowOfPcc) × (i % 3 ≡ 0) × (right ≡ rightOf i) × Good start size (now rows) ⌝ }
     ensures { λ r. ⌜ Good start size (now (rows .exit)) × ReachedIf r right start size c address width ⌝ }
 {
-    if c.tag != 1 {
-        return false;
-    }
-    if in_row(rows, i, c, address, width) {
+    if has(rows, i, c, address, width) {
         return true;
     }
     fill(rows, i, c, right, start, size);
     false
+}
+
+// PCC's row, filled unless it is there.
+pub(crate) fn learn(rows: &mut [u64; 99], pcc: Capability, start: u32, size: usize)
+    requires { ⌜ Good start size (now rows) ⌝ }
+    ensures { λ _. ⌜ Good start size (now (rows .exit)) ⌝ }
+{
+    if in_row(rows, ROW_OF_PCC, pcc, pcc.address, 0) {
+        return;
+    }
+    fill(rows, ROW_OF_PCC, pcc, metadata::EX, start, size);
 }

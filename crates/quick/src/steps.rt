@@ -4,6 +4,7 @@ use crate::entries::SLOTS;
 use crate::pace;
 use crate::registers;
 use crate::registers::PCC_PLACE;
+use crate::rows;
 use crate::rows::ROW_WORDS;
 use crate::turn;
 use machine::Tally;
@@ -66,13 +67,22 @@ pub(crate) fn take_quick(
             let op = code[i];
             let bytes = lens[i];
             let t = turn::turn(op, bytes, &mut rows, regs, board, mem, tags, revoked);
-            entries::forget(&mut lens, low, high, board.start, t.at, t.width);
             k += 1;
             missed = 0;
+            if entries::is_silent(t) {
+                continue;
+            }
+            entries::forget(&mut lens, low, high, board.start, t.at, t.width);
             if t.done {
                 watch = noted(watch, board.start, t.at, t.width);
                 continue;
             }
+            rows::learn(
+                &mut rows,
+                registers::read_capability(regs, 48),
+                board.start,
+                mem.len(),
+            );
             let p = machine::take_watched(regs, board, mem, tags, revoked, 1, watch);
             watch = p.watch;
             trapped += p.trapped;
@@ -95,7 +105,6 @@ pub(crate) fn take_quick(
             lens[i] = f.bytes;
             low = entries::smaller(low, at);
             high = entries::larger(high, at + 4);
-            limit = pace::limit_from(regs, k, n);
             missed = 1;
             continue;
         }

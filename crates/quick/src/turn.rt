@@ -11,12 +11,13 @@ use crate::capabilities;
 use crate::integers;
 use crate::jumps;
 use crate::memory;
+use crate::registers;
 use crate::registers::PCC_PLACE;
 use operations::Operation;
 use state::Board;
 use std::num::wrapping_add_u32;
 
-fn done() -> Took
+pub(crate) fn done() -> Took
     ensures { λ t. ⌜ t ≡ doneTurn ⌝ }
 {
     Took {
@@ -26,7 +27,7 @@ fn done() -> Took
     }
 }
 
-fn left() -> Took
+pub(crate) fn left() -> Took
     ensures { λ t. ⌜ t ≡ leftTurn ⌝ }
 {
     Took {
@@ -82,7 +83,33 @@ pub(crate) fn turn(
             integers::two(op, at, from, other, regs, to);
             done()
         }
+        Operation::Multiply {
+            kind,
+            at,
+            from,
+            other,
+        } => {
+            integers::multiply(kind, at, from, other, regs, to);
+            done()
+        }
+        Operation::Divide {
+            kind,
+            at,
+            from,
+            other,
+        } => {
+            integers::divide(kind, at, from, other, regs, to);
+            done()
+        }
         Operation::Go { offset } => jumps::take_go(offset, rows, regs, start, mem.len()),
+        Operation::JumpLink { rd, offset } => {
+            let e = jump_instructions::jal_again(bytes, board.edition, rd, offset, regs);
+            jumps::take_jump(e, regs)
+        }
+        Operation::JumpRegister { rd, rs1, offset } => {
+            let e = jump_instructions::jalr_again(bytes, board.edition, rd, rs1, offset, regs);
+            jumps::take_jump(e, regs)
+        }
         Operation::Branch {
             kind,
             from,
@@ -142,6 +169,18 @@ pub(crate) fn turn(
         }
         Operation::Copy { at, from } => {
             capabilities::copy(at, from, regs, to);
+            done()
+        }
+        Operation::SetAddress { at, from, other } => {
+            capabilities::set_address(at, from, other, regs, to);
+            done()
+        }
+        Operation::IncrementBy { at, from, other } => {
+            capabilities::increment_by(at, from, other, regs, to);
+            done()
+        }
+        Operation::Address { at, from } => {
+            integers::put(at, registers::read(regs, from), regs, to);
             done()
         }
     }

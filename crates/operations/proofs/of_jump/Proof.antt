@@ -14,7 +14,10 @@ of-jump-spec =
     (λ c κs. search needs)
     returns
     (λ c. search needs)
+    (λ c. search needs)
+    (λ c. search needs)
     (λ c κs. search needs)
     (λ c κs. search needs)
+    (λ c. search needs)
     (λ c. search needs)
     (λ c. search needs))

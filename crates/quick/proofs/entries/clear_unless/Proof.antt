@@ -1,3 +1,4 @@
+-- The loop keeps that every place passed is 0; a trap leaves all as they were.
 use mathlib.Core.List.{List, [], _∷_}
 use lib.Dec.{eqb}
 use lib.ListN.{set}
@@ -27,10 +28,10 @@ put-less l i j p q =
     (λ f. getD-set-other l i j 0 0 (λ e. eqb-false j i f e) ∙ p j (omega (arith, q, eqb-false j i f)))
 
 abbrev Inv-loop : tie.InvT-loop
-Inv-loop lens₀ trapped i₀ lens i = (i ≤ 1024) × ((j : ℕ) → j < i → getD lens j 0 ≡ 0)
+Inv-loop lens₀ trapped i₀ lens i = (i ≤ 2048) × ((j : ℕ) → j < i → getD lens j 0 ≡ 0)
 
 abbrev μ-loop : tie.MeasureT-loop
-μ-loop lens₀ trapped i₀ lens i = 1024 - i
+μ-loop lens₀ trapped i₀ lens i = 2048 - i
 
 -- src/entries.rt:128:9
 returns : tie.Need-returns Inv-loop μ-loop

@@ -1,3 +1,4 @@
+-- No width, or bytes wholly below or above the hull, clear nothing; any other store clears around its address.
 use Prim.Native.Nat.{_+_}
 use borrow.Author.Tests.{eqb-true, eqb-false, eq-eqb, ne-eqb, le-ltb, lt-ltb, not-false}
 use mathlib.Core.Path.{_≡_, refl, sym, ap, _∙_}

@@ -1,3 +1,4 @@
+-- Two refusals say nothing; past them the step is below the limit, the length not 0, and the key compared.
 use native.Mathlib.Omega.{arith}
 use mathlib.Core.Path.{sym}
 use mathlib.Core.Bool.{true≢false}

@@ -1,3 +1,4 @@
+-- An absent answer promises nothing; past `is_open` the four bytes are in memory and stand as a long word or a half.
 use native.Mathlib.Omega.{arith}
 use borrow.Author.Tests.{not-false}
 use Rattle.quick.proofs.Look as laws

@@ -1,3 +1,4 @@
+-- Where the moved PCC keeps its tag it is itself after the instruction, which is what is found; else an absent answer.
 use Prim.Native.Nat.{_+_}
 use Rattle.words.specs.Words.{wrap}
 use Rattle.capability.specs.declared.Capability.{Capability}

@@ -1,15 +1,20 @@
--- What reaches promises, where it is true; else nothing was done.
+-- Where PCC's row has the target it is reached; else nothing was done.
 use mathlib.Core.Path.{refl}
+use native.Mathlib.Omega.{arith}
+use Rattle.quick.proofs.Reach.{reached}
 use borrow.Author.Needs.{needs}
 use Rattle.quick.proofs.jumps.go_to.Statement.{statement}
 use Rattle.quick.proofs.jumps.go_to.Tie as tie
 
 returns-2 : tie.Need-returns-2
 returns-2 c =
-    let reach = c .before .before .before .before .before in
-    let held = reach .before .before in
-    let there = reach .reaches .ensures .1 (c .before .before .before .before .if2 .taken) in
-    (reach .reaches .ensures .0, ((c .before .before .go-on .ensures, held .before .before .if1 .left, rw (held .read-capability .ensures) at there), refl))
+    let test = c .before .before .before .before in
+    let held = test .before .before in
+    let start = held .before .before .before .before in
+    let there = rw (held .read-capability .ensures) at (test .before .has .ensures (test .if2 .taken)) in
+    let reach = reached _ _ _ 96 _ _ _ (start .pre .1) (omega arith) refl (there .0) (there .1) (omega (arith, start .fits .to))
+    (there .2) in
+    ((c .before .before .go-on .ensures, held .before .before .if1 .left, reach), refl)
 
 pub go-to-spec : {M : Type 1} → statement M
 go-to-spec =

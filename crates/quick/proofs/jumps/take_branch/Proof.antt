@@ -8,17 +8,16 @@ use Rattle.quick.proofs.jumps.take_branch.Tie as tie
 returns : tie.Need-returns
 returns c =
     let call = c .before .before in
-    let sum = call .before .before .before in
+    let sum = call .before .before in
     let test = sum .before .before in
     let reads = test .before in
     let start = reads .before .before .before .before .before .before in
     let takes = rw (reads .is-taken .ensures, reads .before .read2 .ensures, reads .before .before .before .read .ensures) at (test .if1 .taken) in (
-      call .go-to .ensures .0,
       branch-turned (start .args .regs .now) (call .go-to .last .1 .0) (start .args .start) (start .args .size) (start .args .offset)
           (sum .wrapping-add-u32 .result) (call .go-to .result) (sum .wrapping-add-u32 .ensures)
-          (call .go-to .ensures .1) (start .args .kind) (start .args .from) (start .args .other) (start .args .to) takes,
+          (call .go-to .ensures) (start .args .kind) (start .args .from) (start .args .other) (start .args .to) takes,
       went-steady (start .args .regs .now) (call .go-to .last .1 .0) (start .args .start) (start .args .size) (sum .wrapping-add-u32 .result)
-          (call .go-to .result) (start .pre .0) (call .go-to .ensures .1),
+          (call .go-to .result) (start .pre .0) (call .go-to .ensures),
     )
 
 returns-2 : tie.Need-returns-2
@@ -28,7 +27,6 @@ returns-2 c =
     let reads = test .before in
     let start = reads .before .before .before .before .before .before in
     let passes = rw (reads .is-taken .ensures, reads .before .read2 .ensures, reads .before .before .before .read .ensures) at (test .if1 .left) in (
-      start .pre .3,
       rw (call .go-on .ensures)
           (branch-passed (start .args .regs .now) (start .args .start) (start .args .offset) (start .args .to) (start .args .kind) (start .args .from)
           (start .args .other) passes),

@@ -8,13 +8,12 @@ use Rattle.quick.proofs.jumps.take_go.Tie as tie
 returns : tie.Need-returns
 returns c =
     let call = c .before .before in
-    let sum = call .before .before .before in
+    let sum = call .before .before in
     let start = sum .before .before .before in (
-      call .go-to .ensures .0,
       go-turned (start .args .regs .now) (call .go-to .last .1 .0) (start .args .start) (start .args .size) (start .args .offset)
-          (sum .wrapping-add-u32 .result) (call .go-to .result) (sum .wrapping-add-u32 .ensures) (call .go-to .ensures .1),
+          (sum .wrapping-add-u32 .result) (call .go-to .result) (sum .wrapping-add-u32 .ensures) (call .go-to .ensures),
       went-steady (start .args .regs .now) (call .go-to .last .1 .0) (start .args .start) (start .args .size) (sum .wrapping-add-u32 .result)
-          (call .go-to .result) (start .pre .0) (call .go-to .ensures .1),
+          (call .go-to .result) (start .pre .0) (call .go-to .ensures),
     )
 
 pub take-go-spec : {M : Type 1} → statement M

@@ -1,3 +1,4 @@
+-- A tag that is not set is left: putting 0 where 0 is changes nothing.
 use Rattle.quick.proofs.Accesses.{bit-unset}
 use borrow.Author.Needs.{needs}
 use Rattle.quick.proofs.memory.clear_tag.Statement.{statement}

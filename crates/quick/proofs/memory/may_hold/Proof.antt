@@ -1,3 +1,4 @@
+-- Three ways to pass, a law each: untagged, global under MC, local under MC and SL.
 use Rattle.quick.proofs.Accesses.{may-untagged, may-global, may-local}
 use Rattle.quick.proofs.Reach.{passed}
 use mathlib.Core.Bool.{true≢false}

@@ -1,3 +1,4 @@
+-- An arm a kind: the store of one, two or four bytes is that kind's.
 use borrow.Author.Needs.{needs}
 use Rattle.quick.proofs.memory.put_small.Statement.{statement}
 use Rattle.quick.proofs.memory.put_small.Tie as tie

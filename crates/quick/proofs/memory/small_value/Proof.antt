@@ -1,3 +1,4 @@
+-- Five kinds, each its load of bytes, LB and LH extended: the plain machine's value.
 use Rattle.memory_instructions.specs.Access.{loadedValue}
 use borrow.Author.Needs.{needs}
 use Rattle.quick.proofs.memory.small_value.Statement.{statement}

@@ -1,3 +1,4 @@
+-- Misaligned or out of reach nothing is done; else what the plain step's checks let through is loaded, filtered and written.
 use Rattle.quick.proofs.Accesses.{load-capability-stays, load-capability-done}
 use Rattle.quick.proofs.Reach.{passed, right-load}
 use native.Mathlib.Omega.{arith}

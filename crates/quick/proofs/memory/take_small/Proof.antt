@@ -1,3 +1,4 @@
+-- Misaligned or out of reach nothing is done; else one or two bytes at the place, by their kind, are written.
 use Rattle.quick.proofs.Accesses.{load-stays, load-done}
 use Rattle.quick.proofs.Reach.{passed, right-load}
 use native.Mathlib.Omega.{arith}

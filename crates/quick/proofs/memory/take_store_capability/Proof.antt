@@ -1,3 +1,4 @@
+-- Misaligned, not to be held or out of reach the store is left; else the plain store is done, the mark set, PCC goes on.
 use Rattle.quick.proofs.Onward.{long-marked}
 use lib.ListN.{length}
 use Prim.Native.Nat.{ℕ}

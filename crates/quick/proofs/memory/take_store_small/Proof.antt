@@ -1,3 +1,4 @@
+-- Misaligned or out of reach the store is left with its width; else its bytes are put, the tag cleared, the mark set, then on.
 use Rattle.quick.proofs.Onward.{long-marked}
 use lib.ListN.{length}
 use Prim.Native.Nat.{ℕ}

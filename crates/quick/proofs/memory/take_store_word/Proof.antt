@@ -1,3 +1,4 @@
+-- As a small store with the width known to be 4: left, or four bytes put, the tag cleared, the mark set, then on.
 use Rattle.quick.proofs.Accesses.{store-stays, store-done}
 use Rattle.quick.proofs.Reach.{passed, right-store}
 use native.Mathlib.Omega.{arith}

@@ -1,3 +1,4 @@
+-- Misaligned or out of reach nothing is done; else the four bytes at the place are the loaded value, and written.
 use Rattle.memory_instructions.specs.Access.{loadedValue}
 use Rattle.quick.proofs.Accesses.{load-stays, load-done}
 use Rattle.quick.proofs.Reach.{passed, right-load}

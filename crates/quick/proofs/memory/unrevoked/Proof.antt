@@ -1,3 +1,4 @@
+-- What has no tag is kept either way; a tagged one by what the revocation test answered.
 use Rattle.quick.proofs.Accesses.{untagged-kept}
 use mathlib.Core.Path.{refl, sym, _∙_}
 use borrow.Author.Needs.{needs}

@@ -1,3 +1,4 @@
+-- Without PCC's tag the limit 0 promises nothing; else k plus the quiet steps is just so many past k.
 use native.Mathlib.Omega.{arith}
 use mathlib.Core.Path.{_≡_}
 use mathlib.Core.List.{List}

@@ -1,3 +1,4 @@
+-- Interrupts off, no step at all, or steps that do not pass compare: each way out is one case of Quiet.
 use native.Mathlib.Omega.{arith}
 use mathlib.Core.Path.{_≡_, refl, sym, _∙_}
 use mathlib.Core.Logic.{inl, inr}

@@ -1,3 +1,4 @@
+-- Every refusal leaves the rows; a row written past all of them has the bounds read, cut to memory, and is good.
 use Rattle.quick.proofs.Reach.{passed, row-filled, good-put}
 use Rattle.bounds.specs.declared.Region.{Region}
 use native.Mathlib.Omega.{arith}

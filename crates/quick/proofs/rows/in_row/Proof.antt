@@ -1,3 +1,4 @@
+-- Four refusals say nothing; past them the row's word and range are as compared.
 use mathlib.Core.Bool.{true≢false}
 use mathlib.Core.Path.{sym}
 use borrow.Author.Needs.{needs}

@@ -1,3 +1,4 @@
+-- No width notes nothing; else the record is touched at the wrapped address.
 use Prim.Native.Nat.{ℕ}
 use mathlib.Core.Path.{refl, ap, _∙_}
 use borrow.Author.Tests.{eq-eqb, ne-eqb}
