@@ -7,8 +7,8 @@
  *
  *   libraries: `rt staticlib label` has the first six functions (target/staticlib/liblabel.a),
  *   `rt staticlib call_lists` oddersnow_calls (target/staticlib/libcall_lists.a), `rt staticlib bench_api`
- *   oddersnow_step, oddersnow_run, oddersnow_run_watched and oddersnow_sweep (target/staticlib/libbench_api.a), `rt staticlib sheet_api` the
- *   functions about sheets (target/staticlib/libsheet_api.a), `rt staticlib listing_api` oddersnow_list and
+ *   oddersnow_step, oddersnow_run, oddersnow_run_watched, oddersnow_run_quick and oddersnow_sweep (target/staticlib/libbench_api.a),
+ *   `rt staticlib sheet_api` the functions about sheets (target/staticlib/libsheet_api.a), `rt staticlib listing_api` oddersnow_list and
  *   oddersnow_assemble (target/staticlib/liblisting_api.a). A program may link all of them.
  */
 #ifndef ODDERSNOW_H
@@ -107,6 +107,17 @@ uint64_t oddersnow_run_watched(uint32_t *regs, size_t regs_len, uint32_t start,
                                uint32_t edition, uint32_t steps,
                                uint32_t start1, uint32_t length1, uint32_t *count1,
                                uint32_t start2, uint32_t length2, uint32_t *count2);
+
+/* The same run by the second engine, which decodes straight code once and keeps it until a store touches it: for every start and every
+ * number of steps it answers as oddersnow_run_watched does and leaves the same registers, memory, tags and counts, also where code changes
+ * itself. Long runs take less time; nothing is kept from one call to the next. It needs less than 64 KiB of stack.
+ */
+uint64_t oddersnow_run_quick(uint32_t *regs, size_t regs_len, uint32_t start,
+                             uint8_t *mem, size_t mem_len, uint8_t *tags, size_t tags_len,
+                             uint32_t window_start, uint32_t window_size, const uint8_t *revoked, size_t revoked_len,
+                             uint32_t edition, uint32_t steps,
+                             uint32_t start1, uint32_t length1, uint32_t *count1,
+                             uint32_t start2, uint32_t length2, uint32_t *count2);
 
 /* The sweeper: one granule of 8 bytes a call, by its number from 0. Lent are memory, tags, window and revocation bits as for a
  * step; memory is only read, and no registers are lent: they are not swept. The granule's tag is cleared where the load filter

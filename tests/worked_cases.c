@@ -67,8 +67,9 @@ static void pass(void)
     check("a number with no granule is refusal 9", answer == (uint64_t)9 << 48);
 }
 
-/* SW x0, 60(x1) and a jump back to it, 60 bytes from the end of the address space: ranges at the ends of the store, and past 2^32. */
-static void watched(void)
+/* SW x0, 60(x1) and a jump back to it, 60 bytes from the end of the address space, by either engine: ranges at the ends of the store, and past
+ * 2^32. */
+static void watched(__typeof__(oddersnow_run_watched) *run)
 {
     uint32_t regs[72] = {0}, code[2] = {0x0200AE23, 0xFFDFF06F}, first = 0, second = 0xFFFFFFFE;
     uint32_t at = 0xFFFFFFC0, bytes = 0xFFFFFFFC;
@@ -77,14 +78,14 @@ static void watched(void)
     memcpy(mem, code, sizeof code);
     regs[3] = at, regs[4] = 0x7E3E0000, regs[5] = 1;
     regs[48] = at, regs[49] = 0x5E3E0000, regs[50] = 1;
-    answer = oddersnow_run_watched(regs, 72, at, mem, 64, tags, 1, 0, 64, revoked, 1, 0, 10, bytes - 4, 5, &first, bytes + 3, 0xFFFFFFFF, &second);
-    check("a run with a watch record answers as a run", answer == 10);
-    check("each store counts for a range that ends at its first byte", first == 5);
+    answer = run(regs, 72, at, mem, 64, tags, 1, 0, 64, revoked, 1, 0, 300, bytes - 4, 5, &first, bytes + 3, 0xFFFFFFFF, &second);
+    check("a run with a watch record answers as a run", answer == 300);
+    check("each store counts for a range that ends at its first byte", first == 150);
     check("and for one that runs from its last byte past 2^32, up to the last count", second == 0xFFFFFFFF);
-    answer = oddersnow_run_watched(regs, 72, at, mem, 64, tags, 1, 0, 64, revoked, 1, 0, 10, bytes, 0, &first, bytes - 4, 4, &second);
-    check("an empty range and one that ends before it stay", answer == 10 && first == 5 && second == 0xFFFFFFFF);
-    answer = oddersnow_run_watched(regs, 72, at, mem, 64, tags, 1, 0, 64, revoked, 1, 2, 10, bytes, 4, &first, bytes, 4, &second);
-    check("a refused run leaves the counts", oddersnow_number(answer) == 7 && first == 5 && second == 0xFFFFFFFF);
+    answer = run(regs, 72, at, mem, 64, tags, 1, 0, 64, revoked, 1, 0, 300, bytes, 0, &first, bytes - 4, 4, &second);
+    check("an empty range and one that ends before it stay", answer == 300 && first == 150 && second == 0xFFFFFFFF);
+    answer = run(regs, 72, at, mem, 64, tags, 1, 0, 64, revoked, 1, 2, 300, bytes, 4, &first, bytes, 4, &second);
+    check("a refused run leaves the counts", oddersnow_number(answer) == 7 && first == 150 && second == 0xFFFFFFFF);
 }
 
 int main(void)
@@ -94,6 +95,7 @@ int main(void)
     check("a move to 0x20000000 clears it", tag_after_move(0x20000000) == 0);
     last_instruction();
     pass();
-    watched();
+    watched(oddersnow_run_watched);
+    watched(oddersnow_run_quick);
     return failed;
 }

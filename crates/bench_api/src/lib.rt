@@ -1,4 +1,4 @@
-// A step, a run, a run with a watch record and the sweeper for C: slices and numbers, the answer packed into one number.
+// A step, a run, a run with a watch record by each engine and the sweeper for C: slices and numbers, the answer packed into one number.
 ghost use mathlib.Core.Path.{_≡_};
 ghost use Prim.Native.Nat.{_<_, _≤_, _^_};
 ghost use Rattle.state.specs.Lent.{state, reportEdition};
@@ -205,6 +205,48 @@ pub extern "C" fn oddersnow_run_watched(
     let left = done.watch;
     *count1 = left.first.count;
     *count2 = left.second.count;
+    let a = done.answer;
+    pack(run_number(a), run_trapped(a), run_retired(a))
+}
+
+// The same run by the second engine: the same answer, buffers and counts.
+#[no_mangle]
+pub extern "C" fn oddersnow_run_quick(
+    regs: &mut [u32],
+    start: u32,
+    mem: &mut [u8],
+    tags: &mut [u8],
+    window_start: u32,
+    window_size: u32,
+    revoked: &[u8],
+    edition: u32,
+    steps: u32,
+    start1: u32,
+    length1: u32,
+    count1: &mut u32,
+    start2: u32,
+    length2: u32,
+    count2: &mut u32,
+) -> u64
+    ensures { λ r. ⌜ WatchPacked steps (boardOf start «window_start» «window_size» edition) (now (revoked .entry))
+        (state (now (regs .entry)) (now (mem .entry)) (now (tags .entry))) (state (now (regs .exit)) (now (mem .exit)) (now (tags .exit)))
+        (watchOf start1 length1 (now (count1 .entry)) start2 length2 (now (count2 .entry))) (now (count1 .exit)) (now (count2 .exit)) r ⌝ }
+{
+    let board = Board {
+        start,
+        window: Window {
+            start: window_start,
+            size: window_size,
+        },
+        edition,
+    };
+    let first = *count1;
+    let second = *count2;
+    let w = watch_of(start1, length1, first, start2, length2, second);
+    let done = quick::run_quick(regs, board, mem, tags, revoked, steps, w);
+    let after = done.watch;
+    *count1 = after.first.count;
+    *count2 = after.second.count;
     let a = done.answer;
     pack(run_number(a), run_trapped(a), run_retired(a))
 }

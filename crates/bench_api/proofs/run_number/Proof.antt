@@ -1,3 +1,4 @@
+-- A run that ran has number 0, and a refusal its own: the answer's case says which.
 use borrow.Author.Needs.{needs}
 use Rattle.bench_api.proofs.run_number.Statement.{statement}
 use Rattle.bench_api.proofs.run_number.Tie as tie

@@ -1,3 +1,4 @@
+-- Of the three answers the first alone counts 1: each is the definition's clause.
 use borrow.Author.Needs.{needs}
 use Rattle.bench_api.proofs.step_retired.Statement.{statement}
 use Rattle.bench_api.proofs.step_retired.Tie as tie
