@@ -1,9 +1,10 @@
 #!/usr/bin/env bash
-# The speed programs: every step retires on both machines, and the proved machine needs no more of the
-# host's instructions for a step than the second program, and for one of the integer program by short words
-# at most a quarter more than by long ones. The bounds lookup: the proved routine needs no
-# more than the second program's and than the tuned one. Map sheets: the proved reader and writer need no more
-# for a byte than the second program's. The lister and the assembler need few enough for 20 million bytes of
+# The speed programs: every step retires on both proved engines and on the second program. The plain engine needs no more of
+# the host's instructions for a step than the second program, and for one of the integer program by short words at most a
+# quarter more than by long ones; the quick engine needs at most half of the plain one's on integer, memory and bounded, at
+# most a tenth more for code that changes itself, and at most twice for a run of one step. The bounds lookup: the proved
+# routine needs no more than the second program's and than the tuned one. Map sheets: the proved reader and writer need no
+# more for a byte than the second program's. The lister and the assembler need few enough for 20 million bytes of
 # code or text a second. Callgrind counts them, so that what else the computer does changes nothing. By time,
 # sheets are read and written at 50 MB a second or more, and memory without tags is swept at 20 million granules
 # a second or more. The proved libraries are built by rt, or lie in the directory that ODDERSNOW_STATICLIB names.
@@ -12,7 +13,7 @@ source "$(dirname "$0")/lib/check.sh"
 each=1000000
 
 build() { (cd host && cargo build --offline --release -p speed); }
-count() { # WORDS..: writes the host's instructions for each step, lookup or byte; the program itself asserts that every step retires
+count() { # WORDS..: writes the host's instructions for each lookup or byte
   local file
   file=$(printf '.%s' "$@")
   valgrind --tool=callgrind --callgrind-out-file=/dev/null host/target/release/speed "$@" 1 >"$work/out" 2>&1 || return 1
@@ -32,18 +33,57 @@ at_least() { # MB: every rate of the proved library in the table of sheets, of w
 check "the proved libraries" library bench_api label sheet_api listing_api
 check "the speed program builds" build
 check "valgrind is here" need valgrind valgrind
-for program in integer short memory capability bounded multiply; do
-  for engine in proved second; do
-    check "every step of $program retires ($engine)" count "$engine" "$program"
-    echo "$engine, $program: $(cat "$work/count.$engine.$program") instructions a step"
-  done
-  check "the proved machine takes no more instructions for $program" no_more ".proved.$program" ".second.$program"
-done
-a_quarter_more() { # COUNT COUNT
-  local left right
-  left=$(cat "$work/count$1") && right=$(cat "$work/count$2") && [ $((4 * left)) -le $((5 * right)) ]
+
+# Instructions a step of an engine, in hundredths: those of some thousand steps less those of none.
+thousands=200
+collect() { # ENGINE PROGRAM THOUSANDS
+  valgrind --tool=callgrind --callgrind-out-file=/dev/null host/target/release/speed "$@" >"$work/out" 2>&1 || return 1
+  sed -n 's/.*Collected : //p' "$work/out"
 }
-check "short words take at most a quarter more than long ones" a_quarter_more .proved.short .proved.integer
+steps() { # ENGINE PROGRAM NAME
+  local none some
+  none=$(collect "$1" "$2" 0) && some=$(collect "$1" "$2" "$thousands") || return 1
+  [ -n "$none" ] && [ -n "$some" ] && echo $(((some - none) / (10 * thousands))) >"$work/count.$1.$3"
+}
+at_most() { # PERCENT COUNT COUNT: the first is at most so many hundredths of the second
+  local left right
+  left=$(cat "$work/count$2") && right=$(cat "$work/count$3") && [ $((100 * left)) -le $(($1 * right)) ]
+}
+engines() { # PROGRAM NAME: every engine's, and a line of a table of them
+  local engine line="| $2 |"
+  for engine in plain quick second; do
+    check "every step of $2 retires ($engine)" steps "$engine" "$1" "$2"
+    line+=$(awk '{ printf " %.1f |", $1 / 100 }' "$work/count.$engine.$2")
+  done
+  echo "$line"
+}
+
+# Code of others: routines of GCC's library, without compressed code and with it, and the demonstration on its large board.
+routines() { # ARCHITECTURE
+  need riscv64-unknown-elf-objcopy binutils-riscv64-unknown-elf && need riscv64-unknown-elf-gcc gcc-riscv64-unknown-elf || return 1
+  riscv64-unknown-elf-gcc -march="$1" -mabi=ilp32e -nostdlib -Wl,-Ttext=0x20000000 -o "$work/$1.elf" host/speed/routines.S -lgcc &&
+    riscv64-unknown-elf-objcopy -O binary -j .text "$work/$1.elf" "$work/$1.bin"
+}
+demonstration() {
+  { grep -v '^:00000001FF' examples/interlock_large.hex && cat examples/interlock_image.hex; } >"$work/demonstration.hex" &&
+    objcopy -I ihex -O binary "$work/demonstration.hex" "$work/demonstration.bin"
+}
+
+echo "| Instructions a step | plain | quick | second |"
+for program in integer short memory capability bounded multiply calls far shared blocks self; do engines "$program" "$program"; done
+check "routines of GCC's library are linked" routines rv32e && engines "$work/rv32e.bin" routines
+check "routines of GCC's library with compressed code are linked" routines rv32emac && engines "$work/rv32emac.bin" routines-short
+check "the demonstration's code" demonstration && engines "$work/demonstration.bin:600" demonstration
+engines integer:1 one-step
+for program in integer short memory capability bounded multiply; do
+  check "the plain engine takes no more instructions for $program than the second program" at_most 100 ".plain.$program" ".second.$program"
+done
+check "short words take at most a quarter more than long ones" at_most 125 .plain.short .plain.integer
+for program in integer memory bounded; do
+  check "the quick engine takes at most half of the plain one's instructions for $program" at_most 50 ".quick.$program" ".plain.$program"
+done
+check "the quick engine takes at most a tenth more for code that changes itself" at_most 110 .quick.self .plain.self
+check "a run of one step takes at most twice by the quick engine" at_most 200 .quick.one-step .plain.one-step
 for kind in random whole exponent4 small; do
   for routine in proved second tuned; do
     check "lookups of $kind words ($routine)" count lookup "$routine" "$kind"

@@ -37,6 +37,7 @@ struct Mutant {
 
 fn main() -> Result<(), Box<dyn Error>> {
     println!("cargo::rerun-if-changed=mutants.txt");
+    println!("cargo::rerun-if-changed=engine.rs");
     println!("cargo::rerun-if-changed=../../second/src");
     let out = PathBuf::from(env::var("OUT_DIR")?);
     let mutants = read(&fs::read_to_string("mutants.txt")?)?;
@@ -46,6 +47,9 @@ fn main() -> Result<(), Box<dyn Error>> {
         // The copy is compiled without the second program's own tests.
         sources.insert(name, text.replace("#[cfg(test)]\nmod tests;\n", ""));
     }
+    // The engine needs what the machine keeps to itself.
+    let machine = sources.get_mut("machine").ok_or("no machine")?;
+    machine.push_str(&fs::read_to_string("engine.rs")?);
     for (index, mutant) in mutants.iter().enumerate() {
         let file = mutant.file.as_str();
         let source = sources.get_mut(file).ok_or(format!("no source {file}"))?;

@@ -38,7 +38,7 @@ fn integer_register(random: &mut Random) -> u32 {
 }
 
 /// A word of a program: its registers chosen by what they are for, its offsets short.
-fn word(random: &mut Random, row: &Row) -> u32 {
+pub fn word(random: &mut Random, row: &Row) -> u32 {
     let rd = if row.can(Outcome::Tagged) {
         capability_register(random)
     } else {

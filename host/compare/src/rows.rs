@@ -204,6 +204,12 @@ impl Table {
         &self.rows[class[random.below(class.len() as u32) as usize]]
     }
 
+    /// The row of a name that is one.
+    pub fn named(&self, name: &str) -> &Row {
+        let found = self.rows.iter().find(|row| row.name == name);
+        found.unwrap_or_else(|| panic!("no row {name}"))
+    }
+
     /// The number of the row that a word is of.
     pub fn find(&self, word: u32) -> Option<usize> {
         self.rows.iter().position(|row| row.fits(word))

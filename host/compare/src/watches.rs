@@ -64,7 +64,7 @@ impl Totals {
 }
 
 /// The address and the size of the store that the next word is, if it is one.
-fn next_store(state: &State) -> Option<(u32, u32)> {
+pub fn next_store(state: &State) -> Option<(u32, u32)> {
     let word = state.instruction(state.capability(PCC).address)?;
     let (cs1, offset, size) = match instruction(word)? {
         Instruction::Store {
@@ -82,7 +82,7 @@ fn next_store(state: &State) -> Option<(u32, u32)> {
 }
 
 /// A range by a store, or anywhere in the state's memory or out of it.
-fn range(random: &mut Random, state: &State, store: Option<(u32, u32)>) -> Range {
+pub fn range(random: &mut Random, state: &State, store: Option<(u32, u32)>) -> Range {
     let any = random.word();
     let count = random.pick([0, 0, 1, u32::MAX - 1, u32::MAX, any]);
     let inside = state
@@ -134,7 +134,8 @@ fn places(range: Range, address: u32, size: u32) -> [bool; PLACES.len()] {
     ]
 }
 
-fn is_touched(range: Range, address: u32, size: u32) -> bool {
+/// Whether a store has a byte in a range.
+pub fn is_touched(range: Range, address: u32, size: u32) -> bool {
     let (start, end) = (u64::from(range.start), range.end());
     (0..u64::from(size)).any(|byte| (start..end).contains(&(u64::from(address) + byte)))
 }

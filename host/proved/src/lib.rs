@@ -156,6 +156,11 @@ watched_function! {
     run_watched is oddersnow_run_watched
 }
 
+watched_function! {
+    /// The same run by the second engine: the same answer, buffers and record.
+    run_quick is oddersnow_run_quick
+}
+
 // SAFETY: declared as in include/oddersnow.h.
 unsafe extern "C" {
     fn oddersnow_sweep(

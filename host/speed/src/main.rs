@@ -1,10 +1,13 @@
-//! Steps a second of the proved machine and of the second program on long programs, in one process,
+//! Steps a second of both proved engines and of the second program on long programs, in one process,
 //! lookups of bounds by the proved routine and by plain ones, map sheets read and written by both,
 //! bytes a second of lister and assembler, and granules a second of the sweeper.
 //!
-//!   speed                      all programs on both, with their ratio
-//!   speed ENGINE PROGRAM STEPS one run and no times, for an instruction count by callgrind;
-//!                              ENGINE is proved or second, STEPS a number of millions
+//!   speed [PROGRAM ..]         all programs by name and those given on the three, with ratios. A program is a name or
+//!                              a FILE of raw code, run from its first byte; after it may stand :CALL, the steps of one
+//!                              call, a million if it does not, and at each a file then starts again
+//!   speed ENGINE PROGRAM THOUSANDS
+//!                              so many thousands of steps and no times, for an instruction count by callgrind;
+//!                              ENGINE is plain, quick or second
 //!   speed lookup               every routine on words of every kind, with their ratios
 //!   speed lookup ROUTINE KIND LOOKUPS
 //!                              lookups by one routine and no times; ROUTINE is proved, second or tuned,
@@ -24,66 +27,14 @@
 
 mod listing;
 mod lookup;
+mod machine;
 mod programs;
 mod sheets;
 mod sweep;
 
-use lent::{Run, MOST_STEPS};
-use programs::{ready, NAMES};
-use std::time::Instant;
-
-/// Runs of one timing, and how many timings of each are tried, turn by turn: the best counts.
-const RUNS: u32 = 10;
-const TRIES: u32 = 10;
-
-/// Makes some runs of a million steps; every step must retire.
-fn run(engine: Run, program: &str, runs: u32) {
-    let mut state = ready(program).unwrap_or_else(|| panic!("no program {program}"));
-    for _ in 0..runs {
-        let answer = state.run(engine, MOST_STEPS);
-        assert_eq!(answer, MOST_STEPS.into(), "{program}: a step trapped");
-    }
-}
-
-/// Millions of steps a second.
-fn measure(engine: Run, program: &str) -> f64 {
-    let begin = Instant::now();
-    run(engine, program, RUNS);
-    f64::from(RUNS) / begin.elapsed().as_secs_f64()
-}
-
-/// The best of some tries of each machine, by turns, so that what else the computer does meets both.
-fn best(program: &str) -> (f64, f64) {
-    (0..TRIES).fold((0.0, 0.0), |(proved, second): (f64, f64), _| {
-        let now = measure(proved::run, program);
-        (proved.max(now), second.max(measure(second::run, program)))
-    })
-}
-
-fn compare_all() {
-    println!("program     proved  second  ratio   (millions of steps a second)");
-    for program in NAMES {
-        let (proved, second) = best(program);
-        println!(
-            "{program:<10} {proved:>7.1} {second:>7.1} {:>6.2}",
-            proved / second
-        );
-    }
-}
-
-/// A machine by its name.
-fn engine(name: &str) -> Option<Run> {
-    match name {
-        "proved" => Some(proved::run),
-        "second" => Some(second::run),
-        _ => None,
-    }
-}
-
 /// Does what the command line asks for, if it asks for something that there is.
 fn asked(arguments: &[&str]) -> Option<()> {
     match arguments {
-        [] => compare_all(),
         ["lookup"] => lookup::compare_all(),
         ["lookup", name, kind, millions] => {
             let sum = lookup::run(lookup::routine(name)?, kind, millions.parse().ok()?)?;
@@ -106,8 +57,11 @@ fn asked(arguments: &[&str]) -> Option<()> {
         ["sweep", name, kind, passes] => {
             println!("{}", sweep::count(name, kind, passes.parse().ok()?)?);
         }
-        [name, program, millions] => run(engine(name)?, program, millions.parse().ok()?),
-        _ => return None,
+        [name, program, thousands] if machine::engine(name).is_some() => {
+            let steps = 1000 * thousands.parse::<u32>().ok()?;
+            machine::run(machine::engine(name)?, program, steps)?;
+        }
+        programs => machine::compare_all(programs)?,
     }
     Some(())
 }
@@ -116,6 +70,6 @@ fn main() {
     let arguments: Vec<String> = std::env::args().skip(1).collect();
     let arguments: Vec<&str> = arguments.iter().map(String::as_str).collect();
     asked(&arguments).expect(
-        "speed [[lookup ROUTINE KIND | sheets ROUTINE WAY REGIONS | ENGINE PROGRAM] MILLIONS | listing [ENGINE FUNCTION KIND ROUNDS] | sweep [ENGINE KIND PASSES]]",
+        "speed [PROGRAM .. | ENGINE PROGRAM THOUSANDS | [lookup ROUTINE KIND | sheets ROUTINE WAY REGIONS] MILLIONS | listing [ENGINE FUNCTION KIND ROUNDS] | sweep [ENGINE KIND PASSES]]",
     );
 }

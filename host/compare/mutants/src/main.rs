@@ -7,6 +7,7 @@ use compare::authority;
 use compare::conclude;
 use compare::cuts::{self, CutAnswer, Label};
 use compare::editions;
+use compare::engines;
 use compare::halves;
 use compare::images;
 use compare::instructions::table;
@@ -33,7 +34,7 @@ const RIGHT_CASES: u64 = 100_000;
 const STARTS: u64 = 100_000;
 const IDLE_STARTS: u64 = 1000;
 const RIGHT_STARTS: u64 = 10_000;
-/// The same for sheets, of which a case has many, for images and for the sweeper.
+/// The same for sheets, of which a case has many, for images, for the sweeper and for engines.
 const SHEETS_CASES: u64 = 20_000;
 const RIGHT_SHEETS: u64 = 2_000;
 const IMAGES_CASES: u64 = 100_000;
@@ -41,6 +42,24 @@ const RIGHT_IMAGES: u64 = 20_000;
 const SWEEP_CASES: u64 = 100_000;
 const RIGHT_SWEEPS: u64 = 20_000;
 const RIGHT_WATCHES: u64 = 20_000;
+const ENGINE_CASES: u64 = 50_000;
+const RIGHT_ENGINES: u64 = 10_000;
+
+/// The comparisons with which the copy with no edit on must agree.
+const RIGHT: [(&str, u64); 12] = [
+    ("cuts", RIGHT_CASES),
+    ("lists", RIGHT_CASES),
+    ("machine", RIGHT_CASES),
+    ("editions", RIGHT_CASES),
+    ("halves", RIGHT_CASES),
+    ("listing", RIGHT_CASES),
+    ("authority", RIGHT_STARTS),
+    ("sheets", RIGHT_SHEETS),
+    ("images", RIGHT_IMAGES),
+    ("sweep", RIGHT_SWEEPS),
+    ("watch", RIGHT_WATCHES),
+    ("engine", RIGHT_ENGINES),
+];
 
 fn cut(base: u32, length: u32) -> CutAnswer {
     let (number, low, high, exact) = match mutants::capability::cut(base, length) {
@@ -90,6 +109,8 @@ const LISTER: Lister = Lister {
 
 const WATCHED: (RunWatched, Run) = (mutants::machine::run_watched, mutants::machine::run);
 
+const ENGINES: &[RunWatched] = &[mutants::machine::run_kept];
+
 fn machine(state: &mut State, call: Call) -> u64 {
     call.on(state, mutants::machine::step, mutants::machine::run)
 }
@@ -120,6 +141,9 @@ fn told_apart(comparison: &str, table: &Table, seed: u64, cases: u64) -> Option<
         "watch" => watches::compare(WATCHED, table, seed, cases)
             .err()
             .map(|found| found.case),
+        "engine" => engines::compare(ENGINES, table, seed, cases.min(ENGINE_CASES))
+            .err()
+            .map(|found| found.case),
         "listing" => listing::compare(LISTER, seed, listing::CASES)
             .err()
             .map(|found| found.case),
@@ -136,16 +160,7 @@ fn told_apart(comparison: &str, table: &Table, seed: u64, cases: u64) -> Option<
 fn run(options: &Options) -> Result<String, String> {
     let table = table();
     let mut faults = Vec::new();
-    let right = ["cuts", "lists", "machine", "editions", "halves", "listing"];
-    let right = right.map(|comparison| (comparison, RIGHT_CASES));
-    let fewer = [
-        ("authority", RIGHT_STARTS),
-        ("sheets", RIGHT_SHEETS),
-        ("images", RIGHT_IMAGES),
-        ("sweep", RIGHT_SWEEPS),
-        ("watch", RIGHT_WATCHES),
-    ];
-    for (comparison, cases) in right.into_iter().chain(fewer) {
+    for (comparison, cases) in RIGHT {
         if let Some(case) = told_apart(comparison, &table, options.seed, cases) {
             faults.push(format!("no mutant: {comparison} differs at case {case}"));
         }
