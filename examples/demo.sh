@@ -1,19 +1,21 @@
 #!/usr/bin/env bash
-# The demonstration, as `./bench demo`: one image on two boards (examples/interlock.md).
+# The demonstration, as `./bench demo` or, of a package, examples/demo.sh: one image on two boards (examples/interlock.md).
 # Its exit status is 0 if the image's label fits the large board alone, and without the label the image ends on the
 # large board and is stopped on the small one.
 set -u
 cd "$(dirname "$0")/.." || exit 1
+bench=./bench
+[ -x "$bench" ] || bench=bench # as a package has it, on the path
 
 show() { # WORDS..: a command as it is typed, then what it writes
   printf '\n$ %s\n' "$*"
   "$@"
 }
 label() { # BOARD: the image's map sheet beside the board's
-  show ./bench fit "examples/interlock_$1.map" examples/interlock_image.img
+  show "$bench" fit "examples/interlock_$1.map" examples/interlock_image.img
 }
 board() { # NAME: the image on that board
-  show ./bench run --map "examples/interlock_$1.map" "examples/interlock_$1.hex" examples/interlock_image.hex
+  show "$bench" run --map "examples/interlock_$1.map" "examples/interlock_$1.hex" examples/interlock_image.hex
 }
 
 cat <<'TEXT'

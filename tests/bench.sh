@@ -67,6 +67,15 @@ round_trip() {
   done
 }
 
+# Which of the proved functions a run calls, by callgrind; the reports do not tell.
+by_engine() { # FUNCTION OTHER OPTION..: the one and not the other
+  need valgrind valgrind || return 1
+  local wanted=$1 other=$2
+  shift 2
+  (cd examples && valgrind --tool=callgrind --callgrind-out-file="$work/calls" ../host/bench/target/release/bench run "$@" \
+    --map interlock_large.map interlock_large.hex interlock_image.hex) && grep -q "$wanted" "$work/calls" && ! grep -q "$other" "$work/calls"
+}
+
 refuses() { # COMMAND..: status 2, and nothing on standard output; what it says is kept
   "$bench" "$@" >"$work/out" 2>"$work/err"
   [ $? -eq 2 ] && [ ! -s "$work/out" ]
@@ -195,6 +204,9 @@ check "bench cargo fmt" in_bench cargo fmt --check
 check "bench cargo clippy" in_bench cargo clippy --release --all-targets -- -D warnings
 tests
 check "a fit of an image of 1 MiB takes less than 10 ms" quick_fit
+check "--engine plain runs by the plain engine" by_engine oddersnow_run_watched oddersnow_run_quick --engine plain
+check "--engine quick runs by the quick engine" by_engine oddersnow_run_quick oddersnow_run_watched --engine quick
+check "a run is by the quick engine if nothing is said" by_engine oddersnow_run_quick oddersnow_run_watched
 check "the demonstration" ./bench demo
 check "README.md shows the demonstration's output" readme_shows
 check "the demonstration's images are their sources'" image_files

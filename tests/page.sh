@@ -53,10 +53,12 @@ same_with_json() { # after small_page: the page does not depend on the form of t
 }
 
 large_page() {
-  local run=(run --map examples/interlock_large.map examples/interlock_large.hex examples/interlock_image.img --sweep 100)
+  local run=(run --map examples/interlock_large.map examples/interlock_large.hex examples/interlock_image.img --sweep 100 --watch 0x20000400 0x80)
   "$bench" "${run[@]}" --report "$work/large.html" >/dev/null && page alone "$work/large.html" &&
     page says "$work/large.html" "It ran to its end without a trap." "Label of examples/interlock_image.img" "in interlock" \
-      "Memory was swept" PassClaim fits-inside
+      "Memory was swept" PassClaim fits-inside "128 bytes from 20000400, touched by" \
+      "The counts of watched ranges: one more for each store that retired and shares a byte with the range (WatchPromise)." &&
+    ! page says "$work/small.html" WatchPromise 2>/dev/null
 }
 
 misfit_page() {
@@ -100,13 +102,13 @@ long_name() {
   page same "$work/plain.html" "$work/long.html" && page says "$work/long.html" "(99880 letters more)" && [ "$(wc -c <"$work/long.html")" -lt 60000 ]
 }
 
-# What the page calls proved is there: each name is declared in the crates' definitions or laws.
+# What the page calls proved is there: each name is declared in the crates' definitions or proofs; a mere use is not enough.
 named_facts() {
   local name
   grep -o '<code>[^<]*</code>' host/bench/src/page/proved.html | sed 's/<[^>]*>//g' | sort -u >"$work/facts"
   [ "$(wc -l <"$work/facts")" -ge 10 ] || return 1
   while read -r name; do
-    grep -rqE --include='*.antt' "(^|[ ;])$name( |\$)" crates || { echo "no $name in crates"; return 1; }
+    grep -rqE --include='*.antt' "(^|[ ;])pub (record )?$name( |\$)" crates || { echo "no $name in crates"; return 1; }
   done <"$work/facts"
 }
 

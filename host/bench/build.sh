@@ -5,7 +5,7 @@ set -eu
 cd "$(dirname "$0")"
 
 missing=()
-for crate in addr2line clap csv gimli indicatif object serde serde_derive serde_json sha2 tera; do
+for crate in addr2line clap clap_complete csv gimli indicatif object serde serde_derive serde_json sha2 tera; do
   compgen -G "/usr/share/cargo/registry/$crate-[0-9]*" >/dev/null || missing+=("librust-${crate/_/-}-dev")
 done
 if [ ${#missing[@]} -gt 0 ]; then

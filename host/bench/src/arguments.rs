@@ -1,10 +1,15 @@
 //! The command line.
 
+use crate::colour::When;
 use crate::edition::Edition;
 use crate::image::Format;
-use clap::{ArgAction, Args, Parser, Subcommand};
+use crate::proved::engine::Engine;
+use clap::{ArgAction, Args, CommandFactory, Parser, Subcommand};
 use std::ops::Deref;
 use std::path::PathBuf;
+
+/// The most steps that are kept to be shown.
+const MOST_LAST: u64 = 1_000_000;
 
 /// The bench: runs an image on the proved CHERIoT machine and shows what happened.
 ///
@@ -18,6 +23,9 @@ use std::path::PathBuf;
 pub struct Arguments {
     #[command(subcommand)]
     pub command: Command,
+    /// When to paint what a person reads; what a program reads is never painted
+    #[arg(long, value_name = "WHEN", value_enum, default_value_t = When::Auto, global = true)]
+    pub color: When,
 }
 
 #[derive(Subcommand)]
@@ -26,7 +34,7 @@ pub enum Command {
     Run(Run),
     /// Holds images, or a saved state, for a debugger
     Gdb(Gdb),
-    /// Shows a saved state: its last trap and its registers
+    /// Shows a saved state or a register dump: its last trap and its registers
     Explain(Explain),
     /// Sweeps a saved state's memory: takes the tags of revoked capabilities, and shows which
     Sweep(Sweep),
@@ -45,6 +53,10 @@ pub enum Command {
     List(List),
     /// Assembles a listing to bytes
     Assemble(Assemble),
+    /// Writes what a shell needs to complete this command's words
+    Completions(Completions),
+    /// Writes this command's manual page, in the form that man reads
+    Manual,
 }
 
 /// What a machine starts from.
@@ -79,6 +91,9 @@ pub struct Start {
     /// The edition of the architecture [default: report]
     #[arg(long, value_enum, conflicts_with = "state")]
     pub edition: Option<Edition>,
+    /// The engine that makes the steps; both give the same answers
+    #[arg(long, value_enum, default_value_t)]
+    pub engine: Engine,
     /// The address of the first instruction, even [default: the image's, else memory's start]
     #[arg(long, value_parser = even, conflicts_with = "state")]
     pub entry: Option<u32>,
@@ -117,7 +132,7 @@ pub struct Run {
     #[arg(long = "break", value_name = "WHERE")]
     pub breaks: Vec<String>,
     /// Show the last so many steps before the stop
-    #[arg(long, value_name = "STEPS", value_parser = clap::value_parser!(u64).range(1..=1_000_000))]
+    #[arg(long, value_name = "STEPS", value_parser = last)]
     pub last: Option<u64>,
     /// Show how much of the image was executed, by symbol and region
     #[arg(long)]
@@ -147,7 +162,7 @@ pub struct Gdb {
     #[command(flatten)]
     pub from: Start,
     /// The port to listen on, on the loopback interface; 0 takes a free one
-    #[arg(long, default_value_t = 3333)]
+    #[arg(long, value_parser = port, default_value = "3333")]
     pub port: u16,
     /// Listen on every interface: whoever reaches the port then reads and writes the machine
     #[arg(long)]
@@ -156,8 +171,11 @@ pub struct Gdb {
 
 #[derive(Args)]
 pub struct Explain {
-    /// The saved state
+    /// The saved state, or a register dump: text with a line for each register (docs/STATE.md)
     pub state: PathBuf,
+    /// With a dump: an image that was in memory, for the word that trapped; may be given more than once
+    #[arg(long, value_name = "IMAGE")]
+    pub with: Vec<PathBuf>,
     /// A map sheet that names the board's regions
     #[arg(long, value_name = "SHEET")]
     pub map: Option<PathBuf>,
@@ -275,6 +293,9 @@ pub struct Shelf {
     /// The most steps to run of each image
     #[arg(long, value_parser = number, default_value = "1000000")]
     pub steps: u64,
+    /// The engine that makes the steps; both give the same answers
+    #[arg(long, value_enum, default_value_t)]
+    pub engine: Engine,
     /// How many images are looked at at a time [default: as many as there are cores]
     #[arg(long, value_parser = not_zero)]
     pub jobs: Option<u64>,
@@ -302,6 +323,43 @@ pub struct Assemble {
     pub output: Option<PathBuf>,
 }
 
+#[derive(Args)]
+pub struct Completions {
+    /// The shell
+    #[arg(value_enum)]
+    pub shell: Shell,
+}
+
+/// A shell whose completions can be written.
+#[derive(Clone, Copy, PartialEq, Eq, Debug, clap::ValueEnum)]
+pub enum Shell {
+    Bash,
+    Zsh,
+    Fish,
+}
+
+/// The command line as it is read. A value may begin with a dash, so that a number below zero is told as one.
+pub fn command() -> clap::Command {
+    dashes(Arguments::command())
+}
+
+fn dashes(command: clap::Command) -> clap::Command {
+    let values = command
+        .get_arguments()
+        .filter(|argument| argument.get_action().takes_values());
+    let values: Vec<clap::Id> = values.map(|argument| argument.get_id().clone()).collect();
+    let below: Vec<String> = command
+        .get_subcommands()
+        .map(|inner| inner.get_name().into())
+        .collect();
+    let command = values.into_iter().fold(command, |command, id| {
+        command.mut_arg(id, |argument| argument.allow_negative_numbers(true))
+    });
+    below.into_iter().fold(command, |command, name| {
+        command.mut_subcommand(name, dashes)
+    })
+}
+
 /// A number: decimal, or hexadecimal after 0x.
 fn number(text: &str) -> Result<u64, String> {
     let (digits, radix) = match text.strip_prefix("0x") {
@@ -319,6 +377,18 @@ fn not_zero(text: &str) -> Result<u64, String> {
         0 => Err("not 1 or more".into()),
         number => Ok(number),
     }
+}
+
+/// How many of the last steps are shown.
+fn last(text: &str) -> Result<u64, String> {
+    match number(text)? {
+        steps @ 1..=MOST_LAST => Ok(steps),
+        _ => Err("not 1 to 1000000".into()),
+    }
+}
+
+fn port(text: &str) -> Result<u16, String> {
+    u16::try_from(number(text)?).map_err(|_| "not 0 to 65535".into())
 }
 
 fn word(text: &str) -> Result<u32, String> {
@@ -377,6 +447,30 @@ mod tests {
     fn steps_between_sweeps_are_some() {
         assert_eq!((not_zero("1"), not_zero("0x10")), (Ok(1), Ok(16)));
         assert!(not_zero("0").is_err() && not_zero("x").is_err());
+    }
+
+    #[test]
+    fn what_is_out_of_range_is_said_with_the_range() {
+        assert_eq!((last("1"), last("0xf4240")), (Ok(1), Ok(1_000_000)));
+        assert_eq!(last("0"), Err("not 1 to 1000000".into()));
+        assert_eq!(last("1000001"), Err("not 1 to 1000000".into()));
+        assert_eq!((port("0"), port("65535")), (Ok(0), Ok(65535)));
+        assert_eq!(port("65536"), Err("not 0 to 65535".into()));
+    }
+
+    /// A number below zero is a bad number, not an option that nobody knows.
+    #[test]
+    fn a_negative_number_is_told_as_one() {
+        for words in [
+            ["bench", "cut", "-1", "2"],
+            ["bench", "run", "--steps", "-5"],
+        ] {
+            let error = command()
+                .try_get_matches_from(words)
+                .unwrap_err()
+                .to_string();
+            assert!(error.contains("not a decimal number"), "{error}");
+        }
     }
 
     #[test]

@@ -1,34 +1,35 @@
 //! What each subcommand does.
 
+mod explain;
 pub mod fit;
 mod gdb;
 mod listing;
 mod look;
+mod papers;
 pub mod run;
 pub mod sheet;
 mod shelf;
 mod sweep;
 
-use crate::arguments::{Cap, Command, Cut, Explain};
+use crate::arguments::{Cap, Command, Cut};
 use crate::capability_text::{length, region, rights, type_words};
-use crate::names::Names;
-use crate::probe;
-use crate::proved::{self, Refusal, UNSOUND};
+use crate::proved::engine::{self, Engine};
+use crate::proved::sheets::BAD_IMAGE;
+use crate::proved::{self, Refusal};
 use crate::sheet::Bad;
-use crate::stack::Stack;
-use crate::trap::Trap;
-use crate::{complain, file, json, report, state_file, Status};
-use lent::{place_name, Capability, State};
+use crate::{colour, complain, file, json, report, state_file, Status};
+use lent::{Capability, State};
 use serde_json::Value;
 use std::io::{ErrorKind, Write};
 use std::path::Path;
 
 /// Obeys a command: the exit status, or what is bad about a file.
 pub fn obey(command: Command) -> Result<Status, String> {
+    engine::choose(engine_of(&command));
     match command {
         Command::Run(run) => run::run(run),
         Command::Gdb(asked) => gdb::obey(asked),
-        Command::Explain(explain) => explained(&explain),
+        Command::Explain(asked) => explain::obey(&asked),
         Command::Sweep(asked) => sweep::obey(&asked),
         Command::Cut(cut) => cut_shown(&cut),
         Command::Cap(cap) => capability_shown(&cap),
@@ -37,6 +38,18 @@ pub fn obey(command: Command) -> Result<Status, String> {
         Command::Shelf(asked) => shelf::obey(&asked),
         Command::List(list) => listing::list(&list),
         Command::Assemble(assemble) => listing::assemble(&assemble),
+        Command::Completions(asked) => papers::completions(&asked),
+        Command::Manual => papers::manual(),
+    }
+}
+
+/// The engine that a command asks for.
+fn engine_of(command: &Command) -> Engine {
+    match command {
+        Command::Run(run) => run.engine,
+        Command::Gdb(asked) => asked.from.engine,
+        Command::Shelf(asked) => asked.engine,
+        _ => Engine::default(),
     }
 }
 
@@ -45,18 +58,19 @@ fn say_bytes(bytes: &[u8]) -> Result<(), String> {
     let mut output = std::io::stdout().lock();
     match output.write_all(bytes).and_then(|()| output.flush()) {
         Err(error) if error.kind() != ErrorKind::BrokenPipe => {
-            Err(format!("standard output: {error}"))
+            Err(format!("standard output: {}", file::why(&error)))
         }
         _ => Ok(()),
     }
 }
 
+/// Says something to a person, painted where that is asked for.
 fn say(text: &str) -> Result<(), String> {
-    say_bytes(text.as_bytes())
+    say_bytes(colour::output(text).as_bytes())
 }
 
 fn say_json(value: &Value) -> Result<(), String> {
-    say(&format!("{value:#}\n"))
+    say_bytes(format!("{value:#}\n").as_bytes())
 }
 
 /// Says that something was refused, with document 01's number.
@@ -64,25 +78,12 @@ fn refused(refusal: Refusal, as_json: bool) -> Result<Status, String> {
     refused_by(refusal.0, refusal.reason(), as_json)
 }
 
-/// Says that a run of a state was refused; for an unsound one also by which registers, with their bounds.
+/// Says that a run of a state was refused.
 fn refused_state(refusal: Refusal, state: &State, as_json: bool) -> Result<Status, String> {
-    if refusal != UNSOUND {
-        return refused(refusal, as_json);
-    }
-    let places = probe::unsound(state);
     if as_json {
-        say_json(&json::refused_registers(refusal, state, &places))?;
+        say_json(&json::refused_state(refusal, state))?;
     }
-    let shown = |&place: &usize| {
-        let bounds = proved::bounds(state.capability(place));
-        format!("{} {}", place_name(place), region(bounds))
-    };
-    let shown: Vec<String> = places.iter().map(shown).collect();
-    let (number, reason) = (refusal.0, refusal.reason());
-    complain(&format!(
-        "refused, number {number}: {reason}: {}",
-        shown.join(", ")
-    ));
+    complain(&report::refused(refusal, state));
     Ok(Status::Refused)
 }
 
@@ -100,36 +101,17 @@ fn refused_sheet(number: u64, path: &Path, bad: &Bad, as_json: bool) -> Result<S
     if as_json {
         say_json(&json::refused_sheet(number, path, bad))?;
     }
-    complain(&bad.shown(path));
+    let hint = match BAD_IMAGE.contains(&number) {
+        true => "; an image that is judged begins with its label, a map sheet and an empty line",
+        false => "",
+    };
+    complain(&format!("{}{hint}", bad.shown(path)));
     Ok(Status::Refused)
 }
 
 fn read_state(path: &Path) -> Result<State, String> {
     let named = |reason: String| format!("{}: {reason}", path.display());
     state_file::read(&file::read(path)?).map_err(named)
-}
-
-fn explained(asked: &Explain) -> Result<Status, String> {
-    let map = asked.map.as_deref().map(crate::sheet::read).transpose()?;
-    let stack = map.as_ref().and_then(Stack::of_map);
-    let names = map.map_or(Names::default(), |map| Names(map.names()));
-    let mut state = read_state(&asked.state)?;
-    if let Err(refusal) = proved::run(&mut state, 0) {
-        return refused_state(refusal, &state, asked.json);
-    }
-    let trap = Trap::recorded(&state);
-    if asked.json {
-        let mut value = json::explained(&state, trap.as_ref(), &names);
-        value["stack"] = json::stack(&state, stack);
-        say_json(&value)?;
-    } else {
-        let last = trap.map_or("No trap is recorded.\n".into(), |trap| {
-            report::trap(&trap, &state, &names)
-        });
-        let used = report::stack(&state, stack);
-        say(&format!("{used}{last}\n{}", report::registers(&state)))?;
-    }
-    Ok(Status::Ran)
 }
 
 fn cut_shown(asked: &Cut) -> Result<Status, String> {

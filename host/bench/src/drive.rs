@@ -1,14 +1,19 @@
-//! A run of any number of steps by calls of at most 1,000,000, up to the exact step that traps or
-//! from which on nothing changes.
+//! A run of any number of steps, up to the exact step that traps or that a breakpoint stands at, or from which on nothing
+//! changes: by calls of up to a million steps, or one by one where someone looks at each.
 
-mod origin;
 #[cfg(test)]
 mod tests;
 
-use crate::proved::{self, Counts, Refusal, MOST_STEPS};
+use crate::course::Course;
+use crate::cover::Cover;
+use crate::halt::{by_calls, by_steps, is_still, Halt, Pace, Stops};
+use crate::proved::{Counts, Refusal, MOST_STEPS};
 use crate::sweep;
-use lent::{State, Watch, COMPARE, MIE, MSTATUS, TIME};
-pub use origin::Origin;
+use lent::{State, Watch};
+use std::collections::BTreeSet;
+
+/// The most steps one by one between two calls of a plan's watch.
+const STRIDE: u64 = 1 << 16;
 
 /// Why a run ended.
 #[derive(Clone, Default, PartialEq, Eq, Debug)]
@@ -51,112 +56,117 @@ pub struct Plan<'a> {
     pub sweep: Option<u64>,
     /// The watch record at the start.
     pub record: Watch,
+    /// Where the run stops before a step, but for its first.
+    pub breaks: BTreeSet<u32>,
+    /// What is told of each word that retires.
+    pub cover: Option<&'a mut Cover>,
     pub watch: &'a mut dyn FnMut(&State, &State, Counts) -> bool,
 }
 
-/// Runs a plan. A refused run changes nothing.
-pub fn run(state: &mut State, plan: Plan) -> Result<Outcome, Refusal> {
-    proved::run(state, 0)?;
-    let most = plan.call.clamp(1, MOST_STEPS);
-    let (mut left, mut call) = (plan.steps, 1);
-    let mut done = Outcome {
-        record: plan.record,
-        ..Outcome::default()
-    };
-    let mut origin = Origin::default();
-    while left > 0 {
-        let steps = left.min(call).min(origin.room());
-        let steps = steps.min(until_sweep(&plan, done.counts));
-        let (before, earlier) = ((state.clone(), done.record), origin.clone());
-        let made = origin.run_watched(state, steps, &mut done.record)?;
-        let wanted = (plan.watch)(&before.0, state, made);
-        if stops((state, &origin), made, plan.through_traps, left - steps)? {
-            (*state, done.record) = before;
-            let at = (state, &mut done.record, earlier);
-            let stop = first_stop(at, (steps, left), plan.through_traps, done.counts)?;
-            (done.counts, done.end) = stop;
-            return Ok(done);
+impl<'a> Plan<'a> {
+    /// A run of so many steps at most, to the first trap, with someone who is shown its calls.
+    pub fn new(steps: u64, watch: &'a mut dyn FnMut(&State, &State, Counts) -> bool) -> Plan<'a> {
+        Plan {
+            steps,
+            through_traps: false,
+            call: MOST_STEPS,
+            sweep: None,
+            record: Watch::default(),
+            breaks: BTreeSet::new(),
+            cover: None,
+            watch,
         }
-        if steps == until_sweep(&plan, done.counts) {
-            done.swept.passes += 1;
-            done.swept.tags += sweep::pass(state, |_| ())?.len() as u64;
-            origin.forget();
-        }
-        done.counts = sum(done.counts, made);
-        left = if wanted { left - steps } else { 0 };
-        call = (2 * call).min(most);
     }
+
+    /// Whether each step is looked at.
+    fn looks(&self) -> bool {
+        self.call == 1 || self.cover.is_some() || !self.breaks.is_empty()
+    }
+
+    /// How many steps to make after some that were made: to the next sweep at most.
+    fn pace(&self, made: u64, call: u64) -> Pace {
+        let left = self.steps - made;
+        let call = if self.looks() { STRIDE } else { call };
+        let most = left.min(call).min(self.call.max(1));
+        Pace {
+            steps: most.min(sweep::left(self.sweep, made)),
+            left,
+            begins: made == 0,
+            leaves: made == 0,
+        }
+    }
+}
+
+/// Runs a plan. A refused run leaves the state that its last step led to.
+pub fn run(state: &mut State, plan: Plan) -> Result<Outcome, Refusal> {
+    let mut course = Course::new(std::mem::take(state), plan.record);
+    let outcome = follow(&mut course, plan);
+    *state = course.into_state();
+    outcome
+}
+
+fn follow(course: &mut Course, mut plan: Plan) -> Result<Outcome, Refusal> {
+    course.may_start()?;
+    let mut done = Outcome::default();
+    let (mut call, mut wanted) = (1, true);
+    while wanted && done.end == End::Steps && done.counts.steps() < plan.steps {
+        let before = course.state().clone();
+        let pace = plan.pace(done.counts.steps(), call);
+        let (mut made, halt) = advance(course, pace, &mut plan);
+        done.end = match halt {
+            Halt::Refused(refusal) => return Err(refusal),
+            Halt::Steps | Halt::Watch(_) => End::Steps,
+            Halt::Break => End::Break,
+            Halt::Still => End::Still,
+            Halt::Trap => {
+                let before = Box::new(course.state().clone());
+                made += course.run(1)?;
+                End::Trap(before)
+            }
+        };
+        done.counts += made;
+        wanted = made.steps() == 0 || (plan.watch)(&before, course.state(), made);
+        if done.end == End::Steps {
+            pause(course, &plan, &mut done)?;
+        }
+        call = (2 * call).min(MOST_STEPS);
+    }
+    done.record = course.record();
     Ok(done)
 }
 
-/// How many steps are left to the next sweep, after some.
-fn until_sweep(plan: &Plan, made: Counts) -> u64 {
-    let made = made.retired + made.trapped;
-    plan.sweep.map_or(u64::MAX, |every| every - made % every)
-}
-
-/// Whether a run stops at the latest after steps with these counts, which left this state and so many
-/// steps to make. What stops a run stops every longer one, so that the first such step can be searched for by
-/// halves.
-fn stops(
-    at: (&State, &Origin),
-    made: Counts,
-    through_traps: bool,
-    left: u64,
-) -> Result<bool, Refusal> {
-    Ok((made.trapped > 0 && !through_traps) || is_still(at, left)?)
-}
-
-/// Whether a step retires and changes time alone; then no further step changes anything else either, unless
-/// the timer interrupts among those that are left. Such a step leaves PCC, and so is no store.
-fn is_still((state, origin): (&State, &Origin), left: u64) -> Result<bool, Refusal> {
-    let mut next = state.clone();
-    let made = origin.clone().run(&mut next, 1)?;
-    next.set_long(TIME, state.long(TIME));
-    Ok(made.retired == 1 && next == *state && !interrupts_within(state, left))
-}
-
-/// Whether the timer interrupts one of the next steps, if nothing but time changes.
-pub fn interrupts_within(state: &State, steps: u64) -> bool {
-    let last = u128::from(state.long(TIME)) + u128::from(steps);
-    state.register(MSTATUS) & MIE != 0 && last > state.long(COMPARE).into()
-}
-
-/// Makes the steps up to and with the first one that stops the run, which is among the next `steps` of those
-/// that are `left`.
-fn first_stop(
-    (state, record, mut origin): (&mut State, &mut Watch, Origin),
-    (mut steps, mut left): (u64, u64),
-    through_traps: bool,
-    mut counts: Counts,
-) -> Result<(Counts, End), Refusal> {
-    while steps > 1 {
-        let half = steps / 2;
-        let (mut trial, mut trial_record, mut tried) = (state.clone(), *record, origin.clone());
-        let made = tried.run_watched(&mut trial, half, &mut trial_record)?;
-        if stops((&trial, &tried), made, through_traps, left - half)? {
-            steps = half;
-        } else {
-            (*state, *record, origin) = (trial, trial_record, tried);
-            counts = sum(counts, made);
-            steps -= half;
-            left -= half;
-        }
-    }
-    let before = Box::new(state.clone());
-    let made = origin.run_watched(state, 1, record)?;
-    let end = if made.trapped > 0 && !through_traps {
-        End::Trap(before)
-    } else {
-        End::Still
+/// Makes the steps of a pace, or as many as may be made at once.
+fn advance(course: &mut Course, pace: Pace, plan: &mut Plan) -> (Counts, Halt) {
+    let looks = plan.looks();
+    let stops = Stops {
+        breaks: std::mem::take(&mut plan.breaks),
+        traps: !plan.through_traps,
+        stores: false,
     };
-    counts = sum(counts, made);
-    Ok((counts, end))
+    let made = match looks {
+        false => by_calls(course, pace, &stops),
+        true => by_steps(course, pace, &stops, &mut |at, word| {
+            if let Some(cover) = &mut plan.cover {
+                cover.retired(at, word);
+            }
+        }),
+    };
+    plan.breaks = stops.breaks;
+    made
 }
 
-fn sum(first: Counts, second: Counts) -> Counts {
-    Counts {
-        retired: first.retired + second.retired,
-        trapped: first.trapped + second.trapped,
+/// After the last step, and where it is time for a sweep: sees whether the program stands still, and sweeps.
+fn pause(course: &mut Course, plan: &Plan, done: &mut Outcome) -> Result<(), Refusal> {
+    let made = done.counts.steps();
+    let sweeps = sweep::is_due(plan.sweep, made);
+    if !sweeps && made < plan.steps {
+        return Ok(());
     }
+    if is_still(course, plan.steps - made) {
+        done.end = End::Still;
+    } else if sweeps {
+        done.swept.passes += 1;
+        done.swept.tags += sweep::pass(course.change(), |_| ())?.len() as u64;
+    }
+    Ok(())
 }

@@ -1,7 +1,7 @@
 //! Files as they are read: whole, and no larger than what a bench has a use for.
 
 use std::fs::File;
-use std::io::Read;
+use std::io::{Error, ErrorKind, Read};
 use std::path::Path;
 
 /// The most bytes of a file. Memory has 65,536; the rest is room for an ELF file's other sections.
@@ -12,11 +12,26 @@ pub fn read(path: &Path) -> Result<Vec<u8>, String> {
     let named = |reason: String| format!("{}: {reason}", path.display());
     let (mut bytes, file) = (Vec::new(), File::open(path));
     file.and_then(|file| file.take(MOST + 1).read_to_end(&mut bytes))
-        .map_err(|error| named(error.to_string()))?;
+        .map_err(|error| named(why(&error)))?;
     if bytes.len() as u64 > MOST {
         return Err(named(format!("the file has more than {MOST} bytes")));
     }
     Ok(bytes)
+}
+
+/// What the system has against a file, a folder or a port, in words.
+pub fn why(error: &Error) -> String {
+    let words = match error.kind() {
+        ErrorKind::NotFound => "there is no such file or folder",
+        ErrorKind::IsADirectory => "it is a folder, and a file is asked for",
+        ErrorKind::NotADirectory => "it is a file, and a folder is asked for",
+        ErrorKind::AlreadyExists => "it is a file, and a folder is asked for",
+        ErrorKind::PermissionDenied => "the system does not permit it",
+        ErrorKind::StorageFull => "no room is left there",
+        ErrorKind::AddrInUse => "something listens there already; --port 0 takes a free one",
+        _ => return error.to_string(),
+    };
+    words.into()
 }
 
 /// The text of a file's bytes, or its first line that is none.
@@ -31,6 +46,14 @@ pub fn text(bytes: &[u8]) -> Result<&str, String> {
 #[cfg(test)]
 mod tests {
     use super::*;
+
+    #[test]
+    fn the_system_is_put_into_words() {
+        let nowhere = File::open("/no/such/file").unwrap_err();
+        assert_eq!(why(&nowhere), "there is no such file or folder");
+        let other = Error::from(ErrorKind::TimedOut);
+        assert_eq!(why(&other), other.to_string());
+    }
 
     #[test]
     fn the_line_that_is_not_text_is_named() {

@@ -4,162 +4,178 @@
 #[cfg(test)]
 mod tests;
 
-use crate::drive::interrupts_within;
-use crate::engine::{advance, Advanced, Range};
-use crate::proved::{Refusal, MOST_STEPS};
-use lent::{State, COMPARE, PCC, TIME};
+use crate::course::Course;
+use crate::probe;
+use crate::proved::{Counts, Refusal, MOST_STEPS};
+use lent::{State, Watch, COMPARE, PCC, TIME};
 use std::collections::BTreeSet;
 
-/// Where a machine is to be stopped besides at traps.
+/// Where a machine is to be stopped, besides where nothing changes any more.
 #[derive(Clone, Default, PartialEq, Eq, Debug)]
 pub struct Stops {
     pub breaks: BTreeSet<u32>,
-    pub watched: Vec<Range>,
+    /// Before a step that traps.
+    pub traps: bool,
+    /// Before a store into a range of the watch record.
+    pub stores: bool,
 }
 
 /// Why no further step was made.
 #[derive(Clone, Copy, PartialEq, Eq, Debug)]
 pub enum Halt {
-    /// All the steps were made.
+    /// All the steps were made, or as many as may be made at once.
     Steps,
     /// A breakpoint stands at PCC; the step there is not made.
     Break,
     /// The next step traps; it is not made.
     Trap,
-    /// The next step stores into this range; it is not made.
-    Watch(Range),
+    /// The next step stores into the watched range that starts here; it is not made.
+    Watch(u32),
     /// The program jumps to itself; that step is not made.
     Still,
+    /// The machine makes no further step.
+    Refused(Refusal),
 }
 
-/// How many steps to make, of how many that are left in all. The first one is made though a breakpoint stands there,
-/// or nothing changes, if it `leaves` the place where the last stop was.
+/// How many steps to make, of how many that are left in all. The first of a run that `begins` here is made though nothing
+/// changes; one that `leaves` a breakpoint though that stands there.
 #[derive(Clone, Copy, PartialEq, Eq, Debug)]
 pub struct Pace {
     pub steps: u64,
     pub left: u64,
+    pub begins: bool,
     pub leaves: bool,
 }
 
-/// Makes steps one by one, at most `MOST_STEPS`, and shows of each that retired its address and its word.
+/// Makes steps one by one, and shows of each that retired its address and its word. Where each has to be made with many
+/// before it, fewer are made at once.
 pub fn by_steps(
-    state: &mut State,
+    course: &mut Course,
     pace: Pace,
     stops: &Stops,
     see: &mut dyn FnMut(u32, u32),
-) -> Result<(u64, Halt), Refusal> {
+) -> (Counts, Halt) {
+    let (mut done, mut effort) = (Counts::default(), 0);
     let mut regs = Vec::new();
-    let start = (!stops.watched.is_empty()).then(|| state.clone());
-    for made in 0..pace.steps.min(MOST_STEPS) {
-        let looks = made > 0 || !pace.leaves;
-        let at = state.capability(PCC).address;
-        if looks && stops.breaks.contains(&at) {
-            return Ok((made, Halt::Break));
+    while done.steps() < pace.steps && effort < MOST_STEPS {
+        let first = done.steps() == 0;
+        let at = course.state().capability(PCC).address;
+        if stops.breaks.contains(&at) && !(first && pace.leaves) {
+            return (done, Halt::Break);
         }
-        let word = state.instruction(at).unwrap_or(0);
-        regs.clone_from(&state.regs);
-        let advanced = advance(state, 1, &stops.watched)?;
-        let halt = halted(state, &mut regs, advanced, stops, pace.left - made);
-        if halt == Halt::Trap || halt == Halt::Still && looks {
-            // Neither has changed anything but registers.
-            state.regs.clone_from(&regs);
-            return Ok((made, halt));
+        let word = course.state().instruction(at).unwrap_or(0);
+        regs.clone_from(&course.state().regs);
+        let before = (&regs[..], course.record());
+        let made = match course.run(1) {
+            Err(refusal) => return (done, Halt::Refused(refusal)),
+            Ok(made) => made,
+        };
+        effort += course.effort();
+        let left = pace.left - done.steps() - 1;
+        let halt = halted(before, course, made, stops, left);
+        if halt != Halt::Steps && !(halt == Halt::Still && first && pace.begins) {
+            let back = course.step_back();
+            return (done, back.map_or_else(Halt::Refused, |()| halt));
         }
-        if let (Halt::Watch(_), Some(start)) = (halt, &start) {
-            // The same steps again, without the last.
-            state.clone_from(start);
-            advance(state, made, &[])?;
-            return Ok((made, halt));
+        done += made;
+        if made.retired > 0 {
+            see(at, word);
         }
-        see(at, word);
     }
-    Ok((pace.steps.min(MOST_STEPS), Halt::Steps))
+    (done, Halt::Steps)
 }
 
-/// What a step with registers `regs` before it came to, with so many steps left at it.
+/// What a step came to, by the registers and the record before it and what it left, with so many steps left after it.
 fn halted(
-    state: &mut State,
-    regs: &mut Vec<u32>,
-    made: Advanced,
+    (regs, record): (&[u32], Watch),
+    course: &Course,
+    made: Counts,
     stops: &Stops,
     left: u64,
 ) -> Halt {
-    if made.counts.trapped > 0 {
-        return Halt::Trap;
-    }
-    if let Some(range) = stored(made, stops) {
-        return Halt::Watch(range);
-    }
-    let same = state.regs[..TIME] == regs[..TIME] && state.regs[COMPARE..] == regs[COMPARE..];
-    match same && !would_interrupt(state, regs, left) {
-        true => Halt::Still,
-        false => Halt::Steps,
+    let now = course.state();
+    // A step that leaves PCC is no store.
+    let same = || now.regs[..TIME] == regs[..TIME] && now.regs[COMPARE..] == regs[COMPARE..];
+    match met(record, course, made, stops) {
+        Some(halt) => halt,
+        None if made.retired == 1 && same() && !probe::interrupts_within(now, left) => Halt::Still,
+        None => Halt::Steps,
     }
 }
 
-/// Whether the timer interrupts one of the steps left from these registers, if nothing but time changes.
-fn would_interrupt(state: &mut State, regs: &mut Vec<u32>, left: u64) -> bool {
-    std::mem::swap(&mut state.regs, regs);
-    let interrupts = interrupts_within(state, left);
-    std::mem::swap(&mut state.regs, regs);
-    interrupts
-}
-
-fn stored(made: Advanced, stops: &Stops) -> Option<Range> {
-    let mut counted = stops.watched.iter().zip(made.stores);
-    counted.find_map(|(range, stores)| (stores > 0).then_some(*range))
-}
-
-/// Makes steps by calls of the engine, at most `MOST_STEPS` in all; breakpoints are not looked at.
-pub fn by_calls(state: &mut State, pace: Pace, stops: &Stops) -> Result<(u64, Halt), Refusal> {
-    let steps = pace.steps.min(MOST_STEPS);
-    let mut after = state.clone();
-    let advanced = advance(&mut after, steps, &stops.watched)?;
-    if is_stopped(&after, advanced, pace.left - steps)? {
-        return first_stop(state, Pace { steps, ..pace }, stops);
+/// What steps have met, by their counts and the record before them and after.
+fn met(record: Watch, course: &Course, made: Counts, stops: &Stops) -> Option<Halt> {
+    if made.trapped > 0 && stops.traps {
+        return Some(Halt::Trap);
     }
-    *state = after;
-    Ok((steps, Halt::Steps))
+    let mut counted = record.iter().zip(course.record());
+    let stored = counted.find(|(before, after)| after.count > before.count);
+    let start = stored.filter(|_| stops.stores)?.1.start;
+    Some(Halt::Watch(start))
 }
 
-/// Whether steps that left this state, and so many more to make, hold one to stop at. What stops steps stops
-/// every longer row of them.
-fn is_stopped(state: &State, made: Advanced, left: u64) -> Result<bool, Refusal> {
-    let seen = made.counts.trapped > 0 || made.stores.iter().any(|stores| *stores > 0);
-    Ok(seen || is_still(state, left)?)
+/// Makes steps by calls of the machine; breakpoints are not looked at.
+pub fn by_calls(course: &mut Course, pace: Pace, stops: &Stops) -> (Counts, Halt) {
+    let none = Counts::default();
+    if !pace.begins && is_still(course, pace.left) {
+        return (none, Halt::Still);
+    }
+    let steps = pace.steps.min(course.room());
+    let mut after = course.clone();
+    let made = match after.run(steps) {
+        Err(refusal) => return (none, Halt::Refused(refusal)),
+        Ok(made) => made,
+    };
+    if is_stopped(course.record(), &after, made, stops, pace.left - steps) {
+        return first_stop(course, Pace { steps, ..pace }, stops);
+    }
+    *course = after;
+    (made, Halt::Steps)
+}
+
+/// Whether steps with a record before them, and so many more to make, hold one to stop at. What stops steps stops
+/// every longer row of them, so that the first such step can be searched for by halves.
+fn is_stopped(record: Watch, after: &Course, made: Counts, stops: &Stops, left: u64) -> bool {
+    met(record, after, made, stops).is_some() || is_still(after, left)
 }
 
 /// Whether a step retires and changes time alone; then no further step changes anything else either, unless
-/// the timer interrupts among those that are left.
-pub fn is_still(state: &State, left: u64) -> Result<bool, Refusal> {
-    let mut next = state.clone();
-    let made = advance(&mut next, 1, &[])?.counts;
-    next.set_long(TIME, state.long(TIME));
-    Ok(made.retired == 1 && next == *state && !interrupts_within(state, left))
+/// the timer interrupts among those that are left. Where the machine makes no further step it is not known to be so.
+pub fn is_still(course: &Course, left: u64) -> bool {
+    let mut next = course.clone();
+    let retires = next.run(1).is_ok_and(|made| made.retired == 1);
+    let (now, next) = (course.state(), next.into_state());
+    retires && is_same_but_for_time(next, now) && !probe::interrupts_within(now, left)
 }
 
-/// Makes the steps up to the first one to stop at, which is among them; the search is by halves.
-fn first_stop(state: &mut State, pace: Pace, stops: &Stops) -> Result<(u64, Halt), Refusal> {
-    let (mut made, mut steps) = (0, pace.steps);
-    while steps > 1 {
-        let half = steps / 2;
-        let mut after = state.clone();
-        let advanced = advance(&mut after, half, &stops.watched)?;
-        if is_stopped(&after, advanced, pace.left - made - half)? {
-            steps = half;
-        } else {
-            *state = after;
-            (made, steps) = (made + half, steps - half);
+fn is_same_but_for_time(mut next: State, now: &State) -> bool {
+    next.set_long(TIME, now.long(TIME));
+    next == *now
+}
+
+/// Makes the steps up to the first one to stop at, which is among them. Where the last of them meets nothing, nothing
+/// changes any more after it.
+fn first_stop(course: &mut Course, pace: Pace, stops: &Stops) -> (Counts, Halt) {
+    let (mut done, mut steps) = (Counts::default(), pace.steps);
+    loop {
+        let half = (steps / 2).max(1);
+        let mut after = course.clone();
+        let made = match after.run(half) {
+            Err(refusal) => return (done, Halt::Refused(refusal)),
+            Ok(made) => made,
+        };
+        let (record, left) = (course.record(), pace.left - done.steps() - half);
+        match met(record, &after, made, stops) {
+            Some(halt) if steps == 1 => return (done, halt),
+            _ if steps > 1 && is_stopped(record, &after, made, stops, left) => steps = half,
+            _ => {
+                *course = after;
+                done += made;
+                steps -= half;
+            }
+        }
+        if steps == 0 {
+            return (done, Halt::Still);
         }
     }
-    let mut after = state.clone();
-    let advanced = advance(&mut after, 1, &stops.watched)?;
-    if advanced.counts.trapped > 0 {
-        return Ok((made, Halt::Trap));
-    }
-    if let Some(range) = stored(advanced, stops) {
-        return Ok((made, Halt::Watch(range)));
-    }
-    *state = after;
-    Ok((made + 1, Halt::Still))
 }

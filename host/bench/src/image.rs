@@ -17,7 +17,7 @@ pub const DEFAULT_START: u32 = 0x2000_0000;
 /// The form of an image file.
 #[derive(Clone, Copy, PartialEq, Eq, Debug, Default, clap::ValueEnum)]
 pub enum Format {
-    /// By the file's first bytes: ELF's mark, a colon for Intel HEX, or a map sheet's first word, else raw
+    /// By the file's first bytes: ELF's mark, a colon for Intel HEX, or a map sheet's first word, else raw; text is refused
     #[default]
     Auto,
     /// Bytes that lie at memory's start
@@ -68,6 +68,7 @@ pub struct Image {
 pub fn read(path: &Path, bytes: &[u8], format: Format, start: u32) -> Result<Image, String> {
     let image = match detected(format, bytes) {
         _ if bytes.is_empty() => Err("the file is empty".into()),
+        Format::Auto if is_text(bytes) => Err(TEXT.into()),
         Format::Labelled => payload(bytes),
         format => plain(bytes, format, start),
     };
@@ -76,6 +77,16 @@ pub fn read(path: &Path, bytes: &[u8], format: Format, start: u32) -> Result<Ima
         segment.origin = format!("{}: {}", path.display(), segment.origin);
     }
     Ok(image)
+}
+
+/// What is said of a file that no code would be.
+const TEXT: &str =
+    "it is text, and no Intel HEX or labelled image; --format raw takes it as code nevertheless";
+
+/// Whether all bytes are letters, signs and white space: a source, say, that was given for what is made of it.
+fn is_text(bytes: &[u8]) -> bool {
+    let letter = |byte: &u8| byte.is_ascii_graphic() || byte.is_ascii_whitespace();
+    bytes.iter().all(letter)
 }
 
 /// Whether a file has a map sheet before its payload.

@@ -9,8 +9,9 @@ use crate::edition;
 use crate::listing::Part;
 use crate::memory_rows::rows;
 use crate::names::Names;
+use crate::probe;
 use crate::proved::sheets::{Record, NEITHER};
-use crate::proved::{bounds, instruction, Refusal, Region};
+use crate::proved::{bounds, instruction, Refusal, Region, UNSOUND};
 use crate::sheet::{letters, Bad};
 use crate::stack::{Stack, Used};
 use crate::sweep::{self, Went};
@@ -92,13 +93,17 @@ pub fn refused(number: u64, reason: &str) -> Value {
     json!({ "refused": { "number": number, "reason": reason } })
 }
 
-/// A start refused for its registers, each with its bounds.
-pub fn refused_registers(refusal: Refusal, state: &State, places: &[usize]) -> Value {
-    let registers = places.iter().map(|&place| {
+/// A refused state; for an unsound one also the registers, each with its bounds.
+pub fn refused_state(refusal: Refusal, state: &State) -> Value {
+    let mut value = refused(refusal.0, refusal.reason());
+    if refusal != UNSOUND {
+        return value;
+    }
+    let places = probe::unsound(state).into_iter();
+    let registers = places.map(|place| {
         let bounds = region(bounds(state.capability(place)));
         json!({ "name": place_name(place), "bounds": bounds })
     });
-    let mut value = refused(refusal.0, refusal.reason());
     value["refused"]["registers"] = registers.collect();
     value
 }

@@ -1,16 +1,25 @@
-//! The last steps of a run, each on its line of the trace: they are made again, one by one, from a state that was
-//! kept on the way. The proved machine gives the same steps from the same state.
+//! The last steps of a run: they are made again, one by one, from a state that was kept on the way. The proved machine
+//! gives the same steps from the same state.
 
-use crate::drive::Origin;
-use crate::proved::{self, Refusal, MOST_STEPS};
+use crate::course::Course;
+use crate::proved::{Counts, Refusal};
 use crate::{sweep, trace};
-use lent::State;
+use lent::{State, Watch};
 
-/// A state of a run, how many steps led to it, and the state that its steps are made from where no call may start at it.
+/// A state of a run, and how many steps led to it.
+#[derive(Clone)]
 struct Kept {
     made: u64,
-    state: State,
-    origin: Origin,
+    course: Course,
+}
+
+impl Kept {
+    fn new(made: u64, state: &State) -> Kept {
+        Kept {
+            made,
+            course: Course::new(state.clone(), Watch::default()),
+        }
+    }
 }
 
 /// Two states of a run; from the older one on at least as many steps were made as are wanted, or it is the first.
@@ -24,35 +33,22 @@ pub struct Last {
 impl Last {
     /// For a run from this state, with a sweep after every so many steps.
     pub fn new(start: &State, wanted: u64, sweep: Option<u64>) -> Last {
-        let older = Kept {
-            made: 0,
-            state: start.clone(),
-            origin: Origin::default(),
-        };
         Last {
             wanted,
             sweep,
-            older,
+            older: Kept::new(0, start),
             newer: None,
         }
     }
 
-    /// Takes note of the state that so many steps led to, if a call may start there. The steps may be taken back and
-    /// be made in smaller calls.
+    /// Takes note of the state that so many steps led to, if a call may start there.
     pub fn see(&mut self, made: u64, state: &State) {
-        let from = self
-            .newer
-            .as_ref()
-            .map_or(self.older.made, |kept| kept.made);
-        if made < from + self.wanted {
+        let newest = self.newer.as_ref().unwrap_or(&self.older);
+        if made < newest.made + self.wanted {
             return;
         }
-        let mut kept = Kept {
-            made,
-            state: state.clone(),
-            origin: Origin::default(),
-        };
-        if proved::run(&mut kept.state, 0).is_err() {
+        let mut kept = Kept::new(made, state);
+        if kept.course.may_start().is_err() {
             return;
         }
         if let Some(newer) = self.newer.replace(kept) {
@@ -60,49 +56,66 @@ impl Last {
         }
     }
 
-    /// The lines of the last steps of a run that made so many.
-    pub fn lines(self, steps: u64) -> Result<Vec<String>, Refusal> {
-        let mut at = match self.newer {
-            Some(newer) if newer.made + self.wanted <= steps => newer,
-            _ => self.older,
+    /// The last steps of a run that made so many, at most as many as were wanted: what is seen of the state before each,
+    /// and then shown with its number, the state after it and its counts.
+    pub fn steps<B, T>(
+        &self,
+        made: u64,
+        wanted: u64,
+        see: impl Fn(&State) -> B,
+        show: impl Fn(u64, B, &State, Counts) -> T,
+    ) -> Result<Vec<T>, Refusal> {
+        let first = made.saturating_sub(wanted.min(self.wanted));
+        let mut at = self.before(first)?;
+        let step = |_| {
+            let before = see(at.course.state());
+            let counts = at.course.run(1)?;
+            at.made += 1;
+            let shown = show(at.made, before, at.course.state(), counts);
+            swept(&mut at, self.sweep).map(|()| shown)
         };
-        let first = steps.saturating_sub(self.wanted);
+        (first..made).map(step).collect()
+    }
+
+    /// The machine after so many steps, at or after a state that was kept.
+    fn before(&self, steps: u64) -> Result<Kept, Refusal> {
+        let newer = self.newer.as_ref().filter(|newer| newer.made <= steps);
+        let mut at = newer.unwrap_or(&self.older).clone();
         // States that follow so closely were not kept. Where a value was then loaded that no start may hold, the run
         // may have gone on from the last of them, so that state is found again: these steps are made one by one.
         let close = at.made + self.wanted;
-        while at.made < first {
-            let call = if at.made < close { 1 } else { first - at.made };
-            advance(&mut at, call.min(MOST_STEPS), self.sweep)?;
+        while at.made < steps {
+            let call = if at.made < close { 1 } else { steps - at.made };
+            advance(&mut at, call, self.sweep)?;
         }
-        let step = |_| {
-            let before = at.state.clone();
-            let counts = at.origin.run(&mut at.state, 1)?;
-            at.made += 1;
-            let line = trace::line(at.made, &before, &at.state, counts);
-            swept(&mut at, self.sweep).map(|()| line)
-        };
-        (first..steps).map(step).collect()
+        Ok(at)
+    }
+
+    /// The last steps on lines of the trace.
+    pub fn lines(&self, made: u64, wanted: u64) -> Result<Vec<String>, Refusal> {
+        self.steps(
+            made,
+            wanted,
+            State::clone,
+            |number, before, after, counts| trace::line(number, &before, after, counts),
+        )
     }
 }
 
 /// Makes some steps, at most up to the next sweep, which is then made.
 fn advance(at: &mut Kept, steps: u64, sweep: Option<u64>) -> Result<(), Refusal> {
-    let left = sweep.map_or(steps, |every| every - at.made % every);
-    let call = steps.min(left).min(at.origin.room());
-    at.origin.run(&mut at.state, call)?;
+    let call = steps.min(sweep::left(sweep, at.made)).min(at.course.room());
+    at.course.run(call)?;
     at.made += call;
     swept(at, sweep)
 }
 
 /// The sweep that is made after this many steps, if one is.
 fn swept(at: &mut Kept, sweep: Option<u64>) -> Result<(), Refusal> {
-    match sweep {
-        Some(every) if at.made.is_multiple_of(every) => {
-            at.origin.forget();
-            sweep::pass(&mut at.state, |_| ()).map(|_| ())
-        }
-        _ => Ok(()),
+    if sweep::is_due(sweep, at.made) {
+        sweep::pass(at.course.change(), |_| ())?;
     }
+    Ok(())
 }
 
 #[cfg(test)]

@@ -4,12 +4,14 @@ mod account;
 mod arguments;
 mod capability_text;
 mod changes;
+mod colour;
 mod command;
+mod course;
 mod cover;
 mod digits;
 mod drive;
+mod dump;
 mod edition;
-mod engine;
 mod file;
 mod gdb;
 mod halt;
@@ -17,6 +19,7 @@ mod image;
 mod json;
 mod last;
 mod listing;
+mod manual;
 mod map;
 mod memory_rows;
 mod names;
@@ -26,6 +29,8 @@ mod proved;
 mod recent;
 mod report;
 mod request;
+#[cfg(test)]
+mod samples;
 mod save;
 #[cfg(test)]
 mod sequence;
@@ -37,10 +42,9 @@ mod sweep;
 mod trace;
 mod trap;
 mod visible;
-mod walk;
 
 use arguments::Arguments;
-use clap::Parser;
+use clap::FromArgMatches;
 use std::io::Write;
 use std::process::ExitCode;
 
@@ -71,15 +75,26 @@ impl Status {
 
 /// A message on standard error; where that can not be written, the exit status says it alone.
 fn complain(reason: &str) {
-    let _ = writeln!(std::io::stderr(), "bench: {reason}");
+    let line = format!("bench: {reason}\n");
+    let _ = std::io::stderr().write_all(colour::error(&line).as_bytes());
+}
+
+/// The command line, or its own message.
+fn parsed() -> Result<Arguments, clap::Error> {
+    let choice = colour::of_usage(std::env::args_os());
+    let mut matches = arguments::command().color(choice).try_get_matches()?;
+    Arguments::from_arg_matches_mut(&mut matches)
 }
 
 fn main() -> ExitCode {
-    let status = match Arguments::try_parse() {
-        Ok(arguments) => command::obey(arguments.command).unwrap_or_else(|reason| {
-            complain(&reason);
-            Status::Bad
-        }),
+    let status = match parsed() {
+        Ok(arguments) => {
+            colour::ask(arguments.color);
+            command::obey(arguments.command).unwrap_or_else(|reason| {
+                complain(&reason);
+                Status::Bad
+            })
+        }
         Err(usage) => {
             let _ = usage.print();
             if usage.use_stderr() {

@@ -32,7 +32,9 @@ const MOST_NAMES: usize = 16;
 /// How many times the board's size the picture goes past the board.
 const FAR: u64 = 4;
 
-const TEMPLATES: [(&str, &str); 8] = [
+const TEMPLATES: [(&str, &str); 10] = [
+    ("head.html", include_str!("page/head.html")),
+    ("foot.html", include_str!("page/foot.html")),
     ("page.html", include_str!("page/page.html")),
     ("page.css", include_str!("page/page.css")),
     ("map.html", include_str!("page/map.html")),
@@ -129,7 +131,7 @@ pub fn of(subject: &Subject, answer: &Answer) -> Result<String, String> {
         "fits": subject.fits.iter().map(fit).collect::<Vec<Value>>(),
         "map": map(subject, answer),
         "ran": matches!(answer, Answer::Ran { .. }),
-        "swept": false, "trap": null, "last": null, "changes": null, "registers": null, "control": null,
+        "swept": false, "watched": false, "trap": null, "last": null, "changes": null, "registers": null, "control": null,
     });
     if let Answer::Ran {
         account,
@@ -138,6 +140,7 @@ pub fn of(subject: &Subject, answer: &Answer) -> Result<String, String> {
     } = answer
     {
         value["swept"] = account.swept.into();
+        value["watched"] = (!account.watched.is_empty()).into();
         value["trap"] = account
             .trap
             .as_ref()

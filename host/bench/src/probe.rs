@@ -1,6 +1,6 @@
 //! Questions that the proved machine answers by executing one instruction on a scratch state: the
 //! rights and the type of a capability, the address that an access or a jump asks for, what the
-//! revocation bits say of a low bound, and which registers no start may hold.
+//! revocation bits say of a low bound, whether the timer interrupts, and which registers no start may hold.
 
 #[cfg(test)]
 mod tests;
@@ -9,7 +9,7 @@ use crate::proved::{self, UNSOUND};
 use crate::request::Request;
 use lent::{
     instruction_bytes, Capability, Revocation, State, CAPABILITIES, EXECUTABLE_ROOT, MCAUSE,
-    MEMORY_ROOT, MSTATUS, MTVAL, PCC,
+    MEMORY_ROOT, MSTATUS, MTVAL, PCC, TIME,
 };
 
 // The field of a long word that a probe puts in place.
@@ -23,6 +23,8 @@ const CGETTYPE: u32 = 0xFE10_80DB;
 /// CSetAddr c1, c1, c2 (the same chapter).
 const CSETADDR: u32 = 0x2020_80DB;
 
+/// ADDI c0, c0, 0.
+const NOP: u32 = 0x0000_0013;
 /// CLC c1, 8(c1).
 const CLC: u32 = 0x0080_B083;
 /// The metadata, but for B and T, of a capability of exponent 0 with every right to memory.
@@ -101,6 +103,20 @@ pub fn access(word: u32, address: u32) -> Option<u32> {
     proved::run(&mut state, 1).ok()?;
     let offset = state.register(MTVAL).wrapping_sub(TRIED);
     matches!(state.register(MCAUSE), 4..=7).then(|| address.wrapping_add(offset))
+}
+
+/// Whether the timer interrupts one of the next so many steps, if nothing but time changes: a step is made with a state's
+/// control words, at the time of the last of them. Once it is time, the timer interrupts at every later time too.
+pub fn interrupts_within(state: &State, steps: u64) -> bool {
+    let Some(more) = steps.checked_sub(1) else {
+        return false;
+    };
+    let mut scratch = scratch(0, NOP, 1, Capability::integer(0));
+    for place in MSTATUS..scratch.regs.len() {
+        scratch.regs[place] = state.register(place);
+    }
+    scratch.set_long(TIME, state.long(TIME).saturating_add(more));
+    proved::run(&mut scratch, 1).is_ok_and(|made| made.trapped == 1)
 }
 
 /// What a state's revocation bits say of the granule that holds a low bound. An empty capability

@@ -3,12 +3,14 @@
 //! Everything that the command says about the machine, about bounds, of an instruction or about
 //! whether a sheet is good comes through here.
 
+pub mod engine;
 pub mod sheets;
 
 pub use ::proved::{assemble, list, Refused};
 
 use ::proved::{bounds_high, bounds_low, cut_exact, cut_high, cut_low, cut_number};
 use lent::{instruction_bytes, number_and_rest, Answer, Capability, State, Watch};
+use std::ops::{AddAssign, Sub};
 
 /// The most steps that one call runs (document 01, refusal 5).
 pub const MOST_STEPS: u64 = lent::MOST_STEPS as u64;
@@ -18,6 +20,31 @@ pub const MOST_STEPS: u64 = lent::MOST_STEPS as u64;
 pub struct Counts {
     pub retired: u64,
     pub trapped: u64,
+}
+
+impl Counts {
+    /// All of the steps.
+    pub fn steps(self) -> u64 {
+        self.retired + self.trapped
+    }
+}
+
+impl AddAssign for Counts {
+    fn add_assign(&mut self, more: Counts) {
+        self.retired += more.retired;
+        self.trapped += more.trapped;
+    }
+}
+
+impl Sub for Counts {
+    type Output = Counts;
+
+    fn sub(self, less: Counts) -> Counts {
+        Counts {
+            retired: self.retired - less.retired,
+            trapped: self.trapped - less.trapped,
+        }
+    }
 }
 
 /// Document 01's number of a refusal.
@@ -56,10 +83,10 @@ pub fn run(state: &mut State, steps: u64) -> Result<Counts, Refusal> {
     run_watched(state, steps, &mut Watch::default())
 }
 
-/// Runs them with a watch record, whose counts rise. A refused run changes nothing of it either.
+/// Runs them with a watch record, whose counts rise, by the engine that is chosen. A refused run changes nothing of it either.
 pub fn run_watched(state: &mut State, steps: u64, record: &mut Watch) -> Result<Counts, Refusal> {
     let steps = u32::try_from(steps).unwrap_or(u32::MAX);
-    let answer = Answer::of(state.run_watched(::proved::run_watched, steps, record));
+    let answer = Answer::of(state.run_watched(engine::chosen().run(), steps, record));
     match answer.number {
         0 => Ok(Counts {
             retired: answer.retired,

@@ -1,12 +1,13 @@
 //! The last steps before a stop, as the proved lister has their words.
 
 use crate::image::lines::Lines;
+use crate::last::Last;
 use crate::names::Names;
-use crate::proved::instruction;
+use crate::proved::{instruction, Counts, Refusal};
 use crate::request::digits;
 use crate::trap::Trap;
+use lent::{Capability, State, PCC};
 use serde_json::{json, Value};
-use std::collections::VecDeque;
 use std::fmt::Write;
 
 /// A step: its number from 1, where it was, its word if one was fetched, and why it trapped if it did.
@@ -18,44 +19,39 @@ struct Step {
     trap: Option<String>,
 }
 
-/// The last steps, at most so many.
+impl Step {
+    /// A step from PCC and the word there, by the state after it.
+    fn of(
+        number: u64,
+        (pcc, word): (Capability, Option<u32>),
+        after: &State,
+        counts: Counts,
+    ) -> Step {
+        let trap = (counts.trapped > 0).then(|| Trap::new(after, pcc));
+        Step {
+            number,
+            address: pcc.address,
+            word: trap.as_ref().map_or(word, |trap| trap.word),
+            trap: trap.map(|trap| trap.cause),
+        }
+    }
+}
+
+/// The last steps of a run, in order, and how many it made.
 #[derive(Clone, PartialEq, Eq, Debug)]
 pub struct Recent {
-    most: u64,
     made: u64,
-    steps: VecDeque<Step>,
+    steps: Vec<Step>,
 }
 
 impl Recent {
-    pub fn new(most: u64) -> Recent {
-        Recent {
-            most,
-            made: 0,
-            steps: VecDeque::new(),
-        }
-    }
-
-    /// A step that retired.
-    pub fn retired(&mut self, address: u32, word: u32) {
-        self.push(address, Some(word), None);
-    }
-
-    /// A step that trapped.
-    pub fn trapped(&mut self, trap: &Trap) {
-        self.push(trap.pcc.address, trap.word, Some(trap.cause.clone()));
-    }
-
-    fn push(&mut self, address: u32, word: Option<u32>, trap: Option<String>) {
-        self.made += 1;
-        if self.steps.len() as u64 == self.most {
-            self.steps.pop_front();
-        }
-        self.steps.push_back(Step {
-            number: self.made,
-            address,
-            word,
-            trap,
-        });
+    pub fn of(last: &Last, made: u64, most: u64) -> Result<Recent, Refusal> {
+        let see = |state: &State| {
+            let pcc = state.capability(PCC);
+            (pcc, state.instruction(pcc.address))
+        };
+        let steps = last.steps(made, most, see, Step::of)?;
+        Ok(Recent { made, steps })
     }
 
     /// A line a step.
@@ -96,23 +92,34 @@ impl Recent {
 mod tests {
     use super::*;
     use crate::names::Name;
+    use crate::samples::{coded, counting, loading, EBREAK, START};
+
+    fn recent(start: &State, made: u64, most: u64) -> Recent {
+        Recent::of(&Last::new(start, most, None), made, most).unwrap()
+    }
 
     #[test]
-    fn the_last_steps_are_kept_in_order() {
-        let mut recent = Recent::new(2);
-        for step in 0..5 {
-            recent.retired(0x2000_0000 + 4 * step, 0x0015_0513);
-        }
-        let names = Names(vec![Name::new(b"loop", 0x2000_0010, 4)]);
+    fn the_last_steps_are_in_order() {
+        let recent = recent(&coded(&[0x0015_0513; 6]), 5, 2);
+        let names = Names(vec![Name::new(b"loop", START + 16, 4)]);
         let shown = "The last steps, 2 of 5:
        4  2000000c  00150513  addi 10 10 1
        5  20000010  00150513  addi 10 10 1             byte 0 of loop
 ";
         assert_eq!(recent.text(&names, &Lines::default()), shown);
-        assert_eq!(recent.json(&Lines::default())[1]["number"], 5);
-        assert_eq!(
-            recent.json(&Lines::default()).as_array().map(Vec::len),
-            Some(2)
-        );
+        let steps = recent.json(&Lines::default());
+        assert_eq!(steps[1]["number"], 5);
+        assert_eq!(steps.as_array().map(Vec::len), Some(2));
+    }
+
+    // A value that no start may hold is loaded by the first step, and the last one traps.
+    #[test]
+    fn a_trap_is_told_with_its_cause_and_a_load_goes_on() {
+        let recent = recent(&loading(&[], counting(40, EBREAK)), 82, 3);
+        let steps = recent.json(&Lines::default());
+        assert_eq!(steps[2]["trap"], "breakpoint (EBREAK)");
+        let told: Vec<&Value> = (0..3).map(|step| &steps[step]["address"]).collect();
+        assert_eq!(told, [START + 4, START + 8, START + 12]);
+        assert_eq!(steps[0]["instruction"], "addi 10 10 1");
     }
 }

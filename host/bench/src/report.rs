@@ -8,14 +8,48 @@ use crate::edition;
 use crate::listing::Part;
 use crate::memory_rows::{rows, Row, ROW};
 use crate::names::Names;
-use crate::proved::{bounds, instruction};
+use crate::probe;
+use crate::proved::{bounds, instruction, Refusal, UNSOUND};
 use crate::request::digits;
 use crate::stack::{Stack, Used};
 use crate::sweep::{self, Went};
 use crate::trap::{Action, Asked, Authority, Trap};
-use lent::{place_name, Capability, Range, State, CAPABILITIES, GRANULE};
-use lent::{COMPARE, MCAUSE, MIE, MSHWM, MSHWMB, MSTATUS, MTVAL, PCC, REPORT_EDITION, TIME};
+use lent::{place_name, Capability, Range, State, CAPABILITIES, GRANULE, MOST_MEMORY};
+use lent::{COMPARE, MCAUSE, MSHWM, MSHWMB, MSTATUS, MTVAL, PCC, REPORT_EDITION, TIME};
 use std::fmt::Write;
+
+/// The refusal of memory or a window outside the limits.
+const LIMITS: Refusal = Refusal(2);
+
+/// What is lent of memory and of its window; of more memory than there can be, only that.
+fn lent_memory(state: &State) -> String {
+    let (bytes, window) = (state.mem.len(), state.window);
+    let size = match bytes > MOST_MEMORY {
+        true => format!("more than {}", count(MOST_MEMORY as u64, "byte")),
+        false => count(bytes as u64, "byte"),
+    };
+    let (start, part) = (state.start, count(window.size.into(), "byte"));
+    let from = window.start;
+    format!("Here memory is {size} from {start:08x} on, and the window {part} from byte {from} of it on")
+}
+
+/// That the machine refused a state, with document 01's number; for an unsound one also by which registers, with their bounds, and
+/// for one outside the limits what was lent.
+pub fn refused(refusal: Refusal, state: &State) -> String {
+    let said = format!("refused, number {}: {}", refusal.0, refusal.reason());
+    if refusal == LIMITS {
+        return format!("{said}. {}", lent_memory(state));
+    }
+    if refusal != UNSOUND {
+        return said;
+    }
+    let shown = |place: usize| {
+        let bounds = bounds(state.capability(place));
+        format!("{} {}", place_name(place), region(bounds))
+    };
+    let shown: Vec<String> = probe::unsound(state).into_iter().map(shown).collect();
+    format!("{said}: {}", shown.join(", "))
+}
 
 /// A run: its counts, how deep the stack went, the watched ranges, the sweeps, the trap, the registers.
 pub fn run(account: &Account) -> String {
@@ -53,10 +87,11 @@ pub fn counts(state: &State, outcome: &Outcome) -> String {
 /// What a program that stands still may wait for: a compare that is set, where interrupts are enabled.
 fn waiting(state: &State) -> String {
     let (time, compare) = (state.long(TIME), state.long(COMPARE));
-    if state.register(MSTATUS) & MIE == 0 || compare == u64::MAX {
+    let steps = compare.saturating_sub(time);
+    if compare == u64::MAX || !probe::interrupts_within(state, steps.saturating_add(1)) {
         return String::new();
     }
-    let steps = count(compare.saturating_sub(time), "step");
+    let steps = count(steps, "step");
     format!(" The timer would interrupt it in {steps}, which is more than were left.")
 }
 
@@ -142,6 +177,12 @@ fn went_line(went: &Went, names: &Names) -> String {
 
 /// A trap: where, the word, its instruction, the cause, what was asked beside its bounds, and what lies there.
 pub fn trap(trap: &Trap, state: &State, names: &Names) -> String {
+    let memory = trap.asked.map(|asked| memory_there(asked, state));
+    trap_alone(trap, state, names) + &memory.unwrap_or_default()
+}
+
+/// The same without what lies there.
+pub fn trap_alone(trap: &Trap, state: &State, names: &Names) -> String {
     let mut text = String::new();
     if trap.gone_on {
         let _ = writeln!(text, "{GONE_ON}");
@@ -149,9 +190,6 @@ pub fn trap(trap: &Trap, state: &State, names: &Names) -> String {
     let _ = writeln!(text, "Trap: {}.\n", trap.cause);
     for (name, said) in trap_rows(trap, state, names) {
         let _ = writeln!(text, "  {name:<8} {said}");
-    }
-    if let Some(asked) = trap.asked {
-        text.push_str(&memory_there(asked, state));
     }
     text
 }
@@ -163,9 +201,10 @@ pub const GONE_ON: &str =
 /// The lines of a trap, each with its name.
 pub fn trap_rows(trap: &Trap, state: &State, names: &Names) -> Vec<(String, String)> {
     let place = names.place(trap.pcc.address);
-    let unfetched = match trap.is_interrupt() {
-        true => "before the word there",
-        false => "not fetched",
+    let unfetched = match (trap.is_interrupt(), trap.action) {
+        (true, _) => "before the word there",
+        (_, Action::Fetch) => "not fetched",
+        _ => "a word that is not known",
     };
     let word = trap.word.map_or(unfetched.into(), word_shown);
     let at = format!("{:08x}, {word}{place}", trap.pcc.address);

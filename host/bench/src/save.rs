@@ -1,7 +1,8 @@
 //! Saving a file whole or not at all: it is written beside its place and then moved there.
 
+use crate::file;
 use std::fs::{self, File};
-use std::io::{BufWriter, Error, Write};
+use std::io::{BufWriter, Error, ErrorKind, Write};
 use std::path::{Path, PathBuf};
 
 /// A place that a file can be saved to.
@@ -70,6 +71,10 @@ impl Place {
     }
 
     fn told(&self, error: Error) -> String {
-        format!("{}: {error}", self.name)
+        let why = match error.kind() {
+            ErrorKind::NotFound => "the folder that it is to be in is not there".into(),
+            _ => file::why(&error),
+        };
+        format!("{}: {why}", self.name)
     }
 }

@@ -12,6 +12,7 @@ pub use results::Results;
 pub use work::{work, Done};
 
 use crate::command::fit::Board;
+use crate::file;
 use crate::page::digest;
 use std::ffi::{OsStr, OsString};
 use std::fs;
@@ -33,7 +34,7 @@ impl Shelf {
     /// The names of the images: the folder's regular files, but for those that belong to the board, by the order of
     /// their bytes.
     pub fn names(&self) -> Result<Vec<OsString>, String> {
-        let told = |error| format!("{}: {error}", self.folder.display());
+        let told = |error| format!("{}: {}", self.folder.display(), file::why(&error));
         let own = self.with.iter().map(|(path, _)| path);
         let own = own.chain([&self.board_name]);
         let own: Vec<PathBuf> = own.filter_map(|path| path.canonicalize().ok()).collect();
@@ -103,7 +104,7 @@ fn write_page(path: &Path, page: &str) -> Result<(), String> {
     let mut beside = path.as_os_str().to_owned();
     beside.push(".part");
     let written = fs::write(&beside, page).and_then(|()| fs::rename(&beside, path));
-    written.map_err(|error| format!("{}: {error}", path.display()))
+    written.map_err(|error| format!("{}: {}", path.display(), file::why(&error)))
 }
 
 #[cfg(test)]

@@ -15,6 +15,16 @@ pub struct Went {
     pub value: Capability,
 }
 
+/// How many steps are left to the next sweep, after so many that were made, where one comes after every so many.
+pub fn left(every: Option<u64>, made: u64) -> u64 {
+    every.map_or(u64::MAX, |every| every - made % every)
+}
+
+/// Whether one comes after so many steps.
+pub fn is_due(every: Option<u64>, made: u64) -> bool {
+    made > 0 && every == Some(left(every, made))
+}
+
 /// The granules of a state's memory.
 pub fn granules(state: &State) -> u64 {
     (state.mem.len() / GRANULE) as u64

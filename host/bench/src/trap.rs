@@ -109,7 +109,8 @@ impl Trap {
         })
     }
 
-    fn new(after: &State, pcc: Capability) -> Trap {
+    /// The trap of a step from PCC, by the state that it left.
+    pub fn new(after: &State, pcc: Capability) -> Trap {
         let (mcause, mtval) = (after.register(MCAUSE), after.register(MTVAL));
         let action = action(after, pcc, mcause, mtval);
         let word = after.instruction(pcc.address);

@@ -57,7 +57,8 @@ impl Bench {
 
     /// A client that the bench serves: one that comes just after another is gone may be too early.
     fn client(&self) -> Client {
-        for _ in 0..200 {
+        let began = Instant::now();
+        while began.elapsed() < Duration::from_secs(20) {
             let mut client = self.connect();
             client.send("qC");
             if client.answer() == Some("QC1".into()) {
@@ -232,6 +233,47 @@ fn bytes_of_any_kind_over_the_line() {
     let long = framed(&vec![b'm'; 4_000_000]);
     client.0.write_all(&long).expect("written");
     assert_eq!(client.answer(), Some("E03".into()));
+}
+
+/// The most memory, in KiB, that a process has had.
+fn most_memory(process: u32) -> u64 {
+    let status = std::fs::read_to_string(format!("/proc/{process}/status")).expect("a status");
+    let line = status.lines().find(|line| line.starts_with("VmHWM:"));
+    let words = line.expect("its most memory").split_whitespace();
+    words
+        .skip(1)
+        .find_map(|word| word.parse().ok())
+        .expect("a number")
+}
+
+#[test]
+fn a_client_that_asks_and_never_reads_is_given_up() {
+    let bench = Bench::of_code("gdb_never_reads", &[addi(10, 10, 1), EBREAK]);
+    let mut silent = bench.client();
+    let patience = Some(Duration::from_millis(500));
+    silent.0.set_write_timeout(patience).expect("a timeout");
+    // Each is answered by a thousand letters, until the bench waits for its reader.
+    let asked = framed(b"g").repeat(1_000);
+    let began = Instant::now();
+    while silent.0.write_all(&asked).is_ok() {
+        assert!(began.elapsed() < Duration::from_secs(60), "it takes all");
+    }
+    let mut second = bench.connect();
+    assert_eq!(
+        second.answer(),
+        Some("E.another debugger is connected".into())
+    );
+    // A client that comes later is served, and the machine is as it was.
+    let mut later = bench.client();
+    assert_eq!(later.ask("p20"), "00000020");
+    assert!(most_memory(bench.child.id()) < 64 << 10);
+    later.send("k");
+    let (status, text) = bench.end();
+    assert_eq!(status, 0);
+    assert!(
+        text.contains("is gone, its answers were not read;"),
+        "{text}"
+    );
 }
 
 #[test]

@@ -2,18 +2,10 @@
 
 mod common;
 
-use common::state::{text, with_code};
+use common::state::{text, with_code, with_code_and_value, LOAD_IT};
 use common::words::{addi, EBREAK};
-use common::{bench_in, directory, examples, golden};
+use common::{bench_in, directory, examples, golden, SMALL};
 use serde_json::json;
-
-const SMALL: [&str; 5] = [
-    "run",
-    "--map",
-    "interlock_small.map",
-    "interlock_small.hex",
-    "interlock_image.hex",
-];
 
 fn small(further: &[&str]) -> common::Answer {
     bench_in(&examples(), &[&SMALL[..], further].concat())
@@ -130,6 +122,44 @@ fn a_trace_ends_at_a_breakpoint() {
         "{}",
         answer.out
     );
+}
+
+// The second step loads a value with low above high, which no start may hold.
+#[test]
+fn a_run_that_is_looked_at_goes_on_after_a_load_of_what_no_start_may_hold() {
+    let folder = directory("looks_unsound");
+    let count = addi(10, 10, 1);
+    let state = with_code_and_value(&[count, LOAD_IT, count, count, EBREAK]);
+    std::fs::write(folder.join("start"), text(&state)).expect("a state");
+    let run = |further: &[&str]| {
+        let arguments = [&["run", "--state", "start", "--json"][..], further].concat();
+        let answer = bench_in(&folder, &arguments);
+        assert_eq!(answer.err, "", "{further:?}");
+        answer.json()
+    };
+    let plain = run(&[]);
+    let seen = run(&["--last", "3", "--cover", "--break", "0x20000010"]);
+    assert_eq!(
+        (&seen["end"], &seen["retired"]),
+        (&json!("break"), &json!(4))
+    );
+    let (last, cover) = (&seen["last"], &seen["cover"]);
+    let told = [0, 1, 2].map(|step| last[step]["address"].as_u64().expect("an address"));
+    assert_eq!(told, [0x2000_0004, 0x2000_0008, 0x2000_000C]);
+    assert_eq!(last[0]["instruction"], "clc 2 1 64");
+    assert_eq!(cover["outside"], 16);
+    for further in [
+        &["--last", "9"][..],
+        &["--cover"],
+        &["--break", "0x20000040"],
+    ] {
+        let looked = run(further);
+        for part in ["end", "retired", "trapped", "trap", "state"] {
+            assert_eq!(looked[part], plain[part], "{further:?}");
+        }
+    }
+    // All steps were made: that the next one has no start is not told.
+    assert_eq!(run(&["--steps", "2", "--cover"])["end"], "steps");
 }
 
 #[test]

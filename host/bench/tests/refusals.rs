@@ -2,16 +2,9 @@
 
 mod common;
 
-use common::state::{text, with_code};
+use common::state::{text, with_code, LOW_ABOVE_HIGH};
 use common::{bench_in, directory, golden, shell_in};
 use lent::{Capability, State, MEPCC};
-
-/// Low is 2^24 above high.
-const LOW_ABOVE_HIGH: Capability = Capability {
-    address: 0x0500_0000,
-    metadata: 0x7E3C_0805,
-    tag: 1,
-};
 
 /// A state that is refused, by name.
 fn states() -> Vec<(&'static str, State)> {

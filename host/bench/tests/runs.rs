@@ -2,19 +2,12 @@
 
 mod common;
 
-use common::state::{text, with_code, START};
+use common::state::{text, with_code, with_code_and_value, LOAD_IT, START};
 use common::words::{addi, cjal, cjalr, r, store, EBREAK};
-use common::{bench_in, directory, examples, golden, shell_in};
+use common::{bench_in, directory, examples, golden, shell_in, SMALL};
 use lent::{Capability, State, EXECUTABLE_ROOT, MEMORY_ROOT, MTCC};
 use serde_json::json;
 
-const SMALL: [&str; 5] = [
-    "run",
-    "--map",
-    "interlock_small.map",
-    "interlock_small.hex",
-    "interlock_image.hex",
-];
 const LARGE: [&str; 5] = [
     "run",
     "--map",
@@ -241,17 +234,11 @@ fn the_trace_shows_products_and_quotients() {
     assert_eq!(lines, said);
 }
 
-/// An endless loop: whoever has read enough is not kept waiting, but a state is saved all the same.
 /// A run that loads a value with low above high goes on, and its page has the lines of its trace.
 #[test]
 fn the_page_of_a_run_that_loads_what_no_start_may_hold() {
     let directory = directory("loads_unsound");
-    // CLC c2, 64(c1)
-    let code = [addi(10, 0, 1), 0x0400_B103, addi(10, 10, 1), EBREAK];
-    let mut state = with_code(&code);
-    state.set(1, Capability::tagged(START, MEMORY_ROOT));
-    let unsound = Capability::tagged(0x0500_0000, 0x7E3C_0805);
-    state.write_capability(START + 64, unsound);
+    let state = with_code_and_value(&[addi(10, 0, 1), LOAD_IT, addi(10, 10, 1), EBREAK]);
     std::fs::write(directory.join("start"), text(&state)).unwrap();
     let run = ["run", "--state", "start"];
     let paged = bench_in(&directory, &[&run[..], &["--report", "page"]].concat());
@@ -266,6 +253,7 @@ fn the_page_of_a_run_that_loads_what_no_start_may_hold() {
     }
 }
 
+/// An endless loop: whoever has read enough is not kept waiting, but a state is saved all the same.
 #[test]
 fn a_trace_ends_with_its_reader() {
     let directory = directory("trace_reader");

@@ -59,7 +59,7 @@ fn listener(port: u16, anywhere: bool) -> Result<TcpListener, String> {
         true => Ipv4Addr::UNSPECIFIED,
         false => Ipv4Addr::LOCALHOST,
     };
-    let told = |error: std::io::Error| format!("port {port}: {error}");
+    let told = |error: std::io::Error| format!("port {port}: {}", file::why(&error));
     let listener = TcpListener::bind((host, port)).map_err(told)?;
     let place = listener.local_addr().map_err(told)?;
     tell(&format!(

@@ -28,7 +28,7 @@ pub fn list(asked: &List) -> Result<Status, String> {
         say_json(&json::listing(&parts))?;
     } else if asked.plain {
         let plain: String = parts.iter().map(|part| part.plain.as_str()).collect();
-        say(&plain)?;
+        say_bytes(plain.as_bytes())?;
     } else {
         say(&report::listing(&parts))?;
     }

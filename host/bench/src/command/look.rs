@@ -3,24 +3,55 @@
 use super::run::Ready;
 use crate::arguments::{self, Run};
 use crate::cover::Cover;
-use crate::halt::Stops;
+use crate::last::Last;
+use crate::proved::Refusal;
 use crate::recent::Recent;
-use crate::walk::Look;
 use serde_json::Value;
+use std::collections::BTreeSet;
 
-/// Who looks at each step, if someone does.
-pub fn of(asked: &Run, ready: &Ready) -> Result<Option<Look>, String> {
-    let breaks = asked.breaks.iter().map(|place| address(place, ready));
-    let breaks = breaks.collect::<Result<_, String>>()?;
-    let looks = !asked.breaks.is_empty() || asked.last.is_some() || asked.cover;
-    Ok(looks.then(|| Look {
-        stops: Stops {
-            breaks,
-            ..Stops::default()
-        },
-        recent: asked.last.map(Recent::new),
-        cover: asked.cover.then(|| Cover::new(&ready.state)),
-    }))
+/// What was seen of a run's steps.
+#[derive(Default)]
+pub struct Look {
+    pub breaks: BTreeSet<u32>,
+    pub cover: Option<Cover>,
+    recent: Option<Recent>,
+}
+
+impl Look {
+    pub fn of(asked: &Run, ready: &Ready) -> Result<Look, String> {
+        let breaks = asked.breaks.iter().map(|place| address(place, ready));
+        Ok(Look {
+            breaks: breaks.collect::<Result<_, String>>()?,
+            cover: asked.cover.then(|| Cover::new(&ready.state)),
+            recent: None,
+        })
+    }
+
+    /// Looks back at the last steps of a run that made so many, where they were asked for.
+    pub fn back(&mut self, asked: &Run, last: Option<&Last>, made: u64) -> Result<(), Refusal> {
+        let recent = asked.last.zip(last);
+        let recent = recent.map(|(most, last)| Recent::of(last, made, most));
+        self.recent = recent.transpose()?;
+        Ok(())
+    }
+
+    pub fn text(&self, ready: &Ready) -> String {
+        let last = self.recent.as_ref();
+        let last = last.map(|last| last.text(&ready.names, &ready.lines));
+        let cover = self.cover.as_ref();
+        let cover = cover.map(|cover| cover.text(&ready.segments, &ready.names));
+        let parts = last.into_iter().chain(cover);
+        parts.map(|part| format!("\n{part}")).collect()
+    }
+
+    /// The same as JSON: null where it was not asked for.
+    pub fn put(&self, ready: &Ready, value: &mut Value) {
+        let last = self.recent.as_ref();
+        value["last"] = last.map(|last| last.json(&ready.lines)).into();
+        let cover = self.cover.as_ref();
+        let cover = cover.map(|cover| cover.json(&ready.segments, &ready.names));
+        value["cover"] = cover.into();
+    }
 }
 
 /// The address of a breakpoint: an image's symbol, a line of its source, or a number.
@@ -33,26 +64,4 @@ fn address(place: &str, ready: &Ready) -> Result<u32, String> {
             format!("--break {place}: no symbol or line of an image has that name, and as a number it is {reason}")
         }),
     }
-}
-
-/// What was seen of the steps.
-pub fn text(look: Option<&Look>, ready: &Ready) -> String {
-    let last = look.and_then(|look| look.recent.as_ref());
-    let last = last.map_or(String::new(), |last| {
-        format!("\n{}", last.text(&ready.names, &ready.lines))
-    });
-    let cover = look.and_then(|look| look.cover.as_ref());
-    let cover = cover.map_or(String::new(), |cover| {
-        format!("\n{}", cover.text(&ready.segments, &ready.names))
-    });
-    last + &cover
-}
-
-/// The same as JSON: null where it was not asked for.
-pub fn put(look: Option<&Look>, ready: &Ready, value: &mut Value) {
-    let last = look.and_then(|look| look.recent.as_ref());
-    let cover = look.and_then(|look| look.cover.as_ref());
-    value["last"] = last.map(|last| last.json(&ready.lines)).into();
-    let cover = cover.map(|cover| cover.json(&ready.segments, &ready.names));
-    value["cover"] = cover.into();
 }

@@ -1,7 +1,8 @@
 //! `bench run`: the start state, the run, what is said and saved at the end.
 
 use super::fit::{rows, verdict, Beside, Board, Labelled};
-use super::{look, read_state, refused_state, say, say_json};
+use super::look::Look;
+use super::{read_state, refused_state, say, say_json};
 use crate::account::Account;
 use crate::arguments::Run;
 use crate::drive::{self, Outcome, Plan};
@@ -16,8 +17,7 @@ use crate::proved::{self, Counts, Refusal, MOST_STEPS};
 use crate::save::Place;
 use crate::sheet::Sheet;
 use crate::stack::Stack;
-use crate::walk::{self, Look};
-use crate::{complain, file, json, report, state_file, trace, Status};
+use crate::{colour, complain, file, json, report, state_file, trace, Status};
 use indicatif::{ProgressBar, ProgressStyle};
 use lent::{Range, State, Watch, Window, COMPARE, TIME};
 use std::io::Write;
@@ -55,7 +55,7 @@ pub fn run(asked: Run) -> Result<Status, String> {
         Err(Halt::Bad(reason)) => return Err(reason),
         Ok(ready) => ready,
     };
-    let look = look::of(&asked, &ready)?;
+    let look = Look::of(&asked, &ready)?;
     let place = asked.save.as_deref().map(|path| place(path, &asked));
     let place = place.transpose()?;
     let told = if asked.json {
@@ -81,29 +81,32 @@ impl<'a> Task<'a> {
     fn carry_out(
         &self,
         mut ready: Ready,
-        mut look: Option<Look>,
+        mut look: Look,
         place: Option<Place>,
     ) -> Result<Status, String> {
         let asked = self.asked;
-        let state = &mut ready.state;
-        let kept = || (state.clone(), Last::new(state, LAST, asked.sweep));
-        let mut kept = self.page.as_ref().map(|_| kept());
-        let last = kept.as_mut().map(|(_, last)| last);
-        let outcome = match drive(asked, (state, ready.record), last, look.as_mut()) {
-            Err(refusal) => return refused_state(refusal, state, asked.json),
+        let before = self.page.as_ref().map(|_| ready.state.clone());
+        let wanted = asked.last.max(before.as_ref().map(|_| LAST));
+        let mut last = wanted.map(|wanted| Last::new(&ready.state, wanted, asked.sweep));
+        let run = drive(asked, &mut ready, last.as_mut(), &mut look).and_then(|outcome| {
+            let looked = look.back(asked, last.as_ref(), outcome.counts.steps());
+            looked.map(|()| outcome)
+        });
+        let outcome = match run {
+            Err(refusal) => return refused_state(refusal, &ready.state, asked.json),
             Ok(outcome) => outcome,
         };
         let (named, swept) = ((&ready.names, ready.stack), asked.sweep.is_some());
         let mut account = Account::of(&ready.state, &outcome, named, self.fits, swept);
         account.watched = left(asked, &outcome);
         // What cannot be said is saved nevertheless, and what cannot be saved is said.
-        let said = conclude(asked, &ready, &account, look.as_ref());
+        let said = conclude(asked, &ready, &account, &look);
         let saved = place.map_or(Ok(()), |place| {
             place.write(state_file::write(&ready.state).as_bytes())
         });
-        let paged = kept.map_or(Ok(()), |(before, last)| {
+        let paged = before.zip(last).map_or(Ok(()), |(before, last)| {
             let subject = self.subject(&ready.segments);
-            self.write_page(|| ran_page(&subject?, &account, &before, last))
+            self.write_page(|| ran_page(&subject?, &account, &before, &last))
         });
         saved.and(paged).and(said)
     }
@@ -184,10 +187,9 @@ pub fn ran_page(
     subject: &Subject,
     account: &Account,
     before: &State,
-    last: Last,
+    last: &Last,
 ) -> Result<String, String> {
-    let counts = account.outcome.counts;
-    let last = last.lines(counts.retired + counts.trapped);
+    let last = last.lines(account.outcome.counts.steps(), LAST);
     let last = last.map_err(|refusal| refusal.reason().to_string())?;
     let answer = Answer::Ran {
         account,
@@ -363,12 +365,12 @@ fn place(path: &Path, asked: &Run) -> Result<Place, String> {
     Place::apart(path, &read)
 }
 
-/// Runs, with a line a step or a bar of progress. Where the page's last steps are wanted, states are kept on the way.
+/// Runs, with a line a step or a bar of progress. Where the last steps are wanted, states are kept on the way.
 fn drive(
     asked: &Run,
-    (state, record): (&mut State, Watch),
+    ready: &mut Ready,
     mut last: Option<&mut Last>,
-    look: Option<&mut Look>,
+    look: &mut Look,
 ) -> Result<Outcome, Refusal> {
     let bar = progress(asked);
     let mut number = 0;
@@ -376,7 +378,7 @@ fn drive(
         if let Some(last) = &mut last {
             last.see(number, before);
         }
-        number += made.retired + made.trapped;
+        number += made.steps();
         if asked.trace {
             let told = tell(asked.json, &trace::line(number, before, after, made));
             return told || asked.save.is_some();
@@ -384,18 +386,18 @@ fn drive(
         bar.set_position(number);
         true
     };
-    let plan = Plan {
-        steps: asked.steps,
+    let mut plan = Plan {
         through_traps: asked.through_traps,
-        call: if asked.trace { 1 } else { MOST_STEPS },
         sweep: asked.sweep,
-        record,
-        watch: &mut watch,
+        record: ready.record,
+        breaks: std::mem::take(&mut look.breaks),
+        cover: look.cover.as_mut(),
+        ..Plan::new(asked.steps, &mut watch)
     };
-    let outcome = match look {
-        Some(look) => walk::run(state, plan, look),
-        None => drive::run(state, plan),
-    };
+    if asked.trace {
+        plan.call = 1;
+    }
+    let outcome = drive::run(&mut ready.state, plan);
     bar.finish_and_clear();
     outcome
 }
@@ -415,10 +417,10 @@ fn progress(asked: &Run) -> ProgressBar {
 /// rest.
 fn tell(on_error: bool, line: &str) -> bool {
     if on_error {
-        let _ = writeln!(std::io::stderr(), "{line}");
+        let _ = writeln!(std::io::stderr(), "{}", colour::error(line));
         return true;
     }
-    writeln!(std::io::stdout(), "{line}").is_ok()
+    writeln!(std::io::stdout(), "{}", colour::output(line)).is_ok()
 }
 
 /// The watched ranges at the end, as many as were asked for.
@@ -427,19 +429,14 @@ fn left<'a>(asked: &Run, outcome: &'a Outcome) -> &'a [Range] {
 }
 
 /// Says how the run went, and what was seen of its steps.
-fn conclude(
-    asked: &Run,
-    ready: &Ready,
-    account: &Account,
-    look: Option<&Look>,
-) -> Result<Status, String> {
+fn conclude(asked: &Run, ready: &Ready, account: &Account, look: &Look) -> Result<Status, String> {
     if asked.json {
         let mut value = json::account(account);
-        look::put(look, ready, &mut value);
+        look.put(ready, &mut value);
         say_json(&value)?;
     } else {
         say(&report::run(account))?;
-        say(&look::text(look, ready))?;
+        say(&look.text(ready))?;
     }
     Ok(account.status())
 }

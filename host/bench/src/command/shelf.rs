@@ -2,6 +2,7 @@
 
 use super::refused_sheet;
 use crate::arguments::Shelf as Asked;
+use crate::colour::Painter;
 use crate::command::fit::Board;
 use crate::proved::sheets::BAD_BOARD;
 use crate::save::Place;
@@ -62,7 +63,8 @@ fn jobs(asked: &Asked) -> usize {
 
 /// The folder of the pages, made where it is missing, and the place of the page of all.
 fn index(folder: &Path, asked: &Asked) -> Result<Place, String> {
-    fs::create_dir_all(folder).map_err(|error| format!("{}: {error}", folder.display()))?;
+    let told = |error| format!("{}: {}", folder.display(), file::why(&error));
+    fs::create_dir_all(folder).map_err(told)?;
     apart(folder, asked)?;
     Place::apart(&folder.join("index.html"), &[])
 }
@@ -120,7 +122,7 @@ fn conclude(
     let said = match (asked.csv, asked.json) {
         (true, _) => table::csv(&mut out, results),
         (_, true) => table::json(&mut out, results),
-        _ => table::text(&mut out, results),
+        _ => text(&mut out, results),
     };
     unless_closed(said.and_then(|()| out.flush()))?;
     Ok(match Counted::of(results).all_good() {
@@ -129,11 +131,17 @@ fn conclude(
     })
 }
 
+fn text(out: &mut impl Write, results: &Results) -> Result<(), Error> {
+    let mut painter = Painter::new(out);
+    table::text(&mut painter, results)?;
+    painter.flush()
+}
+
 /// A reader that has gone away is no error.
 fn unless_closed(written: Result<(), Error>) -> Result<(), String> {
     match written {
         Err(error) if error.kind() != ErrorKind::BrokenPipe => {
-            Err(format!("standard output: {error}"))
+            Err(format!("standard output: {}", file::why(&error)))
         }
         _ => Ok(()),
     }

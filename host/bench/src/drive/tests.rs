@@ -1,45 +1,17 @@
 //! Runs in calls against runs step by step.
 
+mod looked;
+
 use super::*;
-use crate::proved::UNSOUND;
-use lent::{Capability, Range, COMPARE, MCAUSE, MEMORY_ROOT};
+use crate::probe;
+use crate::proved::{self, UNSOUND};
+use crate::samples::{counting, loading, plan, storing};
+use crate::samples::{EBREAK, JUMP_TO_ITSELF, LOADED, LOOP, STORED};
+use lent::{Capability, Range, COMPARE, MCAUSE};
 use lent::{MIE, MSTATUS, PCC, TIME, TIMER_INTERRUPT};
 
-const EBREAK: u32 = 0x0010_0073;
-const JUMP_TO_ITSELF: u32 = 0x0000_006F;
-/// addi c10, c10, 1
-const COUNT: u32 = 0x0015_0513;
-/// bne c10, c11, -4
-const AGAIN: u32 = 0xFEB5_1EE3;
-
-/// A loop of `rounds` rounds of two steps, then a last word.
-fn counting(rounds: u32, last: u32) -> State {
-    let mut memory = vec![0; 64];
-    for (place, word) in [COUNT, AGAIN, last].into_iter().enumerate() {
-        memory[4 * place..4 * place + 4].copy_from_slice(&word.to_le_bytes());
-    }
-    let mut state = State::reset(0x2000_0000, memory, 0x2000_0000);
-    state.regs[3 * 11] = rounds;
-    state
-}
-
-fn plan(
-    steps: u64,
-    through_traps: bool,
-    watch: &mut dyn FnMut(&State, &State, Counts) -> bool,
-) -> Plan<'_> {
-    Plan {
-        steps,
-        through_traps,
-        call: MOST_STEPS,
-        sweep: None,
-        record: Watch::default(),
-        watch,
-    }
-}
-
 fn driven(state: &mut State, steps: u64, through_traps: bool) -> Outcome {
-    run(state, plan(steps, through_traps, &mut |_, _, _| true)).unwrap()
+    run(state, plan(steps, through_traps)).unwrap()
 }
 
 fn counts(retired: u64, trapped: u64) -> Counts {
@@ -133,10 +105,10 @@ fn the_watcher_sees_every_step() {
     let mut state = counting(100, EBREAK);
     let mut seen = 0;
     let mut watch = |_: &State, _: &State, made: Counts| {
-        seen += made.retired + made.trapped;
+        seen += made.steps();
         true
     };
-    let mut plan = plan(u64::MAX, false, &mut watch);
+    let mut plan = Plan::new(u64::MAX, &mut watch);
     plan.call = 1;
     run(&mut state, plan).unwrap();
     assert_eq!(seen, 201);
@@ -150,7 +122,7 @@ fn a_run_that_is_no_longer_wanted_ends() {
         seen += 1;
         seen < 5
     };
-    let mut plan = plan(u64::MAX, false, &mut watch);
+    let mut plan = Plan::new(u64::MAX, &mut watch);
     plan.call = 1;
     let outcome = run(&mut state, plan).unwrap();
     assert_eq!(outcome.counts, counts(5, 0));
@@ -177,8 +149,7 @@ fn memory_is_swept_after_every_so_many_steps() {
     ] {
         let mut state = revoked(3_000_000, EBREAK);
         let mut unswept = state.clone();
-        let mut watch = |_: &State, _: &State, _: Counts| true;
-        let mut swept = plan(steps, false, &mut watch);
+        let mut swept = plan(steps, false);
         swept.sweep = Some(every);
         let outcome = run(&mut state, swept).unwrap();
         assert_eq!(outcome.counts, counts(steps, 0));
@@ -194,14 +165,13 @@ fn memory_is_swept_after_every_so_many_steps() {
 fn a_run_that_stops_is_swept_before_and_not_after() {
     for (last, trapped) in [(EBREAK, 1), (JUMP_TO_ITSELF, 0)] {
         let mut state = revoked(50, last);
-        let mut watch = |_: &State, _: &State, _: Counts| true;
-        let mut swept = plan(u64::MAX, false, &mut watch);
+        let mut swept = plan(u64::MAX, false);
         swept.sweep = Some(30);
         let outcome = run(&mut state, swept).unwrap();
         assert_eq!(outcome.counts, counts(100, trapped));
         assert_eq!(outcome.swept, Swept { passes: 3, tags: 1 });
         let mut state = revoked(50, last);
-        let mut late = plan(u64::MAX, false, &mut watch);
+        let mut late = plan(u64::MAX, false);
         late.sweep = Some(200);
         let outcome = run(&mut state, late).unwrap();
         assert_eq!(outcome.swept, Swept::default());
@@ -215,8 +185,7 @@ fn memory_is_swept_while_a_program_waits_for_the_timer() {
         let mut state = revoked(10, JUMP_TO_ITSELF);
         state.regs[MSTATUS] = MIE;
         state.set_long(COMPARE, compare);
-        let mut watch = |_: &State, _: &State, _: Counts| true;
-        let mut waiting = plan(u64::MAX, false, &mut watch);
+        let mut waiting = plan(u64::MAX, false);
         waiting.sweep = Some(every);
         let outcome = run(&mut state, waiting).unwrap();
         assert_eq!(outcome.counts, counts(compare, 1), "{compare} {every}");
@@ -227,26 +196,13 @@ fn memory_is_swept_while_a_program_waits_for_the_timer() {
 }
 
 #[test]
-fn a_refused_run_changes_nothing() {
+fn a_refused_start_changes_nothing() {
     let mut state = counting(100, EBREAK);
     state.regs[2] = 1;
     let before = state.clone();
-    let refused = run(&mut state, plan(100, false, &mut |_, _, _| true));
+    let refused = run(&mut state, plan(100, false));
     assert_eq!(refused, Err(Refusal(4)));
     assert_eq!(state, before);
-}
-
-/// The same, but for a first word that loads a value with low above high into c2.
-fn loading(rounds: u32, last: u32) -> State {
-    let mut state = counting(rounds, last);
-    let start = state.start;
-    let code: Vec<u8> = state.mem[..12].to_vec();
-    state.write(start + 4, &code);
-    // CLC c2, 32(c1)
-    state.write(start, &0x0200_B103u32.to_le_bytes());
-    state.write_capability(start + 32, Capability::tagged(0x0500_0000, 0x7E3C_0805));
-    state.set(1, Capability::tagged(start, MEMORY_ROOT));
-    state
 }
 
 #[test]
@@ -260,10 +216,9 @@ fn a_run_goes_on_with_what_no_start_may_hold() {
             if call < 10 && rounds > 100 {
                 continue;
             }
-            let mut state = loading(rounds, last);
+            let mut state = loading(&[], counting(rounds, last));
             let mut together = state.clone();
-            let mut watch = |_: &State, _: &State, _: Counts| true;
-            let mut asked = plan(u64::MAX, false, &mut watch);
+            let mut asked = plan(u64::MAX, false);
             asked.call = call;
             let outcome = run(&mut state, asked).unwrap();
             let steps = 2 * u64::from(rounds) + 1;
@@ -277,33 +232,21 @@ fn a_run_goes_on_with_what_no_start_may_hold() {
 
 #[test]
 fn such_a_run_ends_a_million_steps_on_or_at_a_sweep() {
-    let mut state = loading(3_000_000, EBREAK);
-    let refused = run(&mut state, plan(u64::MAX, false, &mut |_, _, _| true));
-    assert_eq!(refused, Err(UNSOUND));
-    let mut state = loading(100, EBREAK);
-    let mut watch = |_: &State, _: &State, _: Counts| true;
-    let mut swept = plan(u64::MAX, false, &mut watch);
+    // The steps that can be made are made, and no refusal is told before another one is asked for.
+    for (more, ended) in [(0, Ok(End::Steps)), (1, Err(UNSOUND))] {
+        let mut state = loading(&[], counting(3_000_000, EBREAK));
+        let outcome = run(&mut state, plan(MOST_STEPS + more, false));
+        assert_eq!(outcome.map(|outcome| outcome.end), ended);
+        assert_eq!(state.long(TIME), MOST_STEPS);
+    }
+    let mut state = loading(&[], counting(100, EBREAK));
+    let mut swept = plan(u64::MAX, false);
     swept.sweep = Some(30);
     assert_eq!(run(&mut state, swept), Err(UNSOUND));
-    assert_eq!(crate::probe::unsound(&state), [2]);
-}
-
-/// SW c10, 48(c1)
-const STORE: u32 = 0x02A0_A823;
-/// bne c10, c11, -8
-const BACK: u32 = 0xFEB5_1CE3;
-
-/// Stores, loads such a value into c2, then stores in each round of three steps.
-fn storing(rounds: u32, last: u32) -> State {
-    let mut state = loading(rounds, last);
-    let start = state.start;
-    let load: [u8; 4] = std::array::from_fn(|place| state.mem[place]);
-    state.write(start, &STORE.to_le_bytes());
-    state.write(start + 4, &load);
-    for (place, word) in [COUNT, STORE, BACK, last].into_iter().enumerate() {
-        state.write(start + 8 + 4 * place as u32, &word.to_le_bytes());
-    }
-    state
+    assert_eq!(
+        (probe::unsound(&state), state.long(TIME)),
+        (vec![LOADED], 30)
+    );
 }
 
 /// A record of the stored word and of its last byte, with these counts.
@@ -313,10 +256,7 @@ fn record(first: u32, second: u32) -> Watch {
         length,
         count,
     };
-    [
-        range(0x2000_0030, 4, first),
-        range(0x2000_0033, u32::MAX, second),
-    ]
+    [range(STORED, 4, first), range(STORED + 3, u32::MAX, second)]
 }
 
 // What is made again from an earlier state is counted once.
@@ -325,14 +265,13 @@ fn such_a_run_counts_each_store_once() {
     for (rounds, steps) in [(1, 6), (2, 8), (37, 114), (37, 60), (300_000, u64::MAX)] {
         for (last, call) in [(EBREAK, 1), (EBREAK, 7), (JUMP_TO_ITSELF, MOST_STEPS)] {
             let call = if rounds > 100 { MOST_STEPS } else { call };
-            let mut state = storing(rounds, last);
+            let mut state = loading(&LOOP[1..2], storing(rounds, last));
             let mut together = state.clone();
-            let mut watch = |_: &State, _: &State, _: Counts| true;
-            let mut asked = plan(steps, false, &mut watch);
+            let mut asked = plan(steps, false);
             (asked.call, asked.record) = (call, record(5, u32::MAX - 20));
             let mut expected = asked.record;
             let outcome = run(&mut state, asked).unwrap();
-            let made = outcome.counts.retired + outcome.counts.trapped;
+            let made = outcome.counts.steps();
             proved::run_watched(&mut together, made, &mut expected).unwrap();
             assert_eq!((outcome.record, &state), (expected, &together));
             let stores = 1 + (made.min(2 + 3 * u64::from(rounds)) - 1) / 3;

@@ -29,8 +29,8 @@ pub fn obey(target: &mut Target, command: &str) -> String {
     let words: Vec<&str> = command.split_whitespace().collect();
     match words[..] {
         ["explain"] => explain(target),
-        ["cap", place] => capability(&target.state, place),
-        ["registers"] => report::registers(&target.state),
+        ["cap", place] => capability(target.state(), place),
+        ["registers"] => report::registers(target.state()),
         ["list", ref rest @ ..] => list(target, rest),
         ["stack"] => stack(target),
         ["steps"] => steps(target),
@@ -105,7 +105,7 @@ fn address(text: &str) -> Option<u32> {
 
 /// Words from an address on, with an arrow at pc.
 fn list(target: &Target, asked: &[&str]) -> String {
-    let state = &target.state;
+    let state = target.state();
     let pc = state.capability(PCC).address;
     let (from, words) = match *asked {
         [] => (Some(pc), Some(LISTED)),
@@ -132,7 +132,7 @@ fn list(target: &Target, asked: &[&str]) -> String {
 }
 
 fn stack(target: &Target) -> String {
-    match report::stack(&target.state, target.stack) {
+    match report::stack(target.state(), target.stack) {
         none if none.is_empty() => "No mark is set for a stack.\n".into(),
         text => text,
     }

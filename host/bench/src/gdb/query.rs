@@ -49,7 +49,7 @@ fn object_part(session: &Session, object: &[u8]) -> Option<Vec<u8>> {
     let (offset, length) = split(place, b',')?;
     let text = match (object, verb, name) {
         (b"features", b"read", b"target.xml") => description::target(),
-        (b"memory-map", b"read", b"") => description::memory(&session.target.state),
+        (b"memory-map", b"read", b"") => description::memory(session.target.state()),
         (b"features" | b"memory-map", b"read", _) => return None,
         _ => return Some(Vec::new()),
     };

@@ -6,6 +6,7 @@ mod tests;
 
 use crate::probe;
 use crate::proved::{self, bounds};
+use crate::report;
 use lent::{
     place_name, Capability, State, CAPABILITIES, COMPARE, MCAUSE, MSHWM, MSHWMB, MSTATUS, MTVAL,
     PCC, TIME,
@@ -103,9 +104,9 @@ pub fn value(state: &State, part: Part) -> Vec<u8> {
 /// Writes a register, or says why not. What is written by hand gains no tag: x1 to x15 then hold an integer, as an
 /// instruction would leave it; pc and a capability's address are moved as CSetAddr moves them; other metadata take the
 /// tag away. Nothing is changed where the machine would refuse what is left.
-pub fn write(state: &mut State, part: Part, bytes: &[u8]) -> Result<(), &'static str> {
+pub fn write(state: &mut State, part: Part, bytes: &[u8]) -> Result<(), String> {
     if bytes.len() != part.bytes() {
-        return Err("another number of bytes");
+        return Err("another number of bytes".into());
     }
     let mut written = state.clone();
     match part {
@@ -121,12 +122,14 @@ pub fn write(state: &mut State, part: Part, bytes: &[u8]) -> Result<(), &'static
         Part::Capability(place) => {
             let value = state.capability(place);
             if bytes[12..] != self::value(state, part)[12..] {
-                return Err("bounds come from address and metadata");
+                return Err("bounds come from address and metadata".into());
             }
             written.set(place, held(value, bytes)?);
         }
     }
-    proved::run(&mut written, 0).map_err(|refusal| refusal.reason())?;
+    if let Err(refusal) = proved::run(&mut written, 0) {
+        return Err(report::refused(refusal, &written));
+    }
     *state = written;
     Ok(())
 }

@@ -73,15 +73,16 @@ mod tests {
         );
         assert_eq!(plain(b'C', b"0b"), Some((Go::On, None)));
         assert_eq!(plain(b'S', b"05;10"), Some((Go::Step, Some(0x10))));
+        assert_eq!(plain(b'S', b"05;"), Some((Go::Step, None)));
         for (letter, rest) in [
             (b'c', "x"),
             (b's', "100000000"),
             (b'C', ""),
             (b'C', "100"),
-            (b'S', "05;"),
+            (b'S', ";10"),
+            (b'S', "05;x"),
         ] {
-            let asked = plain(letter, rest.as_bytes());
-            assert!(asked.is_none() || rest == "05;", "{letter} {rest}");
+            assert_eq!(plain(letter, rest.as_bytes()), None, "{letter} {rest}");
         }
     }
 

@@ -9,10 +9,12 @@ use std::net::{TcpListener, TcpStream};
 use std::sync::atomic::{AtomicBool, Ordering};
 use std::sync::mpsc::{channel, Sender};
 use std::sync::Arc;
-use std::time::Duration;
+use std::time::{Duration, Instant};
 
-/// How long a client may leave an answer unread.
-const PATIENCE: Duration = Duration::from_secs(10);
+/// How long a client may leave its answers unread.
+const PATIENCE: Duration = Duration::from_secs(5);
+/// The most bytes that are taken before the answers to them are sent, so that none pile up.
+const TAKEN: usize = 4096;
 
 /// How serving ended.
 #[derive(Clone, Copy, PartialEq, Eq, Debug)]
@@ -56,8 +58,7 @@ fn admit(listener: &TcpListener, busy: &AtomicBool, clients: &Sender<TcpStream>)
     loop {
         match listener.accept() {
             Ok((mut client, _)) if busy.swap(true, Ordering::SeqCst) => {
-                let _ = client.set_write_timeout(Some(PATIENCE));
-                let _ = client.write_all(&framed(b"E.another debugger is connected"));
+                let _ = send(&mut client, &framed(b"E.another debugger is connected"));
             }
             Ok((client, _)) => {
                 if clients.send(client).is_err() {
@@ -78,19 +79,38 @@ fn attend(
 ) -> Result<Ended, String> {
     let told = |error: std::io::Error| error.to_string();
     client.set_nodelay(true).map_err(told)?;
-    client.set_write_timeout(Some(PATIENCE)).map_err(told)?;
     let mut session = Session::new(target);
-    let mut bytes = [0; 4096];
+    let mut bytes = [0; TAKEN];
     loop {
         let count = received(client, session.is_going(), &mut bytes).map_err(told)?;
         session.receive(&bytes[..count]);
         session.work();
         session.notes.drain(..).for_each(|note| say(&note));
-        client.write_all(&session.take_output()).map_err(told)?;
+        send(client, &session.take_output()).map_err(told)?;
         if let Some(ended) = session.ended {
             return Ok(ended);
         }
     }
+}
+
+/// Sends all of it, or gives up if the client has not taken it in time.
+fn send(client: &mut TcpStream, mut bytes: &[u8]) -> std::io::Result<()> {
+    let until = Instant::now() + PATIENCE;
+    let late = || std::io::Error::new(ErrorKind::TimedOut, "its answers were not read");
+    while !bytes.is_empty() {
+        let left = until.saturating_duration_since(Instant::now());
+        if left.is_zero() {
+            return Err(late());
+        }
+        client.set_write_timeout(Some(left))?;
+        match client.write(bytes) {
+            Err(error) if error.kind() == ErrorKind::WouldBlock => return Err(late()),
+            Err(error) if error.kind() == ErrorKind::Interrupted => {}
+            Err(error) => return Err(error),
+            Ok(sent) => bytes = &bytes[sent..],
+        }
+    }
+    Ok(())
 }
 
 /// Bytes from the client; none, without waiting for some, if the machine is going.

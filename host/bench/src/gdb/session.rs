@@ -3,9 +3,9 @@
 
 use super::packet::{bytes, digits, framed, number, split, unescaped, Event, Framer, MOST_PAYLOAD};
 use super::registers::{registers, value, Register};
-use super::target::{Go, Target};
+use super::target::{Go, Target, Unwritten};
 use super::{monitor, query, resume};
-use crate::engine::Range;
+use lent::Range;
 
 /// A packet that is not understood as far as its first letter is.
 pub const MALFORMED: &[u8] = b"E01";
@@ -92,7 +92,7 @@ impl Session<'_> {
     pub fn work(&mut self) {
         let Some(go) = self.going else { return };
         if let Some(stop) = self.target.go(go) {
-            if let Some(words) = stop.words(&self.target.state) {
+            if let Some(words) = stop.words(self.target.state()) {
                 self.note(&words);
             }
             self.stopped();
@@ -108,7 +108,7 @@ impl Session<'_> {
     }
 
     fn stop_packet(&self) -> Vec<u8> {
-        self.target.stop.packet(&self.target.state, self.reasons)
+        self.target.stop.packet(self.target.state(), self.reasons)
     }
 
     fn send(&mut self, payload: &[u8]) {
@@ -233,7 +233,7 @@ impl Session<'_> {
         };
         if let Some(address) = from {
             if let Err(reason) = self.target.move_to(address) {
-                return self.send(&refused(reason));
+                return self.send(&refused(&reason));
             }
             self.new_start();
         }
@@ -255,7 +255,7 @@ impl Session<'_> {
     }
 
     fn all_registers(&self) -> Vec<u8> {
-        let state = &self.target.state;
+        let state = self.target.state();
         let values = self
             .registers
             .iter()
@@ -270,7 +270,7 @@ impl Session<'_> {
 
     fn read_register(&self, rest: &[u8]) -> Option<Vec<u8>> {
         let register = self.register(number(rest)?);
-        let state = &self.target.state;
+        let state = self.target.state();
         let value = register.map(|register| digits(&value(state, register.part)));
         Some(value.unwrap_or(NOT_THERE.to_vec()))
     }
@@ -281,10 +281,10 @@ impl Session<'_> {
         let Some(register) = self.register(index).cloned() else {
             return Some(NOT_THERE.to_vec());
         };
-        let written = self.target.write_register(&register, &value);
+        let written = self.target.write_registers(&[(register.part, &value)]);
         Some(match written {
             Ok(()) => self.wrote(&format!("{} was written", register.name)),
-            Err(reason) => refused(reason),
+            Err(reason) => refused(&reason),
         })
     }
 
@@ -295,21 +295,22 @@ impl Session<'_> {
         if values.len() != sizes.sum::<usize>() {
             return None;
         }
-        let mut place = 0;
-        let kept = self.target.state.clone();
-        for register in self.registers.clone() {
-            let size = register.part.bytes();
-            let given = values.get(place..place + size)?;
-            place += size;
-            if given == value(&kept, register.part) {
-                continue;
-            }
-            if let Err(reason) = self.target.write_register(&register, given) {
-                self.target.state = kept;
-                return Some(refused(reason));
+        let state = self.target.state();
+        let (mut place, mut differing) = (0, Vec::new());
+        for part in self.registers.iter().map(|register| register.part) {
+            let given = values.get(place..place + part.bytes())?;
+            place += part.bytes();
+            if given != value(state, part) {
+                differing.push((part, given));
             }
         }
-        Some(self.wrote("registers were written"))
+        if differing.is_empty() {
+            return Some(OK.to_vec());
+        }
+        Some(match self.target.write_registers(&differing) {
+            Ok(()) => self.wrote("registers were written"),
+            Err(reason) => refused(&reason),
+        })
     }
 
     fn read_memory(&self, rest: &[u8]) -> Option<Vec<u8>> {
@@ -317,7 +318,7 @@ impl Session<'_> {
         let (address, length) = (number(address)?, number(length)?);
         let length = length.min(MOST_READ as u64);
         let addresses = (0..length).map(|place| address.checked_add(place));
-        let state = &self.target.state;
+        let state = self.target.state();
         let found = addresses.map_while(|address| state.byte(address?));
         let found: Vec<u8> = found.collect();
         Some(match found.is_empty() && length > 0 {
@@ -338,10 +339,11 @@ impl Session<'_> {
             return Some(OK.to_vec());
         }
         Some(match self.target.write(address, &data) {
-            Some(()) => self.wrote(&format!(
+            Ok(()) => self.wrote(&format!(
                 "{length} bytes from {address:08x} on were written"
             )),
-            None => NOT_THERE.to_vec(),
+            Err(Unwritten::NotThere) => NOT_THERE.to_vec(),
+            Err(Unwritten::Refused(reason)) => refused(&reason),
         })
     }
 
@@ -367,17 +369,21 @@ impl Session<'_> {
         let length = length.split(|byte| *byte == b';').next()?;
         let (kind, length) = (number(kind)?, u32::try_from(number(length)?).ok()?);
         let start = u32::try_from(number(address)?).ok()?;
-        let range = Range { start, length };
-        let stops = &mut self.target.stops;
+        let range = Range {
+            start,
+            length,
+            count: 0,
+        };
+        let target = &mut *self.target;
         let placed = match (kind, sets) {
-            (0 | 1, true) => self.target.set_break(start),
+            (0 | 1, true) => target.set_break(start),
             (0 | 1, false) => {
-                stops.breaks.remove(&start);
+                target.remove_break(start);
                 Ok(())
             }
-            (2, true) => self.target.set_watch(range),
+            (2, true) => target.set_watch(range),
             (2, false) => {
-                stops.watched.retain(|watched| *watched != range);
+                target.remove_watch(range);
                 Ok(())
             }
             _ => return Some(Vec::new()),

@@ -3,6 +3,7 @@
 use super::packet::digits;
 use super::registers::{value, Part, PC};
 use crate::proved::Refusal;
+use crate::report;
 use lent::{State, PCC, TIMER_INTERRUPT};
 
 /// A signal by gdb's number for it.
@@ -89,8 +90,8 @@ impl Stop {
                 "The program ended: it jumps to itself at {at:08x}.\n"
             )),
             Stop::Refused(refusal) => {
-                let Refusal(number) = refusal;
-                Some(format!("Refused, number {number}: {}.\n", refusal.reason()))
+                let said = report::refused(*refusal, state);
+                Some(format!("The machine makes no further step: {said}.\n"))
             }
             _ => None,
         }

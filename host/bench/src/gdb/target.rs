@@ -1,14 +1,15 @@
 //! The machine under a debugger: its state, its start, what it is to stop at, and how far it has come.
 
-use super::registers::{self, Part, Register};
+use super::registers::{self, Part};
 use super::stop::{Signal, Stop};
-use crate::engine::{Range, MOST_WATCHED};
+use crate::course::Course;
 use crate::halt::{by_calls, by_steps, Halt, Pace, Stops};
 use crate::names::Names;
-use crate::proved::{self, Counts, Refusal, MOST_STEPS};
+use crate::proved::{Counts, MOST_STEPS};
+use crate::report;
 use crate::stack::Stack;
 use crate::trap::Trap;
-use lent::{State, GRANULE, MCAUSE, PCC};
+use lent::{Range, State, Watch, GRANULE, MCAUSE, PCC};
 use std::collections::BTreeSet;
 
 /// The most steps one by one before the client is listened to again.
@@ -17,6 +18,13 @@ const STRIDE: u64 = 1 << 14;
 const MOST_BREAKS: usize = 1024;
 /// The steps that are still to come, for the question whether a timer ends a jump to itself: more than are ever made.
 const AHEAD: u64 = 1 << 62;
+
+/// Why memory was not written.
+#[derive(Clone, PartialEq, Eq, Debug)]
+pub enum Unwritten {
+    NotThere,
+    Refused(String),
+}
 
 /// How the machine goes on.
 #[derive(Clone, Copy, PartialEq, Eq, Debug)]
@@ -29,12 +37,13 @@ pub enum Go {
 }
 
 pub struct Target {
-    pub state: State,
+    course: Course,
     start: State,
     pub names: Names,
     pub stack: Option<Stack>,
     pub counts: Counts,
-    pub stops: Stops,
+    stops: Stops,
+    watched: Vec<Range>,
     /// The signals of traps that are not told.
     pub passed: BTreeSet<Signal>,
     pub stop: Stop,
@@ -42,29 +51,39 @@ pub struct Target {
     pub written: bool,
     /// The steps of the next call, and whether no step was made since the last stop.
     call: u64,
-    leaves: bool,
+    begins: bool,
 }
 
 impl Target {
     pub fn new(state: State, names: Names, stack: Option<Stack>) -> Target {
+        let stops = Stops {
+            breaks: BTreeSet::new(),
+            traps: true,
+            stores: true,
+        };
         Target {
             start: state.clone(),
-            state,
+            course: Course::new(state, Watch::default()),
             names,
             stack,
             counts: Counts::default(),
-            stops: Stops::default(),
+            stops,
+            watched: Vec::new(),
             passed: BTreeSet::new(),
             stop: Stop::Step,
             written: false,
             call: 1,
-            leaves: true,
+            begins: true,
         }
+    }
+
+    pub fn state(&self) -> &State {
+        self.course.state()
     }
 
     /// Puts the machine back to its start.
     pub fn reset(&mut self) {
-        self.state = self.start.clone();
+        self.course = Course::new(self.start.clone(), self.course.record());
         self.counts = Counts::default();
         self.written = false;
         self.stop = Stop::Step;
@@ -72,53 +91,61 @@ impl Target {
 
     /// Forgets what a client has set, and keeps the machine.
     pub fn leave(&mut self) {
-        self.stops = Stops::default();
+        self.stops.breaks.clear();
+        self.watched.clear();
+        self.watch();
         self.passed.clear();
     }
 
     pub fn at(&self) -> u32 {
-        self.state.capability(PCC).address
+        self.state().capability(PCC).address
     }
 
     /// Makes ready to go on from a stop.
     pub fn begin(&mut self) {
-        (self.call, self.leaves) = (1, true);
+        (self.call, self.begins) = (1, true);
     }
 
     /// Goes on for a while: the stop, or none if there was none yet.
     pub fn go(&mut self, go: Go) -> Option<Stop> {
-        let stop = match self.advance(go) {
-            Ok(stop) => stop,
-            Err(refusal) => Some(Stop::Refused(refusal)),
+        // A trap or a store that was told is made now.
+        let stop = match self.begins && self.told() {
+            true => self.step(go),
+            false => self.advance(go),
         };
-        self.leaves = false;
+        self.begins = false;
         if let Some(stop) = &stop {
             self.stop = stop.clone();
         }
         stop
     }
 
-    fn advance(&mut self, go: Go) -> Result<Option<Stop>, Refusal> {
-        // A trap or a store that was told is made now.
-        if self.leaves && self.told() {
-            let made = proved::run(&mut self.state, 1)?;
-            self.counts.retired += made.retired;
-            self.counts.trapped += made.trapped;
-            return Ok(self.stepped(go));
+    /// Makes one step, whatever it does.
+    fn step(&mut self, go: Go) -> Option<Stop> {
+        match self.course.run(1) {
+            Err(refusal) => Some(Stop::Refused(refusal)),
+            Ok(made) => {
+                self.counts += made;
+                self.stepped(go)
+            }
         }
+    }
+
+    fn advance(&mut self, go: Go) -> Option<Stop> {
         let pace = self.pace(go);
         let (made, halt) = if go == Go::On && self.stops.breaks.is_empty() {
-            by_calls(&mut self.state, pace, &self.stops)?
+            by_calls(&mut self.course, pace, &self.stops)
         } else {
-            by_steps(&mut self.state, pace, &self.stops, &mut |_, _| ())?
+            by_steps(&mut self.course, pace, &self.stops, &mut |_, _| ())
         };
-        self.counts.retired += made;
+        self.counts += made;
         match halt {
-            Halt::Steps => Ok(self.stepped(go)),
-            Halt::Break => Ok(Some(Stop::Break)),
-            Halt::Watch(range) => Ok(Some(Stop::Watch(range.start))),
-            Halt::Still => Ok(Some(Stop::Still)),
+            Halt::Steps => self.stepped(go),
+            Halt::Break => Some(Stop::Break),
+            Halt::Watch(start) => Some(Stop::Watch(start)),
+            Halt::Still => Some(Stop::Still),
             Halt::Trap => self.trapped(go),
+            Halt::Refused(refusal) => Some(Stop::Refused(refusal)),
         }
     }
 
@@ -130,12 +157,12 @@ impl Target {
             _ => 1,
         };
         self.call = (2 * self.call).min(MOST_STEPS);
-        // Whoever goes on stops at once at a breakpoint, a step is made over it.
-        let leaves = self.leaves && go != Go::On;
         Pace {
             steps,
             left: AHEAD,
-            leaves,
+            begins: self.begins,
+            // Whoever goes on stops at once at a breakpoint, a step is made over it.
+            leaves: self.begins && go != Go::On,
         }
     }
 
@@ -149,61 +176,64 @@ impl Target {
     }
 
     /// The next step traps: it is told, or made if it is one that is not told.
-    fn trapped(&mut self, go: Go) -> Result<Option<Stop>, Refusal> {
-        let mut after = self.state.clone();
-        proved::run(&mut after, 1)?;
+    fn trapped(&mut self, go: Go) -> Option<Stop> {
+        let (trap, after) = self.next_trap()?;
         let signal = Signal::of_trap(after.register(MCAUSE));
         if !self.passed.contains(&signal) {
-            let cause = Trap::of_step(&self.state, &after).cause;
-            return Ok(Some(Stop::Trap(signal, cause)));
+            return Some(Stop::Trap(signal, trap.cause));
         }
-        self.state = after;
-        self.counts.trapped += 1;
         self.call = 1;
-        Ok(self.stepped(go))
+        self.step(go)
+    }
+
+    /// The trap that the next step makes, with the state after it.
+    fn next_trap(&self) -> Option<(Trap, State)> {
+        let mut after = self.course.clone();
+        after.run(1).ok()?;
+        let after = after.into_state();
+        Some((Trap::of_step(self.state(), &after), after))
     }
 
     /// The trap that the next step makes, or the last one that the state records, with the state after it.
     pub fn explained(&self) -> Option<(Trap, State)> {
-        if let Stop::Trap(..) = self.stop {
-            let mut after = self.state.clone();
-            proved::run(&mut after, 1).ok()?;
-            return Some((Trap::of_step(&self.state, &after), after));
+        match self.stop {
+            Stop::Trap(..) => self.next_trap(),
+            _ => Some((Trap::recorded(self.state())?, self.state().clone())),
         }
-        Some((Trap::recorded(&self.state)?, self.state.clone()))
     }
 
     /// Writes memory, all of it or nothing: the granules that are touched lose their tags.
-    pub fn write(&mut self, address: u64, bytes: &[u8]) -> Option<()> {
-        let address = u32::try_from(address).ok()?;
-        self.state.offset(address, bytes.len())?;
-        self.state.write(address, bytes);
+    pub fn write(&mut self, address: u64, bytes: &[u8]) -> Result<(), Unwritten> {
+        let address = u32::try_from(address).map_err(|_| Unwritten::NotThere)?;
+        let there = self.state().offset(address, bytes.len());
+        there.ok_or(Unwritten::NotThere)?;
+        // What is left is a start, which the machine may refuse for its registers.
+        if let Err(refusal) = self.course.may_start() {
+            return Err(Unwritten::Refused(report::refused(refusal, self.state())));
+        }
         let end = u64::from(address) + bytes.len() as u64;
         let first = u64::from(address) & !(GRANULE as u64 - 1);
+        let state = self.change();
+        state.write(address, bytes);
         for granule in (first..end).step_by(GRANULE) {
-            self.state.set_tag(granule as u32, false);
+            state.set_tag(granule as u32, false);
         }
-        self.changed();
-        Some(())
+        Ok(())
     }
 
-    /// Writes a register, or says why not.
-    pub fn write_register(
-        &mut self,
-        register: &Register,
-        bytes: &[u8],
-    ) -> Result<(), &'static str> {
-        registers::write(&mut self.state, register.part, bytes)?;
-        self.changed();
+    /// Writes registers, all of them or none, or says why not.
+    pub fn write_registers(&mut self, values: &[(Part, &[u8])]) -> Result<(), String> {
+        let mut written = self.state().clone();
+        for (part, bytes) in values {
+            registers::write(&mut written, *part, bytes)?;
+        }
+        *self.change() = written;
         Ok(())
     }
 
     /// Puts PCC at an address, as a client asks before it goes on.
-    pub fn move_to(&mut self, address: u32) -> Result<(), &'static str> {
-        let pcc = Part::Address(PCC);
-        registers::write(&mut self.state, pcc, &address.to_le_bytes())?;
-        self.changed();
-        Ok(())
+    pub fn move_to(&mut self, address: u32) -> Result<(), String> {
+        self.write_registers(&[(Part::Address(PCC), &address.to_le_bytes())])
     }
 
     /// Whether the client knows what the next step does.
@@ -211,12 +241,18 @@ impl Target {
         matches!(self.stop, Stop::Trap(..) | Stop::Watch(_))
     }
 
-    /// The next step may do something else now.
-    fn changed(&mut self) {
+    /// The state, to be written: the next step may do something else then.
+    fn change(&mut self) -> &mut State {
         self.written = true;
         if self.told() {
             self.stop = Stop::Step;
         }
+        self.course.change()
+    }
+
+    #[cfg(test)]
+    pub fn breaks(&self) -> &BTreeSet<u32> {
+        &self.stops.breaks
     }
 
     /// Sets a breakpoint, or says why not.
@@ -228,15 +264,34 @@ impl Target {
         Ok(())
     }
 
+    pub fn remove_break(&mut self, address: u32) {
+        self.stops.breaks.remove(&address);
+    }
+
     /// Watches a range, or says why not.
     pub fn set_watch(&mut self, range: Range) -> Result<(), &'static str> {
-        if self.stops.watched.contains(&range) {
+        if self.watched.contains(&range) {
             return Ok(());
         }
-        if self.stops.watched.len() >= MOST_WATCHED {
+        if self.watched.len() >= Watch::default().len() {
             return Err("two ranges are watched already");
         }
-        self.stops.watched.push(range);
+        self.watched.push(range);
+        self.watch();
         Ok(())
+    }
+
+    pub fn remove_watch(&mut self, range: Range) {
+        self.watched.retain(|watched| *watched != range);
+        self.watch();
+    }
+
+    /// Lends the ranges that are watched to the machine.
+    fn watch(&mut self) {
+        let mut record = Watch::default();
+        for (lent, range) in record.iter_mut().zip(&self.watched) {
+            *lent = *range;
+        }
+        self.course.watch(record);
     }
 }

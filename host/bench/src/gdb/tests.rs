@@ -1,28 +1,29 @@
 //! Sessions in memory: what a client is answered, and packets that no client sends.
 
 mod fuzz;
+mod unsound;
 
 use super::packet::{bytes, digits, framed, Event, Framer};
 use super::session::{Ended, Session};
+use super::stop::Stop;
 use super::target::Target;
+use crate::drive::{self, End};
 use crate::names::{Name, Names};
-use lent::{Capability, State, MEMORY_ROOT, MTCC, TIME};
+use crate::samples::{coded, plan, storing, EBREAK, JUMP_TO_ITSELF, NOP, START};
+use lent::{Capability, State, MTCC, TIME};
 
-const START: u32 = 0x2000_0000;
-const EBREAK: u32 = 0x0010_0073;
-/// addi c10, c10, 1; csw c10, 0(c2); bne c10, c11, -8; then a last word.
-const LOOP: [u32; 3] = [0x0015_0513, 0x00A1_2023, 0xFEB5_1CE3];
+/// A loop of three steps a round that stores, then a breakpoint's trap; memory holds a capability too.
+fn program(rounds: u32) -> State {
+    let mut state = storing(rounds, EBREAK);
+    state.write_capability(START + 0x40, state.capability(2));
+    state
+}
 
-/// A machine with a loop of three steps a round that stores at 0x20000030, then a breakpoint's trap.
 fn machine(rounds: u32) -> Target {
-    let mut state = State::reset(START, vec![0; 128], START);
-    for (place, word) in LOOP.into_iter().chain([EBREAK]).enumerate() {
-        state.write(START + 4 * place as u32, &word.to_le_bytes());
-    }
-    let stored = Capability::tagged(START + 0x30, MEMORY_ROOT);
-    state.set(2, stored);
-    state.write_capability(START + 0x40, stored);
-    state.regs[3 * 11] = rounds;
+    held(program(rounds))
+}
+
+fn held(state: State) -> Target {
     let names = Names(vec![Name::new(b"loop", START, 12)]);
     Target::new(state, names, None)
 }
@@ -198,8 +199,13 @@ fn memory_is_read_as_far_as_it_reaches() {
 
 #[test]
 fn memory_that_is_written_loses_its_tags() {
-    let mut target = machine(5);
-    let kept = target.state.clone();
+    let mut kept = program(5);
+    // Two granules beside each other, the second of them memory's last.
+    let beside = [0x2000_0070, 0x2000_0078];
+    for granule in beside {
+        kept.set_tag(granule, true);
+    }
+    let mut target = held(kept.clone());
     let mut session = Session::new(&mut target);
     assert_eq!(answer(&mut session, "X20000040,0:"), "OK");
     for bad in [
@@ -221,24 +227,23 @@ fn memory_that_is_written_loses_its_tags() {
     // An escape with nothing after it.
     session.receive(b"$X20000040,1:}#f2");
     assert_eq!(packets(&session.take_output()), [b"E01"]);
-    assert_eq!(session.target.state, kept);
+    assert_eq!(*session.target.state(), kept);
     assert!(!session.target.written);
     assert_eq!(answer(&mut session, "M20000047,1:ff"), "OK");
-    let state = &session.target.state;
+    let state = session.target.state();
     assert!(kept.tagged(0x2000_0040) && !state.tagged(0x2000_0040));
     assert_eq!(state.byte(0x2000_0047), Some(0xFF));
     assert!(session.target.written);
-    // Two granules, the second of them memory's last.
-    for granule in [0x2000_0070, 0x2000_0078] {
-        session.target.state.set_tag(granule, true);
-    }
+    let tagged =
+        |session: &Session| beside.map(|granule| session.target.state().tagged(granule.into()));
+    assert_eq!(tagged(&session), [true; 2]);
     assert_eq!(answer(&mut session, "M20000077,2:ffff"), "OK");
-    assert!(!session.target.state.tagged(0x2000_0070) && !session.target.state.tagged(0x2000_0078));
+    assert_eq!(tagged(&session), [false; 2]);
     let said: String = session.notes.concat();
     assert!(said.contains("1 bytes from 20000047 on were written") && said.contains("new start"));
     session.receive(&framed(b"X20000050,2:#a"));
     assert_eq!(packets(&session.take_output()), [b"OK"]);
-    assert_eq!(session.target.state.half(0x2000_0050), Some(0x6123));
+    assert_eq!(session.target.state().half(0x2000_0050), Some(0x6123));
 }
 
 #[test]
@@ -258,12 +263,15 @@ fn registers_are_read_and_written() {
         assert_eq!(answer(&mut session, asked), told);
     }
     assert_eq!(answer(&mut session, "Pa=07000000"), "OK");
-    assert_eq!(session.target.state.capability(10), Capability::integer(7));
+    assert_eq!(
+        session.target.state().capability(10),
+        Capability::integer(7)
+    );
     for (bad, told) in [
         ("Pa=0700", "E.another number of bytes"),
         (
             "P0=01000000",
-            "E.a tag word is above 1, or c0 is not all zero",
+            "E.refused, number 4: a tag word is above 1, or c0 is not all zero",
         ),
         ("P10=00000000", "E02"),
         ("Pa", "E01"),
@@ -274,18 +282,49 @@ fn registers_are_read_and_written() {
     // All registers at once: what is the same is not written, so that tags stay.
     let all = answer(&mut session, "g").replacen("07000000", "09000000", 1);
     assert_eq!(answer(&mut session, &format!("G{all}")), "OK");
-    assert_eq!(session.target.state.capability(2).tag, 1);
-    assert_eq!(session.target.state.register(30), 9);
-    let before = session.target.state.clone();
+    assert_eq!(session.target.state().capability(2).tag, 1);
+    assert_eq!(session.target.state().register(30), 9);
+    let before = session.target.state().clone();
     // x10 differs, and after it the tag of c0 in the whole capabilities, which is refused: neither is written.
     let mut forged = all.replacen("09000000", "0a000000", 1);
     let tag = 2 * (17 * 4 + 8);
     forged.replace_range(tag..tag + 8, "01000000");
     assert!(answer(&mut session, &format!("G{forged}")).starts_with("E."));
-    assert_eq!(session.target.state, before);
+    assert_eq!(*session.target.state(), before);
     let changed = all.replacen("09000000", "0a000000", 1);
     assert_eq!(answer(&mut session, &format!("G{}", &changed[..90])), "E01");
-    assert_eq!(session.target.state, before);
+    assert_eq!(*session.target.state(), before);
+}
+
+#[test]
+fn refused_registers_change_nothing() {
+    let mut target = machine(2);
+    let mut session = Session::new(&mut target);
+    stop(&mut session, "c");
+    let (told, state) = (session.target.stop.clone(), session.target.state().clone());
+    assert!(matches!(told, Stop::Trap(..)));
+    let all = answer(&mut session, "g");
+    // x10 is 2 and would be 3; the tag of c0 in the whole capabilities is refused after it.
+    let mut forged = all.replacen("02000000", "03000000", 1);
+    let tag = 2 * (17 * 4 + 8);
+    forged.replace_range(tag..tag + 8, "01000000");
+    for refused in [&format!("G{forged}"), "P0=01000000", "M20000080,1:00"] {
+        assert!(answer(&mut session, refused).starts_with('E'), "{refused}");
+        assert_eq!(
+            (&session.target.stop, session.target.state()),
+            (&told, &state)
+        );
+        assert!(!session.target.written && session.notes.concat().starts_with("Trap at"));
+    }
+    // The same values are no change either.
+    assert_eq!(answer(&mut session, &format!("G{all}")), "OK");
+    assert_eq!(
+        (&session.target.stop, session.target.written),
+        (&told, false)
+    );
+    // The trap that was told is made at once.
+    stop(&mut session, "c");
+    assert_eq!(session.target.counts.trapped, 1);
 }
 
 #[test]
@@ -307,10 +346,10 @@ fn steps_breakpoints_and_watched_ranges_stop_where_they_are() {
     for round in 1..=2 {
         assert_eq!(stop(&mut session, "c").0, "T05watch:20000030;");
         assert_eq!(session.target.at(), START + 4);
-        assert_eq!(session.target.state.word(START + 0x30), Some(round));
+        assert_eq!(session.target.state().word(START + 0x30), Some(round));
     }
     assert_eq!(stop(&mut session, "s").0, "T05");
-    assert_eq!(session.target.state.word(START + 0x30), Some(3));
+    assert_eq!(session.target.state().word(START + 0x30), Some(3));
     assert_eq!(answer(&mut session, "Z2,20000020,8"), "OK");
     let third = answer(&mut session, "Z2,20000028,8");
     assert_eq!(third, "E.two ranges are watched already");
@@ -353,10 +392,11 @@ fn steps_stay_inside_a_range() {
 
 #[test]
 fn a_trap_is_told_before_it_is_made() {
-    let mut target = machine(2);
-    let mut handler = target.state.capability(MTCC);
+    let mut state = program(2);
+    let mut handler = state.capability(MTCC);
     handler.address = START;
-    target.state.set(MTCC, handler);
+    state.set(MTCC, handler);
+    let mut target = held(state);
     let mut session = Session::new(&mut target);
     let (_, said) = stop(&mut session, "c");
     assert!(said.contains("\"monitor explain\""), "{said}");
@@ -373,11 +413,13 @@ fn a_trap_is_told_before_it_is_made() {
         (session.target.at(), session.target.counts.trapped),
         (START, 1)
     );
-    assert_eq!(session.target.state.long(TIME), 7);
+    assert_eq!(session.target.state().long(TIME), 7);
     assert!(monitor(&mut session, "steps").starts_with("6 steps retired, 1 trapped"));
     assert!(monitor(&mut session, "reset").starts_with("Back at the start, 20000000."));
-    assert_eq!(session.target.state.long(TIME), 0);
+    assert_eq!(session.target.state().long(TIME), 0);
     // A signal that the client passes is not told: with the handler at 0 the next trap is.
+    let mut target = machine(2);
+    let mut session = Session::new(&mut target);
     assert_eq!(answer(&mut session, "QPassSignals:5;e"), "OK");
     let (signal, _) = stop(&mut session, "c");
     assert_eq!((signal.as_str(), session.target.counts.trapped), ("T0b", 1));
@@ -401,6 +443,41 @@ fn what_is_mended_before_a_trap_does_not_trap() {
         "{said}"
     );
     assert_eq!(session.target.counts.trapped, 0);
+}
+
+// As a run does that begins at such a place.
+#[test]
+fn whoever_goes_on_at_a_jump_to_itself_makes_one_step() {
+    for setting in ["qC", "Z0,20000000,4", "Z2,20000030,4"] {
+        let mut target = held(coded(&[NOP, JUMP_TO_ITSELF]));
+        let mut session = Session::new(&mut target);
+        answer(&mut session, setting);
+        assert_eq!(stop(&mut session, "s").0, "T05");
+        for made in 2..=3 {
+            assert_eq!(stop(&mut session, "c").0, "T11", "{setting}");
+            assert_eq!(session.target.counts.retired, made, "{setting}");
+        }
+    }
+    let mut driven = coded(&[JUMP_TO_ITSELF]);
+    let outcome = drive::run(&mut driven, plan(100, false)).unwrap();
+    assert_eq!((outcome.end, outcome.counts.retired), (End::Still, 1));
+}
+
+// The store is the last step before the jump: nothing is made after it.
+#[test]
+fn a_store_that_was_told_leads_to_a_jump_to_itself() {
+    for setting in ["qC", "Z0,20000000,4"] {
+        let mut state = storing(5, JUMP_TO_ITSELF);
+        state.write(START + 8, &JUMP_TO_ITSELF.to_le_bytes());
+        let mut target = held(state);
+        let mut session = Session::new(&mut target);
+        assert_eq!(stop(&mut session, "s").0, "T05");
+        answer(&mut session, setting);
+        answer(&mut session, "Z2,20000030,4");
+        assert_eq!(stop(&mut session, "c").0, "T05watch:20000030;");
+        assert_eq!(stop(&mut session, "c").0, "T11");
+        assert_eq!(session.target.counts.retired, 2, "{setting}");
+    }
 }
 
 #[test]
@@ -428,17 +505,20 @@ fn the_monitor_says_what_the_bench_says() {
     let mut target = machine(5);
     let mut session = Session::new(&mut target);
     let help = monitor(&mut session, "help");
-    for command in [
-        "explain",
-        "cap",
-        "registers",
-        "list",
-        "stack",
-        "steps",
-        "reset",
+    for (command, said) in [
+        ("explain", "No trap is recorded.\n"),
+        ("cap c0", "c0 00000000, tag 0, integer 0\n"),
+        ("registers", "  register   address   tag"),
+        ("list", "=> 20000000  00150513  addi 10 10 1"),
+        ("stack", "No mark is set for a stack.\n"),
+        ("steps", "0 steps retired, 0 trapped since the start.\n"),
+        ("reset", "Back at the start, 20000000.\n"),
+        ("help", "explain  "),
     ] {
-        assert!(help.contains(&format!("\n{command}")) || help.starts_with(command));
-        assert!(!monitor(&mut session, command).is_empty(), "{command}");
+        let name = command.split(' ').next().unwrap();
+        assert!(help.lines().any(|line| line.starts_with(name)), "{name}");
+        let answer = monitor(&mut session, command);
+        assert!(answer.starts_with(said), "{command}: {answer}");
     }
     let root = "20000030, tag 1, bounds [00000000, 100000000), 4,294,967,296 bytes, GL LG SD LM SL LD MC, unsealed\n";
     assert_eq!(monitor(&mut session, "cap c2"), format!("c2 {root}"));
@@ -452,7 +532,6 @@ fn the_monitor_says_what_the_bench_says() {
     let wanted = "   20000004  00a12023  csw 2 10 0, byte 4 of loop\n   \
                   20000008  feb51ce3  bne 10 11 -8, byte 8 of loop\n";
     assert_eq!(listed, wanted);
-    assert!(monitor(&mut session, "list").starts_with("=> 20000000"));
     assert!(monitor(&mut session, "list 0x2000007e 9").contains("20000080  no whole word"));
     assert!(monitor(&mut session, "list x").starts_with("list [0xADDRESS"));
     assert!(monitor(&mut session, "nonsense").starts_with("No such command"));

@@ -1,92 +1,102 @@
 //! Steps one by one against calls, and both against what a step does by itself.
 
 use super::*;
-use crate::proved;
-use lent::{Capability, MCAUSE, MEMORY_ROOT};
+use crate::proved::UNSOUND;
+use crate::samples::{counting, loading, storing};
+use crate::samples::{EBREAK, JUMP_TO_ITSELF, LOADED, LOOP, NOP, START, STORED};
+use lent::{Range, MCAUSE};
 
-const START: u32 = 0x2000_0000;
-const EBREAK: u32 = 0x0010_0073;
-const JUMP_TO_ITSELF: u32 = 0x0000_006F;
-/// addi c10, c10, 1; csw c10, 0(c2); bne c10, c11, -8.
-const LOOP: [u32; 3] = [0x0015_0513, 0x00A1_2023, 0xFEB5_1CE3];
-/// Where the loop stores.
-const STORED: u32 = START + 0x30;
 /// More steps than are made.
 const LEFT: u64 = 1 << 40;
-
-/// A loop of three steps a round, then a last word.
-fn storing(rounds: u32, last: u32) -> State {
-    let mut state = State::reset(START, vec![0; 64], START);
-    for (place, word) in LOOP.into_iter().chain([last]).enumerate() {
-        state.write(START + 4 * place as u32, &word.to_le_bytes());
-    }
-    state.set(2, Capability::tagged(STORED, MEMORY_ROOT));
-    state.regs[3 * 11] = rounds;
-    state
-}
 
 fn pace(steps: u64) -> Pace {
     Pace {
         steps,
         left: LEFT,
+        begins: true,
         leaves: true,
     }
 }
 
-fn watching(start: u32, length: u32) -> Stops {
+/// Stops at traps and at stores.
+fn stops() -> Stops {
     Stops {
-        watched: vec![Range { start, length }],
-        ..Stops::default()
+        breaks: BTreeSet::new(),
+        traps: true,
+        stores: true,
+    }
+}
+
+fn range(start: u32, length: u32) -> Range {
+    Range {
+        start,
+        length,
+        count: 0,
+    }
+}
+
+fn course(state: State) -> Course {
+    Course::new(state, Watch::default())
+}
+
+fn counts(retired: u64) -> Counts {
+    Counts {
+        retired,
+        trapped: 0,
     }
 }
 
 /// What both ways leave, which must be the same.
-fn both(state: &mut State, steps: u64, stops: &Stops) -> (u64, Halt) {
-    let mut other = state.clone();
-    let made = by_calls(&mut other, pace(steps), stops).unwrap();
-    let one_by_one = by_steps(state, pace(steps), stops, &mut |_, _| ()).unwrap();
-    assert_eq!(made, one_by_one);
-    assert_eq!(*state, other);
-    made
+fn both(course: &mut Course, pace: Pace) -> (u64, Halt) {
+    let mut other = course.clone();
+    let (made, halt) = by_calls(&mut other, pace, &stops());
+    let one_by_one = by_steps(course, pace, &stops(), &mut |_, _| ());
+    assert_eq!((made, halt), one_by_one);
+    assert_eq!(course.state(), other.state());
+    assert_eq!(course.record(), other.record());
+    assert_eq!(made.trapped, 0);
+    (made.retired, halt)
 }
 
 #[test]
 fn a_trap_is_not_made() {
     for rounds in [1, 2, 3, 10, 1_000] {
-        let mut state = storing(rounds, EBREAK);
-        let made = both(&mut state, 10_000, &Stops::default());
+        let mut course = course(storing(rounds, EBREAK));
+        let made = both(&mut course, pace(10_000));
         assert_eq!(made, (3 * u64::from(rounds), Halt::Trap));
+        let state = course.state();
         assert_eq!(state.capability(PCC).address, START + 12);
         assert_eq!(state.register(MCAUSE), 0);
         assert_eq!(state.long(TIME), 3 * u64::from(rounds));
-        proved::run(&mut state, 1).unwrap();
-        assert_eq!(state.register(MCAUSE), 3);
+        course.run(1).unwrap();
+        assert_eq!(course.state().register(MCAUSE), 3);
     }
 }
 
 #[test]
 fn where_nothing_changes_any_more_is_found() {
     for rounds in [1, 2, 3, 10, 1_000] {
-        let mut state = storing(rounds, JUMP_TO_ITSELF);
-        let made = both(&mut state, 10_000, &Stops::default());
+        let mut course = course(storing(rounds, JUMP_TO_ITSELF));
+        let made = both(&mut course, pace(10_000));
         assert_eq!(made, (3 * u64::from(rounds), Halt::Still));
-        // From there one step leaves the place, and it is found again.
-        let made = both(&mut state, 10_000, &Stops::default());
-        assert_eq!(made, (1, Halt::Still));
+        // Whoever begins there makes one step, and whoever comes there none.
+        assert_eq!(both(&mut course, pace(10_000)), (1, Halt::Still));
+        let comes = Pace {
+            begins: false,
+            ..pace(10_000)
+        };
+        assert_eq!(both(&mut course, comes), (0, Halt::Still));
     }
 }
 
 #[test]
 fn all_steps_are_made_where_nothing_stops_them() {
     for steps in [1, 2, 3, 7, 1_000] {
-        let mut state = storing(u32::MAX, EBREAK);
-        let mut other = state.clone();
-        assert_eq!(
-            both(&mut state, steps, &Stops::default()),
-            (steps, Halt::Steps)
-        );
-        proved::run(&mut other, steps).unwrap();
-        assert_eq!(state, other);
+        let mut course = course(storing(u32::MAX, EBREAK));
+        let mut other = course.clone();
+        assert_eq!(both(&mut course, pace(steps)), (steps, Halt::Steps));
+        other.run(steps).unwrap();
+        assert_eq!(course.state(), other.state());
     }
 }
 
@@ -103,33 +113,31 @@ fn a_store_into_a_watched_range_is_not_made() {
         (START, 0x30, false),
         (STORED, 0, false),
     ] {
-        let mut state = storing(5, EBREAK);
-        let range = Range { start, length };
-        let made = both(&mut state, 10_000, &watching(start, length));
+        let mut course = course(storing(5, EBREAK));
+        course.watch([range(start, length), Range::default()]);
+        let made = both(&mut course, pace(10_000));
         let wanted = match meets {
-            true => (1, Halt::Watch(range)),
+            true => (1, Halt::Watch(start)),
             false => (15, Halt::Trap),
         };
         assert_eq!(made, wanted, "{start:08x} {length}");
         if meets {
-            assert_eq!(state.word(STORED), Some(0));
-            proved::run(&mut state, 1).unwrap();
-            let made = both(&mut state, 10_000, &watching(start, length));
-            assert_eq!((made, state.word(STORED)), ((2, wanted.1), Some(1)));
+            assert_eq!(course.state().word(STORED), Some(0));
+            course.run(1).unwrap();
+            let made = both(&mut course, pace(10_000));
+            assert_eq!(
+                (made, course.state().word(STORED)),
+                ((2, wanted.1), Some(1))
+            );
         }
     }
 }
 
 #[test]
 fn of_two_ranges_the_one_that_was_stored_to_is_told() {
-    let mut stops = watching(START, 16);
-    let second = Range {
-        start: STORED,
-        length: 8,
-    };
-    stops.watched.push(second);
-    let mut state = storing(5, EBREAK);
-    assert_eq!(both(&mut state, 100, &stops), (1, Halt::Watch(second)));
+    let mut course = course(storing(5, EBREAK));
+    course.watch([range(START, 16), range(STORED, 8)]);
+    assert_eq!(both(&mut course, pace(100)), (1, Halt::Watch(STORED)));
 }
 
 #[test]
@@ -138,30 +146,74 @@ fn a_store_that_traps_is_no_store() {
     let mut stored = state.capability(2);
     stored.tag = 0;
     state.set(2, stored);
-    assert_eq!(both(&mut state, 100, &watching(STORED, 4)), (1, Halt::Trap));
+    let mut course = course(state);
+    course.watch([range(STORED, 4), Range::default()]);
+    assert_eq!(both(&mut course, pace(100)), (1, Halt::Trap));
 }
 
 #[test]
 fn a_breakpoint_stands_before_its_step() {
     let stops = Stops {
         breaks: BTreeSet::from([START, START + 8]),
-        ..Stops::default()
+        ..stops()
     };
-    let mut state = storing(5, EBREAK);
+    let mut course = course(storing(5, EBREAK));
     let mut seen = Vec::new();
     let mut go = |leaves: bool| {
         let pace = Pace {
             leaves,
             ..pace(100)
         };
-        by_steps(&mut state, pace, &stops, &mut |at, word| {
+        by_steps(&mut course, pace, &stops, &mut |at, word| {
             seen.push((at, word))
         })
-        .unwrap()
     };
-    assert_eq!(go(false), (0, Halt::Break));
-    assert_eq!(go(true), (2, Halt::Break));
-    assert_eq!(go(true), (1, Halt::Break));
+    assert_eq!(go(false), (counts(0), Halt::Break));
+    assert_eq!(go(true), (counts(2), Halt::Break));
+    assert_eq!(go(true), (counts(1), Halt::Break));
     let wanted = [0, 4, 8].map(|place| (START + place, LOOP[place as usize / 4]));
     assert_eq!(seen, wanted);
+}
+
+// A value that no start may hold is loaded by the second step.
+#[test]
+fn stops_are_met_after_such_a_load_too() {
+    let unsound = |course: &Course| probe::unsound(course.state());
+    for rounds in [1, 2, 10, 300] {
+        for (last, halt) in [(EBREAK, Halt::Trap), (JUMP_TO_ITSELF, Halt::Still)] {
+            let mut course = course(loading(&[NOP], storing(rounds, last)));
+            let made = both(&mut course, pace(10_000));
+            assert_eq!(made, (2 + 3 * u64::from(rounds), halt));
+            assert_eq!(unsound(&course), [LOADED]);
+        }
+        let mut course = course(loading(&[], storing(rounds, EBREAK)));
+        course.watch([range(STORED, 4), Range::default()]);
+        assert_eq!(both(&mut course, pace(10_000)), (2, Halt::Watch(STORED)));
+        assert_eq!(unsound(&course), [LOADED]);
+        // Another range from there on: what was stored before is not met again.
+        course.run(1).unwrap();
+        course.watch([Range::default(), range(STORED, 1)]);
+        let made = both(&mut course, pace(10_000));
+        let wanted = match rounds {
+            1 => (1, Halt::Trap),
+            _ => (2, Halt::Watch(STORED)),
+        };
+        assert_eq!(made, wanted);
+    }
+}
+
+#[test]
+fn a_refusal_is_told_where_a_step_cannot_be_made_and_not_before() {
+    let refused = Halt::Refused(UNSOUND);
+    // A million steps after such a load.
+    let mut long = course(loading(&[], counting(u32::MAX, EBREAK)));
+    long.run(MOST_STEPS - 1).unwrap();
+    assert_eq!(both(&mut long, pace(5)), (1, Halt::Steps));
+    assert_eq!(both(&mut long, pace(5)), (0, refused));
+    assert_eq!(long.state().long(TIME), MOST_STEPS);
+    // A change by someone else: the value then stands in a start.
+    let mut changed = course(loading(&[], counting(1_000, EBREAK)));
+    assert_eq!(both(&mut changed, pace(5)), (5, Halt::Steps));
+    changed.change();
+    assert_eq!(both(&mut changed, pace(5)), (0, refused));
 }

@@ -2,6 +2,7 @@
 
 use super::*;
 use crate::sequence::Sequence;
+use lent::{COMPARE, MIE};
 use second::capability;
 use second::decode::{decode, instruction, Instruction};
 
@@ -136,4 +137,34 @@ fn every_short_word_asks_for_the_second_programs_address() {
     // Loads and stores: 4 forms of 2,048, 2 of 960 and 2 of 1,024; 4,096 jumps; 4,096 branches; 30 by a
     // register.
     assert_eq!(asking, 4 * 2048 + 2 * 960 + 2 * 1024 + 4096 + 4096 + 30);
+}
+
+#[test]
+fn the_timer_interrupts_within_so_many_steps_as_it_would_step_by_step() {
+    let times = [0, 1, 5, 40, u64::MAX - 3, u64::MAX];
+    for (time, compare) in times
+        .iter()
+        .flat_map(|time| times.map(|compare| (*time, compare)))
+    {
+        for (mie, steps) in [
+            (MIE, 0),
+            (MIE, 1),
+            (MIE, 2),
+            (MIE, 6),
+            (MIE, 50),
+            (!MIE, 50),
+        ] {
+            let mut state = State::reset(0, vec![0; 64], 0);
+            state.regs[MSTATUS] = mie;
+            state.set_long(COMPARE, compare);
+            let mut interrupted = |more| {
+                state.set_long(TIME, time.wrapping_add(more));
+                state.interrupted()
+            };
+            let expected = (0..steps).any(&mut interrupted);
+            interrupted(0);
+            let said = interrupts_within(&state, steps);
+            assert_eq!(said, expected, "{mie:x} {time} {compare} {steps}");
+        }
+    }
 }

@@ -10,7 +10,8 @@ use crate::drive::{self, Plan};
 use crate::image::{self, Format, Segment};
 use crate::last::Last;
 use crate::page::{self, Answer, Source, Subject, LAST};
-use crate::proved::{Counts, Refusal, MOST_STEPS};
+use crate::proved::{Counts, Refusal};
+use crate::report;
 use crate::sheet::label::Placed;
 use crate::sheet::Bad;
 use lent::State;
@@ -102,13 +103,13 @@ impl Image<'_> {
         let mut last = Last::new(&before, LAST, None);
         let outcome = match driven(&mut ready, self.shelf.steps, &mut last) {
             Ok(outcome) => outcome,
-            Err(refusal) => return self.bad(row, refusal_said(refusal)),
+            Err(refusal) => return self.bad(row, report::refused(refusal, &ready.state)),
         };
         let named = (&ready.names, ready.stack);
         let account = Account::of(&ready.state, &outcome, named, fits, false);
         row.take(&account);
         let subject = || self.subject(&ready.segments, fits);
-        let page = self.page(|| ran_page(&subject(), &account, &before, last));
+        let page = self.page(|| ran_page(&subject(), &account, &before, &last));
         Ok(Judged {
             row,
             page: page.transpose()?,
@@ -151,13 +152,9 @@ impl Image<'_> {
 
 fn said(halt: Halt) -> String {
     match halt {
-        Halt::Refused(refusal, _) => refusal_said(refusal),
+        Halt::Refused(refusal, state) => report::refused(refusal, &state),
         Halt::Bad(reason) => reason,
     }
-}
-
-fn refusal_said(refusal: Refusal) -> String {
-    format!("refused, number {}: {}", refusal.0, refusal.reason())
 }
 
 /// Why an image does not fit: what is said of each region that does not.
@@ -174,16 +171,32 @@ fn driven(ready: &mut Ready, steps: u64, last: &mut Last) -> Result<drive::Outco
     let mut made = 0;
     let mut watch = |before: &State, _: &State, counts: Counts| {
         last.see(made, before);
-        made += counts.retired + counts.trapped;
+        made += counts.steps();
         true
     };
-    let plan = Plan {
-        steps,
-        through_traps: false,
-        call: MOST_STEPS,
-        sweep: None,
-        record: ready.record,
-        watch: &mut watch,
-    };
-    drive::run(&mut ready.state, plan)
+    drive::run(&mut ready.state, Plan::new(steps, &mut watch))
+}
+
+#[cfg(test)]
+mod tests {
+    use super::*;
+    use crate::proved::UNSOUND;
+    use crate::samples::{coded, LOADED, UNSOUND_VALUE};
+
+    #[test]
+    fn a_refused_state_is_told_with_its_registers() {
+        let mut state = coded(&[]);
+        state.set(LOADED, UNSOUND_VALUE);
+        let why = said(Halt::Refused(UNSOUND, Box::new(state)));
+        assert!(why.starts_with("refused, number 8: "), "{why}");
+        assert!(why.ends_with(": c4 [05000000, 04000000)"), "{why}");
+        let subject = Subject {
+            files: Vec::new(),
+            board: None,
+            segments: &[],
+            fits: &[],
+        };
+        let page = page::of(&subject, &Answer::Bad(why)).unwrap();
+        assert!(page.contains("c4 [05000000, 04000000)"));
+    }
 }

@@ -69,6 +69,15 @@ pub fn examples() -> PathBuf {
     Path::new(env!("CARGO_MANIFEST_DIR")).join("../../examples")
 }
 
+/// A run of the demonstration on the small board, from that folder.
+pub const SMALL: [&str; 5] = [
+    "run",
+    "--map",
+    "interlock_small.map",
+    "interlock_small.hex",
+    "interlock_image.hex",
+];
+
 /// Compares a text with its golden file; with BENCH_GOLDEN=write, writes it.
 pub fn golden(name: &str, text: &str) {
     let golden = Path::new(env!("CARGO_MANIFEST_DIR")).join("tests/golden");

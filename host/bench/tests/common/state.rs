@@ -1,6 +1,6 @@
 //! States for the tests, and the text of their files, written from docs/STATE.md.
 
-use lent::{Capability, State, Window, EXECUTABLE_ROOT, PCC};
+use lent::{Capability, State, Window, EXECUTABLE_ROOT, MEMORY_ROOT, PCC};
 use std::fmt::Write;
 
 pub const START: u32 = 0x2000_0000;
@@ -26,6 +26,23 @@ pub fn with_code(code: &[u32]) -> State {
     memory.resize(256, 0);
     let mut state = State::new(START, memory);
     state.set(PCC, Capability::tagged(START, EXECUTABLE_ROOT));
+    state
+}
+
+/// A value with low above high, which no start may hold.
+pub const LOW_ABOVE_HIGH: Capability = Capability {
+    address: 0x0500_0000,
+    metadata: 0x7E3C_0805,
+    tag: 1,
+};
+/// CLC c2, 64(c1), which loads it.
+pub const LOAD_IT: u32 = 0x0400_B103;
+
+/// The same with that value in memory.
+pub fn with_code_and_value(code: &[u32]) -> State {
+    let mut state = with_code(code);
+    state.set(1, Capability::tagged(START, MEMORY_ROOT));
+    state.write_capability(START + 64, LOW_ABOVE_HIGH);
     state
 }
 

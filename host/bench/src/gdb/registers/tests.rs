@@ -69,7 +69,7 @@ fn a_tag_can_be_taken_and_not_given() {
     for tag in [1, 2, u32::MAX] {
         let bytes = changed(&state, 2, 2, tag);
         let given = write(&mut state, Part::Capability(2), &bytes);
-        assert_eq!(given, Err("a tag is not given by hand"));
+        assert_eq!(given, Err("a tag is not given by hand".into()));
     }
     let bytes = changed(&state, PCC, 2, 0);
     write(&mut state, Part::Capability(PCC), &bytes).unwrap();

@@ -3,6 +3,7 @@
 
 use super::*;
 use crate::proved;
+use crate::samples::loading;
 use crate::sequence::Sequence;
 use lent::CAPABILITIES;
 
@@ -110,18 +111,22 @@ fn tags(state: &State) -> u32 {
     registers + state.tags.iter().map(|byte| byte.count_ones()).sum::<u32>()
 }
 
-/// Sends bytes; what comes back must be in form, and nothing but steps may set a tag.
-fn tried(target: &mut Target, session_bytes: &[Vec<u8>]) -> usize {
+/// Sends bytes; what comes back must be in form, nothing but steps may set a tag, and the state must be a start unless
+/// a step may have loaded what none may hold.
+fn tried(target: &mut Target, loads: bool, session_bytes: &[Vec<u8>]) -> usize {
     let mut session = Session::new(target);
     let mut answered = 0;
     for bytes in session_bytes {
-        let (before, steps) = (tags(&session.target.state), session.target.state.long(TIME));
+        let (before, steps) = (
+            tags(session.target.state()),
+            session.target.state().long(TIME),
+        );
         session.receive(bytes);
         session.work();
         session.receive(b"\x03");
         session.notes.clear();
-        let state = &session.target.state;
-        assert!(proved::run(&mut state.clone(), 0).is_ok());
+        let state = session.target.state();
+        assert!(loads || proved::run(&mut state.clone(), 0).is_ok());
         let stood = state.long(TIME) == steps;
         assert!(!stood || tags(state) <= before, "{}", bytes.escape_ascii());
         let output: Vec<u8> = session.take_output();
@@ -162,15 +167,19 @@ fn without_refusals(output: &[u8]) -> Vec<u8> {
 fn packets_of_any_kind_are_answered() {
     let mut words = Sequence(2026);
     let mut answered = 0;
-    for _ in 0..400 {
-        let mut target = machine(1_000);
+    for number in 0..400 {
+        let loads = number % 4 == 0;
+        let mut target = match loads {
+            true => held(loading(&[NOP], program(1_000))),
+            false => machine(1_000),
+        };
         let all: Vec<Vec<u8>> = (0..150)
             .map(|_| {
                 let payload = payload(&mut words);
                 sent(&payload, &mut words)
             })
             .collect();
-        answered += tried(&mut target, &all);
+        answered += tried(&mut target, loads, &all);
     }
     assert!(answered > 30_000, "{answered}");
 }
@@ -187,7 +196,7 @@ fn bytes_of_any_kind_are_taken() {
                     .collect()
             })
             .collect();
-        tried(&mut target, &all);
+        tried(&mut target, false, &all);
     }
 }
 
@@ -195,13 +204,13 @@ fn bytes_of_any_kind_are_taken() {
 fn a_packet_with_a_wrong_sum_is_not_obeyed() {
     for known in KNOWN {
         let mut target = machine(1_000);
-        let kept = target.state.clone();
+        let kept = target.state().clone();
         let mut session = Session::new(&mut target);
         let sum = known.bytes().fold(1u8, |sum, byte| sum.wrapping_add(byte));
         session.receive(format!("${known}#{sum:02x}").as_bytes());
         assert_eq!(session.take_output(), b"-", "{known}");
         assert!(!session.is_going() && session.ended.is_none());
-        assert_eq!(session.target.state, kept);
-        assert!(session.target.stops.breaks.is_empty());
+        assert_eq!(*session.target.state(), kept);
+        assert!(session.target.breaks().is_empty());
     }
 }
