@@ -1,21 +1,28 @@
 #!/usr/bin/env python3
-"""Checks that what the documents name is there. From the repository's root: python3 tests/docs.py [PART..]
+"""Checks that what the documents name is there, and that files say what they are. From the repository's root: python3 tests/docs.py [PART..]
 
     names      a name in `backticks` is a definition, law, function, edit, mutant or item of the host, or stands in ALLOWED
     paths      files and folders named exist, CRATE/EDIT is an edit, Markdown links and quoted headings resolve
-    promises   docs/PROMISES.md has a row for every public function, and names every must-fail edit
+    cited      docs/GUARANTEE.md has something in brackets behind each sentence, and each name in them stands in the file beside it
+    promises   docs/PROMISES.md has a row for every public function, and names every edit, of must-fail and of tried
     sizes      counts of mutants are those of the tree, and counts of lines are within a tenth of them
     lines      no line is longer than 160 characters
     bits       a file is executable exactly if it starts with #!
+    starts     a file of definitions, laws or proofs begins with a comment that says what is in it
     itself     the parts above find what is wrong in a made-up document
 
 Conventions of the documents. A crate's name just before a name, or a list of names, says where they are: state `placeOf`, `placeAt`;
-so does (CRATE) or (CRATE, File) just after them. `CRATE::FUNCTION` is a function of that crate, `CRATE/EDIT` a must-fail edit. In
+so does (CRATE) or (CRATE, File) just after them. `CRATE::FUNCTION` is a function of that crate, `CRATE/EDIT` an edit. In
 docs/PROMISES.md a heading `### CRATE` holds for the table and the edits below it. A part in capitals, as X in crates/X/specs, stands for any.
+
+In docs/GUARANTEE.md an item's brackets have names and then the file that declares them, (`NAME`, `NAME`, CRATE/proofs/File; ..), or scripts of tests/.
+
+In docs/ARCHITECTURE.md a table has the definitions by paper, a part of sizes: each file of definitions counts for every paper that its first comment names.
 
 A message is FILE:LINE: what is wrong. Exits with 1 if there is one."""
 import fnmatch
 import glob
+import itertools
 import os
 import re
 import subprocess
@@ -31,10 +38,15 @@ ALLOWED = {
     "the report's": "setCapBounds getCapLength",
     "words of a format, of an option or of a pattern": """c0 c15 word66 word72 mshwm mshwmb imm type cap explain _ STACK_END outside marked
         later""",
-    "libgcc's and Debian's": """__divsi3 __modsi3 __umodsi3 memset binutils-riscv64-unknown-elf librust-clap-dev librust-indicatif-dev
+    "libgcc's and Debian's": """__divsi3 __modsi3 __umodsi3 __udivsi3 __mulsi3 __ashldi3 __bswapsi2 __paritysi2 memset
+        binutils-riscv64-unknown-elf librust-clap-dev librust-indicatif-dev
         librust-object-dev librust-serde-json-dev librust-csv-dev librust-serde-dev librust-serde-derive-dev librust-sha2-dev librust-tera-dev
-        librust-addr2line-dev librust-gimli-dev""",
+        librust-addr2line-dev librust-gimli-dev librust-clap-complete-dev""",
 }
+
+
+# Papers by the words that name them.
+PAPERS = {"CHERIoT report": r"\b[Rr]eport\b", "RISC-V standards": r"RISC-V|\bstandard", "document 01": r"\b[Dd]ocument 01\b"}
 
 
 def read(path):
@@ -63,6 +75,21 @@ def antt_names(text):
     return names
 
 
+def definitions(text):
+    """What a file of definitions declares by itself: not the fields of a record, nor the constructors of a data type."""
+    text = re.sub(r"--.*", "", text)
+    return antt_names("\n".join(line for line in text.split("\n") if not line.startswith(" ")))
+
+
+def papers_of(text):
+    """The papers that the comment at a file's head names; document 02 by its requests."""
+    head = " ".join(line[2:].strip() for line in itertools.takewhile(lambda line: line.startswith("--"), text.split("\n")))
+    named = {name for name, pattern in PAPERS.items() if re.search(pattern, head)}
+    for requests in re.findall(r"[Dd]ocument 02, (\d+(?:, \d+)*(?: and \d+)?)", head):
+        named |= {f"document 02, {number}" for number in re.findall(r"\d+", requests)}
+    return named or {"no paper"}
+
+
 def code_names(text):
     """Items of Rattle or Rust code, variants of its enums among them."""
     text = re.sub(r"//.*", "", text)
@@ -85,7 +112,7 @@ class Tree:
                 names.update(antt_names(read(f)))
             for f in files(f"crates/{crate}/src/**/*.rt"):
                 names.update(code_names(read(f)))
-            for f in files(f"crates/{crate}/must-fail/*.edit"):
+            for f in files(f"crates/{crate}/must-fail/*.edit", f"crates/{crate}/tried/*.edit"):
                 self.edits.add(f"{crate}/{os.path.basename(f)[:-len('.edit')]}")
         self.mutants = set(re.findall(r"(?m)^mutant (\S+)", read("host/compare/mutants/mutants.txt")))
         self.rest = set(self.mutants)
@@ -95,6 +122,17 @@ class Tree:
             self.rest.update(re.findall(r"\b(oddersnow_\w+)\(", read(f)))
         self.allowed = {name for names in ALLOWED.values() for name in names.split()}
         self.used = set()
+
+    def by_paper(self):
+        """How many files of definitions name a paper, and how many definitions they have; and all."""
+        counts = {}
+        for f in files("crates/*/specs/**/*.antt"):
+            if os.path.basename(f) == "Lib.antt":
+                continue
+            for paper in papers_of(read(f)) | {"all"}:
+                before = counts.get(paper, (0, 0))
+                counts[paper] = (before[0] + 1, before[1] + len(definitions(read(f))))
+        return counts
 
     def has(self, name, crate=None):
         if crate:
@@ -181,7 +219,7 @@ def module(crate, name):
 
 def paths(tree, document):
     crates = "|".join(sorted(tree.crates, key=len, reverse=True))
-    first = rf"crates|docs|host|tests|examples|include|specs|proofs|src|must-fail|{crates}"
+    first = rf"crates|docs|host|packaging|tests|examples|include|specs|proofs|src|must-fail|tried|{crates}"
     path = re.compile(rf"(?<![\w/.`-])`?(\.ci/run|(?:{first})/[\w./*-]*[\w*])")
     for number, before, line, after, code, heading in document.joined():
         for found in path.finditer(line):
@@ -209,6 +247,50 @@ def exists(tree, path):
     return any(glob.glob(os.path.join(ROOT, root + path + end)) for root in roots for end in ("", ".antt", ".rt"))
 
 
+CITED = "docs/GUARANTEE.md"
+# Where each item must have something behind it; an assumption that nothing checks says so instead.
+CITING = {"What is proved": "`", "What is assumed": "`|tests/|nothing checks", "What is tested only": "tests/"}
+
+
+def items(document):
+    """The items of lists, each with the number of its first line, its text as one line, and the heading above."""
+    at, text, above = 0, "", ""
+    for number, line, _, heading in [*document.lines, (0, "", False, "")]:
+        if text and (not line.startswith("  ") or line.startswith("- ")):
+            yield at, text, above
+            text = ""
+        if line.startswith("- "):
+            at, text, above = number, line[2:], heading
+        elif text:
+            text += " " + line.strip()
+
+
+def cited(tree, document):
+    if document.path != CITED:
+        return
+    for number, item, heading in items(document):
+        for sentence in re.split(r"(?<=\.) (?=[A-Z])", item):
+            if heading in CITING and not re.search(rf"\([^()]*({CITING[heading]})|nothing checks", sentence):
+                yield number, f"nothing stands behind '{sentence[:60]}'"
+        for brackets in re.findall(r"\(([^()]*(?:`|tests/)[^()]*)\)", item):
+            yield from ((number, fault) for part in brackets.split("; ") for fault in citation_faults(part))
+
+
+def citation_faults(part):
+    """What is wrong with names and the file that declares them."""
+    told, places = re.findall(r"`([^`]+)`", part), re.findall(r"[\w.]+/[\w./]+", part)
+    if not told:
+        return
+    found = files(*(f"crates/{place}{end}" for place in places for end in ("", ".antt", ".rt")))
+    if len(places) != 1 or not found:
+        yield f"no file in ({part})"
+        return
+    declared = antt_names(read(found[0])) if found[0].endswith(".antt") else code_names(read(found[0]))
+    for name in told:
+        if name not in declared:
+            yield f"{found[0]} has no `{name}`"
+
+
 def promises(tree, document):
     if document.path != "docs/PROMISES.md":
         return
@@ -229,6 +311,7 @@ def promises(tree, document):
 
 
 def sizes(tree, document):
+    yield from papers(tree, document)
     for number, before, line, after, code, heading in document.joined():
         for count in re.findall(r"\b(\d+) (?:wrong machines|mutants|one-line mistakes)\b", line):
             if int(count) != len(tree.mutants):
@@ -238,6 +321,21 @@ def sizes(tree, document):
             there = sum(read(f).count("\n") for f in files(f"crates/*/{folder}/**/*.rt", f"crates/*/{folder}/**/*.antt"))
             if abs(int(count.replace(",", "")) - there) > there // 10:
                 yield number, f"{count} of {what}, and there are {there} lines"
+
+
+def papers(tree, document):
+    if document.path != "docs/ARCHITECTURE.md":
+        return
+    counts = tree.by_paper()
+    told = {}
+    for number, line, _, heading in document.lines:
+        row = re.match(r"\| ([^|]+) \| ([\d,]+) \| ([\d,]+) \|", line)
+        if row and heading == "What a reader must believe":
+            told[row.group(1)] = number, tuple(int(n.replace(",", "")) for n in row.groups()[1:])
+    for paper in sorted(counts.keys() | told.keys()):
+        number, count = told.get(paper, (1, None))
+        if count != counts.get(paper):
+            yield number, f"definitions by paper: {paper} is {count}, and there are {counts.get(paper)}"
 
 
 def lines(tree, document):
@@ -256,7 +354,18 @@ def bits():
                 yield f"{path}:1: {'not executable' if script else 'executable, and no script'}"
 
 
-PARTS = {"names": names, "paths": paths, "promises": promises, "sizes": sizes, "lines": lines}
+def starts():
+    for path in files("crates/*/specs/**/*.antt", "crates/*/proofs/**/*.antt"):
+        yield from start_faults(path, read(path))
+
+
+def start_faults(path, text):
+    if not re.match(r"-- \S", text):
+        yield f"{path}:1: no comment at its start says what is in it"
+
+
+PARTS = {"names": names, "paths": paths, "cited": cited, "promises": promises, "sizes": sizes, "lines": lines}
+WHOLE_TREE = {"bits": bits, "starts": starts}
 
 # ---- the check of the checks
 
@@ -274,14 +383,35 @@ FOUND = ["2: crate state has no `noSuchDefinition`", "2: no `no-such-law`", "2: 
 WHOLE = ["3: crate machine has no `OTHER`, which is elsewhere", "3: crate machine has no `OTHER`, which is elsewhere",
          "3: crate state has no file NoSuchFile", "4: no `no-such-mutant`"]
 
+MADE_UP_GUARANTEE = """## What is proved
+- This is so (`refusal-is`, machine_laws/proofs/Refusals; `step`, machine/src/lib). This is not
+  (see it). That is elsewhere (`refusal-is`, machine_laws/proofs/Runs), or nowhere (`refusal-is`, machine_laws/proofs/NoSuch).
+## What is tested only
+- That (tests/docs.sh).
+- This.
+"""
+UNCITED = ["2: nothing stands behind 'This is not (see it).'", "2: crates/machine_laws/proofs/Runs.antt has no `refusal-is`",
+           "2: no file in (`refusal-is`, machine_laws/proofs/NoSuch)", "6: nothing stands behind 'This.'"]
+
+
+def wrong_papers(tree):
+    counted = read("docs/ARCHITECTURE.md").replace("| document 01 |", "| document 01 | 0 | 0 |\n| document 00 |")
+    said = [text.split(" is ")[0] for _, text in sizes(tree, Document("docs/ARCHITECTURE.md", counted))]
+    if said != [f"definitions by paper: document {paper}" for paper in ("00", "01")]:
+        yield f"tests/docs.py:1: of a table of papers with two wrong rows is said {said}"
+
 
 def itself(tree):
+    yield from wrong_papers(tree)
     here = min(n for n in tree.crates["state"] if NAME.fullmatch(n))
     other = min(n for n in tree.crates["instructions"] if NAME.fullmatch(n) and not tree.has(n, "machine"))
     text = MADE_UP.replace("HERE", here).replace("OTHER", other).replace("EDIT", min(tree.edits))
     yield from differing(tree, "docs/MADE-UP.md", text, FOUND)
     mended = text.replace("`to the\nnext line`", "to the\nnext line")
     yield from differing(tree, "docs/MADE-UP.md", mended, [f.replace("OTHER", other) for f in FOUND + WHOLE if "backticks" not in f])
+    said = [f"{n}: {text}" for n, text in cited(tree, Document(CITED, MADE_UP_GUARANTEE))]
+    if said != UNCITED:
+        yield f"tests/docs.py:1: of the made-up guarantee was found: {said}"
     crate, name = next(e.split("/") for e in sorted(tree.edits) if tree.public(e.split("/")[0]))
     function = tree.public(crate)[0]
     lost = re.sub(rf"(?m)^\| `{function}` \|", "| `main` |", read("docs/PROMISES.md").replace(name, "a_lost_edit"))
@@ -289,6 +419,9 @@ def itself(tree):
     for want in (f"no row for the public function {crate}::{function}", f"the edit {crate}/{name} is not named"):
         if want not in said:
             yield f"tests/docs.py:1: not found: {want}"
+    for text in ("", "use a.B\n-- late\n", "--\n", "-- \n"):
+        if not list(start_faults("made-up.antt", text)):
+            yield f"tests/docs.py:1: taken for a start: {text!r}"
 
 
 def differing(tree, path, text, wanted):
@@ -312,13 +445,13 @@ def unused(tree):
 
 def main():
     tree, faults = Tree(), []
-    for part in sys.argv[1:] or [*PARTS, "bits", "itself"]:
+    for part in sys.argv[1:] or [*PARTS, *WHOLE_TREE, "itself"]:
         if part in PARTS:
             for path in documents():
                 faults += [f"{path}:{n}: {text}" for n, text in PARTS[part](tree, Document(path))]
         if part == "names":
             faults += unused(tree)
-        faults += bits() if part == "bits" else itself(tree) if part == "itself" else []
+        faults += WHOLE_TREE[part]() if part in WHOLE_TREE else itself(tree) if part == "itself" else []
     print("\n".join(faults) or "all there")
     sys.exit(1 if faults else 0)
 

@@ -1,8 +1,8 @@
 #!/usr/bin/env bash
-# What the documents name is there, and their lines are not too long: the parts of tests/docs.py, a check each.
+# What the documents name is there, their lines are not too long, and files of proofs say what is in them: the parts of tests/docs.py, a check each.
 set -u
 source "$(dirname "$0")/lib/check.sh"
-for part in names paths promises sizes lines bits itself; do
+for part in names paths cited promises sizes lines bits starts itself; do
   check "docs $part" python3 tests/docs.py "$part"
 done
 exit $bad

@@ -1,2 +1,3 @@
+-- What every decoded instruction keeps to: Range. Words and their meanings, computed: Table.
 pub mod Range
 pub mod Table

@@ -1,1 +1,2 @@
+-- A cut's answer in plain numbers: Answers.
 pub mod Answers

@@ -1,3 +1,4 @@
+-- What is lent: Lent, Window, Fits. Steps and what they change: Steps, Memory, Integers, Short, Timer, Editions. Worked steps: Cases, Unsound.
 pub mod Lent
 pub mod Window
 pub mod Editions

@@ -44,7 +44,7 @@ ones =
     -- an empty region; low above high by the least that the encoding has
     ∷ one 1 0x05000000 0x7E3C0A05 1 0x05000000 0x05000000 0
     ∷ one 1 0x05000000 0x7E3C0805 1 0x05000000 0x04000000 8
-    -- by nearly the whole space, and both ends far past it: the base of a region around address 0 wraps
+    -- by nearly the whole space; and high far past its end: the base of a region around address 0 wraps
     ∷ one 1 0 0x7E000808 1 0xFFFFFE08 0x4 8
     ∷ one 1 0 0x7E002008 1 0xFFFFFE08 0x1FFFFFE10 8
     -- the same bounds untagged; sealed; in the last general register, PCC and the last special one

@@ -1,1 +1,2 @@
+-- Loads and stores, their checks and places: Access.
 pub mod Access

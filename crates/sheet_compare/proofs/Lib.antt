@@ -1,3 +1,4 @@
+-- Names and regions as they are walked: Lists, Standing, Order. That the list is exact: Exact, Promise. The answer: Comparing, Laws.
 pub mod Lists
 pub mod Standing
 pub mod Order

@@ -1,1 +1,2 @@
+-- Records as a sheet's text in a lent buffer: Writing.
 pub mod Writing

@@ -1,3 +1,4 @@
+-- A line's parts: Padding, Digits. Sheets as text: Lists, Lines, Walk, Answers, Trips, Readings. As records: Words, Records. Limits: Lengths, Bounds.
 pub mod Padding
 pub mod Digits
 pub mod Lists

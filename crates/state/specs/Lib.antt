@@ -1,3 +1,4 @@
+-- Places and buffers: Layout, Registers, Lent, Memory, Fits. What words mean: Addresses, Status, Marks, Timer. Instructions: Checks, Effects.
 pub mod Layout
 pub mod Registers
 pub mod Addresses

@@ -1,1 +1,2 @@
+-- Fences, calls, CSRs and special registers: System.
 pub mod System

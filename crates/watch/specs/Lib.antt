@@ -1,2 +1,3 @@
+-- Ranges and counts of touches: Watch. Touches worked out: Worked.
 pub mod Watch
 pub mod Worked

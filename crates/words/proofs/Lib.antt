@@ -1,3 +1,4 @@
+-- Tests in general: Tests. Words, bytes and bits: Word, Bytes, Bits, Fits. Multiply and divide: Readings, Quotients, Products, Edges.
 pub mod Tests
 pub mod Word
 pub mod Bytes

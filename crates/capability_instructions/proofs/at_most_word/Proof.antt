@@ -1,3 +1,4 @@
+-- Both arms are arithmetic: the number itself, or the largest word.
 use native.Mathlib.Omega.{arith}
 use borrow.Author.Needs.{needs}
 use Rattle.capability_instructions.proofs.at_most_word.Statement.{statement}

@@ -1,3 +1,4 @@
+-- An arm an instruction: its source read, derived as the callee promises, and written.
 use Rattle.capability_instructions.specs.Derivation.{capabilityEffect}
 use borrow.Author.Needs.{needs}
 use Rattle.capability_instructions.proofs.capability_effect.Statement.{statement}

@@ -1,3 +1,4 @@
+-- An arm an operation, each by its callee's promise; the difference of addresses by arithmetic modulo 2^32.
 use mathlib.Core.Path.{ap}
 use native.Mathlib.Omega.{arith}
 use Rattle.capability.specs.Capability.{integer}

@@ -1,3 +1,4 @@
+-- The upper end of the region read.
 use borrow.Author.Needs.{needs}
 use Rattle.capability_instructions.proofs.high_of.Statement.{statement}
 use Rattle.capability_instructions.proofs.high_of.Tie as tie

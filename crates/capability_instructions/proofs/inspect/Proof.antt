@@ -1,3 +1,4 @@
+-- Ten inspections, each its callee's number or a field; length and top are cut to a word.
 use Rattle.capability_instructions.specs.Derivation.{inspected}
 use borrow.Author.Needs.{needs}
 use Rattle.capability_instructions.proofs.inspect.Statement.{statement}

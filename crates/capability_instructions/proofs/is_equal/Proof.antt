@@ -1,3 +1,4 @@
+-- Three comparisons joined, word by word.
 use Rattle.capability_instructions.specs.Derivation.{equalExact}
 use borrow.Author.Needs.{needs}
 use Rattle.capability_instructions.proofs.is_equal.Statement.{statement}

@@ -1,3 +1,4 @@
+-- Four comparisons joined: both regions and both rights are read first, the rights compared by their common bits.
 use Rattle.capability_instructions.specs.Derivation.{subset}
 use borrow.Author.Needs.{needs}
 use Rattle.capability_instructions.proofs.is_subset.Statement.{statement}

@@ -1,3 +1,4 @@
+-- The difference of the ends read, in 33 bits.
 use Rattle.capability_instructions.specs.Derivation.{lengthOf}
 use borrow.Author.Needs.{needs}
 use Rattle.capability_instructions.proofs.length_of.Statement.{statement}

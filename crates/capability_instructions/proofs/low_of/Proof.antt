@@ -1,3 +1,4 @@
+-- The lower end of the region read.
 use borrow.Author.Needs.{needs}
 use Rattle.capability_instructions.proofs.low_of.Statement.{statement}
 use Rattle.capability_instructions.proofs.low_of.Tie as tie

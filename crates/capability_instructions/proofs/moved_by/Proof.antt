@@ -1,3 +1,4 @@
+-- A move to the wrapped sum of address and increment.
 use borrow.Author.Needs.{needs}
 use Rattle.capability_instructions.proofs.moved_by.Statement.{statement}
 use Rattle.capability_instructions.proofs.moved_by.Tie as tie

@@ -1,3 +1,4 @@
+-- The test as 0 or 1, and that as an integer.
 use borrow.Author.Needs.{needs}
 use Rattle.capability_instructions.proofs.truth_of.Statement.{statement}
 use Rattle.capability_instructions.proofs.truth_of.Tie as tie

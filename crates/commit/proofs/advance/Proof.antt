@@ -1,3 +1,4 @@
+-- PCC read, moved by the instruction's bytes, and written.
 use Rattle.commit.specs.Commit.{advanced}
 use borrow.Author.Needs.{needs}
 use Rattle.commit.proofs.advance.Statement.{statement}

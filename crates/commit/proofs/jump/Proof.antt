@@ -1,3 +1,4 @@
+-- Link, PCC and status: three writes, one after the other.
 use Rattle.commit.specs.Commit.{jumped}
 use borrow.Author.Needs.{needs}
 use Rattle.commit.proofs.jump.Statement.{statement}

@@ -1,3 +1,4 @@
+-- An arm a width: each store sets as many bytes as its kind has.
 use borrow.Author.Needs.{needs}
 use Rattle.commit.proofs.put_bytes.Statement.{statement}
 use Rattle.commit.proofs.put_bytes.Tie as tie

@@ -1,3 +1,4 @@
+-- Three CSRs written in the definition's order.
 use borrow.Author.Needs.{needs}
 use Rattle.commit.proofs.set_csrs.Statement.{statement}
 use Rattle.commit.proofs.set_csrs.Tie as tie

@@ -1,3 +1,4 @@
+-- By the test for room: bytes set and the tag cleared, or both buffers as they were.
 use borrow.Author.Tests.{le-leb, lt-leb}
 use Rattle.commit.specs.Commit.{stored, retagged}
 use borrow.Author.Needs.{needs}

@@ -1,3 +1,4 @@
+-- By the test for room: two words stored and the tag put, or both buffers as they were.
 use borrow.Author.Tests.{le-leb, lt-leb}
 use Rattle.commit.specs.Commit.{storedCapability, retagged}
 use borrow.Author.Needs.{needs}

@@ -1,3 +1,4 @@
+-- The old word to its register, the new one to the CSR, then on.
 use Rattle.commit.specs.Commit.{withCsr}
 use borrow.Author.Needs.{needs}
 use Rattle.commit.proofs.write_csr.Statement.{statement}

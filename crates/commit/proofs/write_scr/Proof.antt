@@ -1,3 +1,4 @@
+-- The old capability to its register, the new one to the special register's place, then on.
 use Rattle.commit.specs.Commit.{withScr}
 use borrow.Author.Needs.{needs}
 use Rattle.commit.proofs.write_scr.Statement.{statement}

@@ -1,3 +1,4 @@
+-- An arm a family, each with its family's promise; an illegal word is the last.
 use Rattle.execution.specs.Step.{effectOf}
 use borrow.Author.Needs.{needs}
 use Rattle.execution.proofs.execute.Statement.{statement}

@@ -1,3 +1,4 @@
+-- Ten operations, each its callee's word; the difference by arithmetic.
 use native.Mathlib.Omega.{arith}
 use Rattle.integer_instructions.specs.Integer.{aluOf}
 use borrow.Author.Needs.{needs}

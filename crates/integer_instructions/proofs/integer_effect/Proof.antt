@@ -1,3 +1,4 @@
+-- Each arm reads its sources, computes by its callee and writes one register; LUI computes nothing.
 use Rattle.integer_instructions.specs.Integer.{integerEffect}
 use borrow.Author.Needs.{needs}
 use Rattle.integer_instructions.proofs.integer_effect.Statement.{statement}

@@ -1,3 +1,4 @@
+-- Two comparisons, joined by the callee as the definition joins them.
 use Rattle.machine.specs.Refusals.{goodEdition}
 use borrow.Author.Needs.{needs}
 use Rattle.machine.proofs.good_edition.Statement.{statement}

@@ -1,3 +1,4 @@
+-- The tags' length is tested first and decides; where it is right the other comparison is the answer.
 use Prim.Native.Nat.{_/_}
 use borrow.Author.Tests.{eq-eqb, ne-eqb}
 use Rattle.machine.specs.Refusals.{blockBytes}

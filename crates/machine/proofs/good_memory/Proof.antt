@@ -1,3 +1,4 @@
+-- Five tests in the definition's order: each early answer by the one that failed, the last by all before it.
 use Rattle.machine.specs.Refusals.{goodMemory}
 use Rattle.words.proofs.Tests.{tests}
 use borrow.Author.Needs.{needs}

@@ -1,3 +1,4 @@
+-- Two remainders, each 0 or the answer is no; then the end is compared.
 use borrow.Author.Tests.{eq-eqb, ne-eqb}
 use Rattle.words.proofs.Tests.{tests}
 use Rattle.machine.specs.Refusals.{goodWindow}

@@ -1,3 +1,4 @@
+-- The tags' test was made by the callee; where it passes c0's answer is all.
 use Rattle.machine.specs.Refusals.{goodWords}
 use borrow.Author.Needs.{needs}
 use Rattle.machine.proofs.good_words.Statement.{statement}

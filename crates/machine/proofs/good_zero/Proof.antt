@@ -1,3 +1,4 @@
+-- Three words of c0 read in turn: the first that is not 0 decides, and the last is compared.
 use Rattle.machine.specs.Refusals.{goodZero}
 use borrow.Author.Tests.{eq-eqb, ne-eqb}
 use borrow.Author.Needs.{needs}

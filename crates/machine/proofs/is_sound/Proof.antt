@@ -1,3 +1,4 @@
+-- The region read has its ends in order and within the address space.
 use Rattle.machine.specs.Refusals.{sound}
 use borrow.Author.Needs.{needs}
 use Rattle.machine.proofs.is_sound.Statement.{statement}

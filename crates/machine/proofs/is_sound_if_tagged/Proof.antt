@@ -1,3 +1,4 @@
+-- By the tag: with it the callee's answer, without it nothing is asked.
 use Rattle.machine.specs.Refusals.{soundIfTagged}
 use borrow.Author.Needs.{needs}
 use Rattle.machine.proofs.is_sound_if_tagged.Statement.{statement}

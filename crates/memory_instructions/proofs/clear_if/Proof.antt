@@ -1,3 +1,4 @@
+-- The test is the definition's, negated: by its two values.
 use Rattle.memory_instructions.proofs.clear_if.Statement.{statement}
 use Rattle.memory_instructions.proofs.clear_if.Tie as tie
 

@@ -1,3 +1,4 @@
+-- Loaded, then asked whether it is revoked, then its tag kept or not: three callees in a row.
 use Rattle.memory_instructions.specs.Access.{filtered}
 use borrow.Author.Needs.{needs}
 use Rattle.memory_instructions.proofs.filter.Statement.{statement}

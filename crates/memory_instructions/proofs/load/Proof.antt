@@ -1,3 +1,4 @@
+-- Width, cause and place are the callees'; the load at that place is under the check.
 use Rattle.memory_instructions.specs.Access.{loadEffect}
 use borrow.Author.Needs.{needs}
 use Rattle.memory_instructions.proofs.load.Statement.{statement}

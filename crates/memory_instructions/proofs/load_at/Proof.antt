@@ -1,3 +1,4 @@
+-- By the place: two traps, or the value read there as an integer.
 use Rattle.memory_instructions.specs.Access.{loadAt}
 use borrow.Author.Needs.{needs}
 use Rattle.memory_instructions.proofs.load_at.Statement.{statement}

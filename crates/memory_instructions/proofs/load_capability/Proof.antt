@@ -1,3 +1,4 @@
+-- As a load of eight bytes: cause and place are the callees', what is loaded there is under the check.
 use Rattle.memory_instructions.specs.Access.{loadCapabilityEffect}
 use borrow.Author.Needs.{needs}
 use Rattle.memory_instructions.proofs.load_capability.Statement.{statement}

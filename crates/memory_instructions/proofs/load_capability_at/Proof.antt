@@ -1,3 +1,4 @@
+-- By the place: two traps, or the capability there after the filter.
 use Rattle.memory_instructions.specs.Access.{loadCapabilityAt}
 use borrow.Author.Needs.{needs}
 use Rattle.memory_instructions.proofs.load_capability_at.Statement.{statement}

@@ -1,3 +1,4 @@
+-- Five kinds, each its load of bytes; the two signed ones are extended.
 use Rattle.memory_instructions.specs.Access.{loadedValue}
 use borrow.Author.Needs.{needs}
 use Rattle.memory_instructions.proofs.loaded_value.Statement.{statement}

@@ -1,3 +1,4 @@
+-- An arm a kind of access: its registers read, the address summed, and the access by its callee.
 use Rattle.state.proofs.Laws.{integer-is}
 use Rattle.memory_instructions.specs.Access.{memoryEffect}
 use borrow.Author.Needs.{needs}

@@ -1,3 +1,4 @@
+-- Width, cause and place are the callees'; the store at that place is under the check.
 use Rattle.memory_instructions.specs.Access.{storeEffect}
 use borrow.Author.Needs.{needs}
 use Rattle.memory_instructions.proofs.store.Statement.{statement}

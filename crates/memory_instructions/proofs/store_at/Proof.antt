@@ -1,3 +1,4 @@
+-- By the place: two traps, or the store of that kind, with nothing computed.
 use Rattle.memory_instructions.specs.Access.{storeAt}
 use borrow.Author.Needs.{needs}
 use Rattle.memory_instructions.proofs.store_at.Statement.{statement}

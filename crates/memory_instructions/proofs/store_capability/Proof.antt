@@ -1,3 +1,4 @@
+-- Its cause is one of its own, which also looks at the value; the store at its place is under that check.
 use Rattle.memory_instructions.specs.Access.{storeCapabilityEffect}
 use borrow.Author.Needs.{needs}
 use Rattle.memory_instructions.proofs.store_capability.Statement.{statement}

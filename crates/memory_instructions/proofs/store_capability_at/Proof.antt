@@ -1,3 +1,4 @@
+-- By the place: two traps, or the store of the capability as it is.
 use Rattle.memory_instructions.specs.Access.{storeCapabilityAt}
 use borrow.Author.Needs.{needs}
 use Rattle.memory_instructions.proofs.store_capability_at.Statement.{statement}

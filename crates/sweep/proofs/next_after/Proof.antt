@@ -1,3 +1,4 @@
+-- The next number compared with the count of granules: the last, or the next.
 use Rattle.words.proofs.Tests.{tests}
 use Rattle.sweep.specs.Visits.{nextAfter}
 use borrow.Author.Needs.{needs}

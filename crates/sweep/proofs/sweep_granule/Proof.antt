@@ -1,3 +1,4 @@
+-- Where the granule is to be swept its bit is put to 0; else the tags stay.
 use mathlib.Core.Path.{sym, _∙_}
 use Rattle.sweep.specs.Visits.{sweptTags}
 use borrow.Author.Needs.{needs}

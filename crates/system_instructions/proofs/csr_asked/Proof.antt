@@ -1,3 +1,4 @@
+-- By the kind: the operand itself, or the old word with the operand's bits set or cleared.
 use Rattle.system_instructions.specs.System.{csrAsked}
 use borrow.Author.Needs.{needs}
 use Rattle.system_instructions.proofs.csr_asked.Statement.{statement}

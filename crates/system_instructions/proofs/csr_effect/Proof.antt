@@ -1,3 +1,4 @@
+-- Old word, asked word and kept word in a row, each the callee's; the write is under the check of PCC.
 use Rattle.system_instructions.specs.System.{csrEffect}
 use borrow.Author.Needs.{needs}
 use Rattle.system_instructions.proofs.csr_effect.Statement.{statement}

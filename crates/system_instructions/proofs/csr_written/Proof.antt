@@ -1,3 +1,4 @@
+-- By the CSR: mstatus keeps its other bits, the marks lose their low ones, the rest are as asked.
 use Rattle.system_instructions.specs.System.{csrWritten}
 use borrow.Author.Needs.{needs}
 use Rattle.system_instructions.proofs.csr_written.Statement.{statement}

@@ -1,3 +1,4 @@
+-- By the register: MTCC and MEPCC are made legal, the other two are as they are.
 use Rattle.system_instructions.specs.System.{scrValue}
 use borrow.Author.Needs.{needs}
 use Rattle.system_instructions.proofs.scr_value.Statement.{statement}

@@ -1,3 +1,4 @@
+-- Old and new value, each made legal for that register; the exchange is under the check of PCC.
 use Rattle.system_instructions.specs.System.{specialEffect}
 use borrow.Author.Needs.{needs}
 use Rattle.system_instructions.proofs.special.Statement.{statement}

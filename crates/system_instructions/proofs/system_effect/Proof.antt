@@ -1,3 +1,4 @@
+-- Seven arms: two go on, two trap, and the accesses are their callees' with the operand read.
 use Rattle.system_instructions.specs.System.{systemEffect}
 use borrow.Author.Needs.{needs}
 use Rattle.system_instructions.proofs.system_effect.Statement.{statement}

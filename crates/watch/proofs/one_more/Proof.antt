@@ -1,3 +1,4 @@
+-- Below the last number one more, at it no more: the one test.
 use borrow.Author.Needs.{needs}
 use borrow.Author.Tests.{lt-ltb, le-ltb}
 use Rattle.watch.specs.Watch.{oneMoreHit}

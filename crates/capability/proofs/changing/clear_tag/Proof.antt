@@ -1,3 +1,4 @@
+-- The same fields with tag 0: both sides are one record.
 use mathlib.Core.Path.{refl}
 use Rattle.capability.specs.Capability.{clearTag}
 use Rattle.capability.proofs.changing.clear_tag.Statement.{statement}

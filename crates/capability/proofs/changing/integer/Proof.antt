@@ -1,3 +1,4 @@
+-- The definition's record, field for field.
 use mathlib.Core.Path.{refl}
 use borrow.Author.Needs.{needs}
 use Rattle.capability.proofs.changing.integer.Statement.{statement}

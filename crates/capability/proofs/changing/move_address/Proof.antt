@@ -1,3 +1,4 @@
+-- The tag is chosen by two tests, unsealed and same bounds; each callee's answer is put in the definition's place.
 use Rattle.capability.specs.Capability.{moveOf}
 use borrow.Author.Needs.{needs}
 use Rattle.capability.proofs.changing.move_address.Statement.{statement}

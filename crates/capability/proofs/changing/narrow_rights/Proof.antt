@@ -1,3 +1,4 @@
+-- The tag is chosen by the seal alone, and the word is the narrowed one.
 use Rattle.capability.specs.Capability.{narrowOf}
 use borrow.Author.Needs.{needs}
 use Rattle.capability.proofs.changing.narrow_rights.Statement.{statement}

@@ -1,3 +1,4 @@
+-- The comparison of the bounds at both addresses, once its low and high ends are unfolded.
 use Rattle.capability.specs.Capability.{sameBounds, low, high}
 use borrow.Author.Needs.{needs}
 use Rattle.capability.proofs.changing.same_bounds.Statement.{statement}

@@ -1,3 +1,4 @@
+-- The tag by the seal and by whether the bounds cover the request; the word by its cut.
 use Rattle.capability.specs.Capability.{setBoundsOf}
 use borrow.Author.Needs.{needs}
 use Rattle.capability.proofs.changing.set_bounds.Statement.{statement}

@@ -1,3 +1,4 @@
+-- As a cut that may round, with one test more: that nothing was rounded.
 use Rattle.capability.specs.Capability.{setBoundsExactOf}
 use borrow.Author.Needs.{needs}
 use Rattle.capability.proofs.changing.set_bounds_exact.Statement.{statement}

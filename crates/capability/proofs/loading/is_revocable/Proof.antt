@@ -1,3 +1,4 @@
+-- Tagged, and none of three rights: the rights are read once, and each test is its callee's.
 use borrow.Author.Needs.{needs}
 use Rattle.capability.specs.Loading.{revocable}
 use Rattle.capability.proofs.loading.is_revocable.Statement.{statement}

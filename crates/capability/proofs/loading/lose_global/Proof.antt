@@ -1,3 +1,4 @@
+-- The test is tagged and no LG; what it does is the law of losing.
 use borrow.Author.Needs.{needs}
 use Rattle.capability.proofs.loading.lose_global.Statement.{statement}
 use Rattle.capability.proofs.loading.lose_global.Tie as tie

@@ -1,3 +1,4 @@
+-- The test is tagged, no LM and not sealed; what it does is the law of losing.
 use borrow.Author.Needs.{needs}
 use Rattle.capability.proofs.loading.lose_mutable.Statement.{statement}
 use Rattle.capability.proofs.loading.lose_mutable.Tie as tie

@@ -1,3 +1,4 @@
+-- The tag is chosen by MC among the authority's rights.
 use borrow.Author.Needs.{needs}
 use Rattle.capability.proofs.loading.lose_tag.Statement.{statement}
 use Rattle.capability.proofs.loading.lose_tag.Tie as tie

@@ -1,3 +1,4 @@
+-- Where the test passes the narrowed word is the definition's; where it fails nothing is lost.
 use borrow.Author.Needs.{needs}
 use Rattle.capability.proofs.loading.loses_if.Statement.{statement}
 use Rattle.capability.proofs.loading.loses_if.Tie as tie

@@ -1,3 +1,4 @@
+-- The decoded region is the definition's low and high; that high fits 33 bits is a law.
 use Rattle.capability.specs.Capability.{low, high}
 use Rattle.bounds.proofs.Limits.{bounds-are, high-lt}
 use borrow.Author.Needs.{needs}

@@ -1,3 +1,4 @@
+-- The region read contains the range.
 use Rattle.capability.specs.Capability.{covers}
 use borrow.Author.Needs.{needs}
 use Rattle.capability.proofs.reading.covers_range.Statement.{statement}

@@ -1,3 +1,4 @@
+-- One bit of the rights as read.
 use borrow.Author.Needs.{needs}
 use Rattle.capability.proofs.reading.has_right.Statement.{statement}
 use Rattle.capability.proofs.reading.has_right.Tie as tie

@@ -1,3 +1,4 @@
+-- The type read from the word is not that of an unsealed one.
 use Rattle.capability.specs.Capability.{sealed}
 use borrow.Author.Needs.{needs}
 use Rattle.capability.proofs.reading.is_sealed.Statement.{statement}

@@ -1,3 +1,4 @@
+-- The definition is the code's own comparison with 1.
 use mathlib.Core.Path.{refl}
 use Rattle.capability.specs.Capability.{tagged}
 use Rattle.capability.proofs.reading.is_tagged.Statement.{statement}

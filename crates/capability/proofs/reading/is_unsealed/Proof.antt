@@ -1,3 +1,4 @@
+-- The type read from the word, compared with 0.
 use borrow.Author.Needs.{needs}
 use Rattle.capability.proofs.reading.is_unsealed.Statement.{statement}
 use Rattle.capability.proofs.reading.is_unsealed.Tie as tie

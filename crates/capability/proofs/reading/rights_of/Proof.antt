@@ -1,3 +1,4 @@
+-- The rights of the metadata word, with their limit.
 use Rattle.capability.specs.Capability.{rights}
 use borrow.Author.Needs.{needs}
 use Rattle.capability.proofs.reading.rights_of.Statement.{statement}

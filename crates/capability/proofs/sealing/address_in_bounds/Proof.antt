@@ -1,3 +1,4 @@
+-- The region read holds the address.
 use Rattle.capability.specs.Sealing.{addressInBounds}
 use borrow.Author.Needs.{needs}
 use Rattle.capability.proofs.sealing.address_in_bounds.Statement.{statement}

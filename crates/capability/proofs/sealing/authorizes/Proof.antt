@@ -1,3 +1,4 @@
+-- Four tests, each its callee's: tag, no seal, the right, its own address in bounds.
 use Rattle.capability.specs.Sealing.{authorizes}
 use borrow.Author.Needs.{needs}
 use Rattle.capability.proofs.sealing.authorizes.Statement.{statement}

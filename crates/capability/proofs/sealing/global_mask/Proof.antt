@@ -1,3 +1,4 @@
+-- One of two masks, chosen by the authority's GL.
 use Rattle.capability.specs.Sealing.{globalMask}
 use borrow.Author.Needs.{needs}
 use Rattle.capability.proofs.sealing.global_mask.Statement.{statement}

@@ -1,3 +1,4 @@
+-- EX, and the type read lies among the sentries'.
 use Rattle.capability.specs.Sealing.{isSentry}
 use borrow.Author.Needs.{needs}
 use Rattle.capability.proofs.sealing.is_sentry.Statement.{statement}

@@ -1,3 +1,4 @@
+-- The three stored bits, and 8 more where it is sealed without EX; either way below 16.
 use Rattle.capability.specs.Sealing.{objectType}
 use borrow.Author.Needs.{needs}
 use Rattle.capability.proofs.sealing.object_type.Statement.{statement}

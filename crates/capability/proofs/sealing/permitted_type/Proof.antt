@@ -1,3 +1,4 @@
+-- By EX: with it two ranges of types, without it one.
 use Rattle.capability.specs.Sealing.{permittedType}
 use borrow.Author.Needs.{needs}
 use Rattle.capability.proofs.sealing.permitted_type.Statement.{statement}

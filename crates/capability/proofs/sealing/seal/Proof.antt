@@ -1,3 +1,4 @@
+-- The tag by three tests: not sealed, an authority by SE, a type permitted; the word gets that type.
 use Rattle.capability.specs.Sealing.{sealOf}
 use borrow.Author.Needs.{needs}
 use Rattle.capability.proofs.sealing.seal.Statement.{statement}

@@ -1,3 +1,4 @@
+-- The tag by three tests: sealed, an authority by US, its address the type; the word is narrowed, then unsealed.
 use Rattle.capability.specs.Sealing.{unsealOf}
 use borrow.Author.Needs.{needs}
 use Rattle.capability.proofs.sealing.unseal.Statement.{statement}

@@ -1,3 +1,4 @@
+-- The word with another type; address and tag are the same.
 use Rattle.capability.specs.Sealing.{withObjectType}
 use borrow.Author.Needs.{needs}
 use Rattle.capability.proofs.sealing.with_object_type.Statement.{statement}

@@ -1,3 +1,4 @@
+-- The record touched; the count of traps stays.
 use borrow.Author.Needs.{needs}
 use Rattle.commit.proofs.Kept.with_store.Statement.{statement}
 use Rattle.commit.proofs.Kept.with_store.Tie as tie

@@ -1,3 +1,4 @@
+-- One trap more by the wrapped sum; the record stays.
 use borrow.Author.Needs.{needs}
 use Rattle.commit.proofs.Kept.with_trap.Statement.{statement}
 use Rattle.commit.proofs.Kept.with_trap.Tie as tie

@@ -1,3 +1,4 @@
+-- Twenty bits sign-extended, then shifted: both callees' promises in a row.
 use Rattle.instructions.specs.Fields.{offsetAui}
 use Rattle.instructions.proofs.fields.aui_offset.Statement.{statement}
 use Rattle.instructions.proofs.fields.aui_offset.Tie as tie

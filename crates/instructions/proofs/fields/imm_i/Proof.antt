@@ -1,3 +1,4 @@
+-- The twelve highest bits, sign-extended.
 use Rattle.instructions.specs.Fields.{immediateI}
 use Rattle.instructions.proofs.fields.imm_i.Statement.{statement}
 use Rattle.instructions.proofs.fields.imm_i.Tie as tie

@@ -1,3 +1,4 @@
+-- The two parts of the field joined, then sign-extended.
 use Rattle.instructions.specs.Fields.{immediateS}
 use borrow.Author.Needs.{needs}
 use Rattle.instructions.proofs.fields.imm_s.Statement.{statement}

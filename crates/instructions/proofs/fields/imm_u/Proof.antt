@@ -1,3 +1,4 @@
+-- Twenty bits put back in their place stay a word; the expression is the definition's.
 use Rattle.instructions.specs.Fields.{immediateU}
 use borrow.Author.Needs.{needs}
 use Rattle.instructions.proofs.fields.imm_u.Statement.{statement}

@@ -1,3 +1,4 @@
+-- The rights read, masked, encoded and put back: three callees in a row.
 use borrow.Author.Needs.{needs}
 use Rattle.metadata.specs.Rights.{narrowWord}
 use Rattle.metadata.proofs.codes.narrow.Statement.{statement}

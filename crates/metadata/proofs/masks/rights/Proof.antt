@@ -1,3 +1,4 @@
+-- The mask of the code read is the table's, since the code is below 64; that it fits twelve bits is a law.
 use mathlib.Core.Path.{_∙_, ap}
 use native.Mathlib.Omega.{arith}
 use borrow.Author.Needs.{needs}

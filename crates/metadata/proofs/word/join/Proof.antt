@@ -1,3 +1,4 @@
+-- Each field in its place: the sum never leaves 32 bits, and it is the definition's.
 use mathlib.Core.Path.{refl}
 use Rattle.metadata.specs.Word.{wordOf}
 use borrow.Author.Needs.{needs}

@@ -1,3 +1,4 @@
+-- The definition's three bits: a remainder by 8 is below 8.
 use mathlib.Core.Path.{refl}
 use native.Mathlib.Omega.{arith}
 use Rattle.metadata.specs.Word.{typeOf}

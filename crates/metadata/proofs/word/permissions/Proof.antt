@@ -1,3 +1,4 @@
+-- The definition's six bits: a remainder by 64 is below 64.
 use mathlib.Core.Path.{refl}
 use native.Mathlib.Omega.{arith}
 use Rattle.metadata.specs.Word.{permissionsOf}

@@ -1,3 +1,4 @@
+-- The definition's four bits of E: a remainder by 16 is below 16.
 use mathlib.Core.Path.{refl}
 use native.Mathlib.Omega.{arith}
 use Rattle.metadata.specs.Word.{scaleOf}

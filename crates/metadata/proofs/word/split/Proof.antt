@@ -1,3 +1,4 @@
+-- All six fields unfolded are the code's own quotients and remainders.
 use mathlib.Core.Path.{refl}
 use Rattle.metadata.specs.Word.{fieldsOf, reservedOf, permissionsOf, typeOf, scaleOf, topOf, baseOf}
 use Rattle.metadata.proofs.word.split.Statement.{statement}

@@ -1,3 +1,4 @@
+-- The definition's nine bits of T: a remainder by 512 is below 512.
 use mathlib.Core.Path.{refl}
 use native.Mathlib.Omega.{arith}
 use Rattle.metadata.specs.Word.{topOf}

@@ -1,3 +1,4 @@
+-- What is above E stays; E, T and B, each cut to its bits, fit below it, so that no sum overflows.
 use mathlib.Core.Path.{refl}
 use Rattle.metadata.specs.Word.{withBounds}
 use borrow.Author.Needs.{needs}

@@ -1,3 +1,4 @@
+-- The bit above and the bits below the code stay; a code below 64 fits between them.
 use mathlib.Core.Path.{refl}
 use Rattle.metadata.specs.Word.{withPermissions}
 use borrow.Author.Needs.{needs}

@@ -1,3 +1,4 @@
+-- The bits above and below the type stay; the type is cut to three bits and fits between them.
 use mathlib.Core.Path.{refl}
 use Rattle.metadata.specs.Word.{withType}
 use borrow.Author.Needs.{needs}

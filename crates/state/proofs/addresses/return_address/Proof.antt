@@ -1,3 +1,4 @@
+-- MEPCC moved down to its alignment, which is the move that makes it legal.
 use Rattle.state.specs.Addresses.{legalized}
 use borrow.Author.Needs.{needs}
 use Rattle.state.proofs.addresses.return_address.Statement.{statement}

@@ -1,3 +1,4 @@
+-- No cause is the effect, any other the trap: the code's one test is the definition's.
 use Rattle.state.specs.Checks.{checked}
 use Rattle.words.proofs.Tests.{tests}
 use borrow.Author.Needs.{needs}

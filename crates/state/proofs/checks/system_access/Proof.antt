@@ -1,3 +1,4 @@
+-- SR among the rights read decides between the cause and none.
 use Rattle.state.specs.Checks.{systemAccess}
 use borrow.Author.Needs.{needs}
 use Rattle.state.proofs.checks.system_access.Statement.{statement}

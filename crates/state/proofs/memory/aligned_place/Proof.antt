@@ -1,3 +1,4 @@
+-- Two comparisons: below the start is outside, and the end compared from there is the end compared from 0.
 use Prim.Native.Nat.{_+_}
 use native.Mathlib.Omega.{arith}
 use borrow.Author.Tests.{le-leb, lt-leb}

@@ -1,3 +1,4 @@
+-- Two words loaded and one bit of the tags.
 use Rattle.state.specs.Memory.{capabilityIn}
 use borrow.Author.Needs.{needs}
 use Rattle.state.proofs.memory.capability_in.Statement.{statement}

@@ -1,3 +1,4 @@
+-- The bit compared with 1 is the definition's test.
 use Rattle.words.proofs.Tests.{tests}
 use Rattle.state.proofs.memory.mark_of.Statement.{statement}
 use Rattle.state.proofs.memory.mark_of.Tie as tie

@@ -1,3 +1,4 @@
+-- The remainder decides: 0 leaves where aligned bytes lie, else misaligned.
 use borrow.Author.Tests.{eq-eqb, ne-eqb}
 use Rattle.state.specs.Memory.{placeOf}
 use borrow.Author.Needs.{needs}

@@ -1,3 +1,4 @@
+-- By the width: 0 leaves the number, 1 nothing; 2, 4 and 8 are the same remainder written out.
 use native.Mathlib.Omega.{arith}
 use native.Mathlib.Nat.{mod-zero}
 use borrow.Author.Needs.{needs}

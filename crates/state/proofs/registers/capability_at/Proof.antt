@@ -1,3 +1,4 @@
+-- Inside the file three plain reads are the definition's; else three reads with a default.
 use mathlib.Core.Path.{refl}
 use Rattle.state.specs.Registers.{capabilityAt}
 use borrow.Author.Needs.{needs}

@@ -1,3 +1,4 @@
+-- The word read at the CSR's place.
 use borrow.Author.Needs.{needs}
 use Rattle.state.proofs.registers.csr_at.Statement.{statement}
 use Rattle.state.proofs.registers.csr_at.Tie as tie

@@ -1,3 +1,4 @@
+-- The word read at the register's address word.
 use Rattle.state.specs.Registers.{integerAt}
 use borrow.Author.Needs.{needs}
 use Rattle.state.proofs.registers.integer_at.Statement.{statement}

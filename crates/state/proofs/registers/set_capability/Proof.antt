@@ -1,3 +1,4 @@
+-- Inside the file three plain writes, none of which changes its length; else three writes that may fall outside.
 use mathlib.Core.Path.{refl}
 use lib.ListN.{length-set}
 use native.Mathlib.Omega.{arith}

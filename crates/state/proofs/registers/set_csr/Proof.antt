@@ -1,3 +1,4 @@
+-- The word put at the CSR's place.
 use borrow.Author.Needs.{needs}
 use Rattle.state.proofs.registers.set_csr.Statement.{statement}
 use Rattle.state.proofs.registers.set_csr.Tie as tie

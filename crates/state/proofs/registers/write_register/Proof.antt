@@ -1,3 +1,4 @@
+-- Register 0 is not written; any other is set.
 use borrow.Author.Tests.{eq-eqb, ne-eqb}
 use Rattle.state.specs.Registers.{writeRegister}
 use borrow.Author.Needs.{needs}

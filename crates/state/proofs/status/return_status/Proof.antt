@@ -1,3 +1,4 @@
+-- MIE from MPIE as read, then MPIE set: two bits one after the other.
 use Rattle.state.specs.Status.{returnStatus}
 use borrow.Author.Needs.{needs}
 use Rattle.state.proofs.status.return_status.Statement.{statement}

@@ -1,3 +1,4 @@
+-- MPIE from MIE as read, then MIE cleared: two bits one after the other.
 use Rattle.state.specs.Status.{trapStatus}
 use borrow.Author.Needs.{needs}
 use Rattle.state.proofs.status.trap_status.Statement.{statement}

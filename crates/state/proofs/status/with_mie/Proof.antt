@@ -1,3 +1,4 @@
+-- A bit replaced is the parts above and below it with the new bit between: law `withBit-is` at MIE.
 use Rattle.words.proofs.Bits.{withBit-is}
 use Rattle.state.specs.Status.{MIE}
 use native.Mathlib.Omega.{arith}

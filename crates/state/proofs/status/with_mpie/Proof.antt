@@ -1,3 +1,4 @@
+-- Law `withBit-is` at MPIE: the parts above and below stay, with the new bit between them.
 use Rattle.words.proofs.Bits.{withBit-is}
 use Rattle.state.specs.Status.{MPIE}
 use native.Mathlib.Omega.{arith}

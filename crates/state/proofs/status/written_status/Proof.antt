@@ -1,3 +1,4 @@
+-- Both bits of the word asked for are read and put in place of the old ones.
 use Rattle.state.specs.Status.{writtenStatus}
 use borrow.Author.Needs.{needs}
 use Rattle.state.proofs.status.written_status.Statement.{statement}

@@ -1,3 +1,4 @@
+-- Four comparisons joined: both lengths not 0, and each start before the other's end, with no sum cut off.
 use borrow.Author.Needs.{needs}
 use Rattle.watch.specs.Watch.{hits}
 use Rattle.watch.proofs.Range.is_hit.Statement.{statement}

@@ -1,3 +1,4 @@
+-- Inside, the byte is read; in either test that fails the place is past the end, where a list gives its default.
 use Prim.Native.Nat.{_+_}
 use mathlib.Core.Path.{sym}
 use lib.ListN.{List·getD-eq-default}

@@ -1,3 +1,4 @@
+-- The signed test made by the callee: 1 where it passed, 0 where it failed.
 use Rattle.words.specs.Words.{sltOf}
 use borrow.Author.Needs.{needs}
 use Rattle.words.proofs.integers.slt.Statement.{statement}

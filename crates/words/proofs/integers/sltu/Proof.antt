@@ -1,3 +1,4 @@
+-- The unsigned comparison is the definition's own: 1 or 0 by the branch.
 use Rattle.words.specs.Words.{sltuOf}
 use Rattle.words.proofs.Tests.{tests}
 use Rattle.words.proofs.integers.sltu.Statement.{statement}
