@@ -108,7 +108,7 @@ uint64_t oddersnow_run_watched(uint32_t *regs, size_t regs_len, uint32_t start,
                                uint32_t start1, uint32_t length1, uint32_t *count1,
                                uint32_t start2, uint32_t length2, uint32_t *count2);
 
-/* The same run by the second engine, which decodes straight code once and keeps it until a store touches it: for every start and every
+/* The same run by the second engine, which decodes straight code once and keeps it while it can: for every start and every
  * number of steps it answers as oddersnow_run_watched does and leaves the same registers, memory, tags and counts, also where code changes
  * itself. Long runs take less time; nothing is kept from one call to the next. It needs less than 64 KiB of stack.
  */
