@@ -3,8 +3,10 @@
 # unpacked, with neither the kit nor cargo on the path. The proved libraries are built by rt, or lie in the directory that ODDERSNOW_STATICLIB names.
 set -u
 source "$(dirname "$0")/lib/check.sh"
+source "$root/tests/lib/tutorial.sh"
 triplet=$(gcc -dumpmachine)
 own=usr/share/doc/oddersnow-bench
+shared=usr/share/oddersnow-bench
 
 tools() { need groff groff-base && need pkg-config pkg-config && need dpkg-shlibdeps dpkg-dev; }
 built() { packaging/deb "$work/first" >"$work/path" && package=$(cat "$work/path") && dpkg-deb -x "$package" "$work/there"; }
@@ -17,15 +19,24 @@ expected_files() {
   printf '/usr/share/%s\n' bash-completion/completions/bench zsh/vendor-completions/_bench fish/vendor_completions.d/bench.fish
   printf '/usr/include/oddersnow.h\n/usr/lib/%s/pkgconfig/oddersnow.pc\n' "$triplet"
   printf "/usr/lib/$triplet/oddersnow/lib%s.a\n" label call_lists bench_api sheet_api listing_api
-  printf "/$own/%s\n" README.Debian copyright crates-copyright.gz changelog.gz
-  printf "/$own/%s.md\n" GUARANTEE TUTORIAL AUTHORITY DEBUGGER LISTING STATE
-  git ls-files examples | sed "s,^,/$own/,"
+  printf "/$own/%s\n" README.Debian copyright crates-copyright.gz changelog.gz examples
+  printf "/$own/%s.md\n" GUARANTEE TUTORIAL AUTHORITY DEBUGGER LISTING STATE TESTING PROMISES DECISIONS
+  git ls-files examples | sed "s,^,/$shared/,"
 }
 files_are_expected() {
   expected_files | sort >"$work/expected"
   (cd "$work/there" && find . ! -type d -printf '/%P\n') | sort | diff "$work/expected" -
 }
 sums_are_true() { dpkg-deb -e "$package" "$work/control" && (cd "$work/there" && md5sum -c --quiet "$work/control/md5sums"); }
+
+# Where a link of one of its pages leads, there is a file of the package.
+links_lead() {
+  local page link
+  grep -ro --include='*.md' ']([^)#]*' "$work/there/$own" "$work/there/$shared" | grep -v :// >"$work/links" || return 1
+  while IFS=: read -r page link; do
+    [ -e "${page%/*}/${link#*(}" ] || { echo "$page has a link to ${link#*(}"; return 1; }
+  done <"$work/links"
+}
 
 # Each shared library that the programs ask for is of a package that this one depends on.
 depends_suffice() {
@@ -44,11 +55,12 @@ without_kit() { # COMMAND..
   local tool
   if [ ! -d "$work/tools" ]; then
     mkdir "$work/tools"
-    for tool in bash env cat sed dirname gcc as ld pkg-config; do ln -s "$(command -v "$tool")" "$work/tools"; done
+    for tool in bash env cat sed head dirname gcc as ld pkg-config; do ln -s "$(command -v "$tool")" "$work/tools"; done
   fi
   env -i HOME="$work" LC_ALL=C.UTF-8 PATH="$work/there/usr/bin:$work/tools" PKG_CONFIG_SYSROOT_DIR="$work/there" \
     PKG_CONFIG_PATH="$work/there/usr/lib/$triplet/pkgconfig" "$@"
 }
+# By the link beside the pages; the others take the examples from where they lie.
 demonstration() {
   without_kit bash -c '! command -v rt && ! command -v cargo' &&
     without_kit "$work/there/$own/examples/demo.sh" >"$work/demo" &&
@@ -57,14 +69,19 @@ demonstration() {
 
 # The commands of README.Debian, which are its indented lines, in a folder of one's own; the copy of the examples is from the unpacked folder.
 as_the_readme_says() {
-  sed -n 's/^    //p' packaging/README.Debian | sed "s,/usr/share/doc,$work/there&," >"$work/lines"
+  sed -n 's/^    //p' packaging/README.Debian | sed "s,/usr/share,$work/there&," >"$work/lines"
   ln -s "$(command -v cp)" "$work/tools"
   mkdir "$work/own" && (cd "$work/own" && without_kit bash -eu "$work/lines") >"$work/said" &&
     tail -n 2 "$work/said" | diff - <(printf 'cut\tlow\thigh\texact\n1\t20000000\t020000202\tno\n')
 }
+tutorial() {
+  local part
+  mkdir "$work/ten" && cp -r "$work/there/$shared/examples" "$work/ten" && split_tutorial || return 1
+  for part in "${tutorial_parts[@]}"; do as_shown "$part" "$work/ten" without_kit || return 1; done
+}
 c_programs() {
   local source
-  for source in "$work/there/$own"/examples/*.c; do
+  for source in "$work/there/$shared"/examples/*.c; do
     without_kit gcc -std=c11 -O2 -Wall -Wextra -Werror "$source" -I"$work/there/usr/include" "$work/there/usr/lib/$triplet/oddersnow"/*.a -o "$work/c" &&
       printf '20000001\t00000200\nffffffff\t00000002\n' >"$work/requests" &&
       cmp <("$work/c" <"$work/requests") <(without_kit oddersnow-cut <"$work/requests") || return 1
@@ -92,9 +109,11 @@ check "the package is built" built || exit 1
 check "the package built again has the same bytes" same_twice
 check "the package has the files that it should have" files_are_expected
 check "the package's sums are its files'" sums_are_true
+check "the links of the package's pages lead to files of it" links_lead
 check "the package depends on what its programs need" depends_suffice
 check "the demonstration runs from the package, without the kit" demonstration
 check "what the package's own page shows works" as_the_readme_says
+check "the tutorial's commands print what it shows, without the kit" tutorial
 check "C programs build by the package's header and libraries" c_programs
 check "bash completes every command and option" completes bash bash-completion/completions/bench
 check "zsh completes every command and option" completes zsh zsh/vendor-completions/_bench

@@ -3,26 +3,13 @@
 # lie in the directory that ODDERSNOW_STATICLIB names.
 set -u
 source "$(dirname "$0")/lib/check.sh"
+source "$root/tests/lib/tutorial.sh"
 
-# The lines in blocks, with the heading above each.
 mkdir "$work/bin" "$work/own" && ln -s "$root/bench" "$work/bin" && cp -r examples "$work/own"
-awk -v out="$work/part" '
-  /^## / { part++; print substr($0, 4) >(out part ".name") }
-  /^```$/ { inside = !inside; next }
-  inside { print >(out part) }' docs/TUTORIAL.md
-
-# Runs each line after a dollar sign, and holds what is printed to the lines below it.
-as_shown() { # FILE
-  local line
-  while IFS= read -r line; do
-    printf '%s\n' "$line"
-    (cd "$work/own" && PATH="$work/bin:$PATH" bash -c "${line#??}" 2>&1)
-  done < <(grep '^\$ ' "$1") >"$1.out"
-  [ -s "$1.out" ] && diff "$1" "$1.out"
-}
+split_tutorial
 
 check "bench builds" ./bench --version || exit 1
-for part in 1 2 3 4 5 6; do
-  check "tutorial $(cat "$work/part$part.name")" as_shown "$work/part$part"
+for part in "${tutorial_parts[@]}"; do
+  check "tutorial $(cat "$work/part$part.name")" as_shown "$part" "$work/own" env PATH="$work/bin:$PATH"
 done
 exit $bad
