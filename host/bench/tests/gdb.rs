@@ -2,9 +2,10 @@
 
 mod common;
 
-use common::state::{text, with_code};
+use common::state::{text, with_code, START};
 use common::words::{addi, EBREAK};
 use common::{bench_in, directory, examples};
+use lent::{Capability, State, EXECUTABLE_ROOT, MTCC};
 use std::io::{BufRead, BufReader, ErrorKind, Read, Write};
 use std::net::TcpStream;
 use std::path::Path;
@@ -43,8 +44,12 @@ impl Bench {
     }
 
     fn of_code(name: &str, code: &[u32]) -> Bench {
+        Bench::of_state(name, &with_code(code))
+    }
+
+    fn of_state(name: &str, state: &State) -> Bench {
         let folder = directory(name);
-        std::fs::write(folder.join("state"), text(&with_code(code))).expect("a state");
+        std::fs::write(folder.join("state"), text(state)).expect("a state");
         Bench::start(&folder, &["--state", "state"])
     }
 
@@ -118,6 +123,15 @@ impl Client {
         self.send(payload);
         self.answer().expect("an answer")
     }
+
+    /// The next stop, after what is said on the console before it.
+    fn stop(&mut self) -> String {
+        let mut stop = self.answer().expect("a stop");
+        while stop.starts_with('O') {
+            stop = self.answer().expect("a stop");
+        }
+        stop
+    }
 }
 
 #[test]
@@ -128,7 +142,7 @@ fn a_client_that_leaves_or_goes_away_leaves_the_machine() {
     assert_eq!(first.ask("Z0,20000004,4"), "OK");
     assert_eq!(first.ask("D"), "OK");
     assert_eq!(first.answer(), None);
-    // In the middle of a packet, and of a run.
+    // In the middle of a packet, and between packets.
     for bytes in [&b"$m2000"[..], b"$m20000000,4#", b"$s", b"+", b""] {
         let mut client = bench.client();
         client.0.write_all(bytes).expect("written");
@@ -137,10 +151,8 @@ fn a_client_that_leaves_or_goes_away_leaves_the_machine() {
     assert_eq!(last.ask("pa"), "01000000");
     assert_eq!(last.ask("p20"), "04000020");
     // The first one's breakpoint is gone with it: the machine goes on to the trap.
-    let mut stop = last.ask("c");
-    while stop.starts_with('O') {
-        stop = last.answer().expect("a stop");
-    }
+    last.send("c");
+    let stop = last.stop();
     assert!(stop.starts_with("T0520:08000020;"), "{stop}");
     last.send("k");
     let (status, text) = bench.end();
@@ -180,17 +192,33 @@ fn a_run_without_an_end_is_interrupted_soon() {
         std::thread::sleep(Duration::from_millis(300));
         let began = Instant::now();
         client.0.write_all(b"\x03").expect("written");
-        let mut stop = client.answer().expect("a stop");
-        while stop.starts_with('O') {
-            stop = client.answer().expect("a stop");
-        }
+        let stop = client.stop();
         assert!(stop.starts_with("T02"), "{stop}");
         assert!(began.elapsed() < Duration::from_secs(3), "{setting}");
     }
-    // A client that goes away while the machine runs stops it.
+}
+
+#[test]
+fn a_client_that_is_lost_in_a_run_stops_it_where_it_is() {
+    // A trap whose handler is a long loop.
+    let mut state = with_code(&[EBREAK, addi(10, 10, 1), AGAIN, JUMP_TO_ITSELF]);
+    state.set(MTCC, Capability::tagged(START + 4, EXECUTABLE_ROOT));
+    state.set(11, Capability::integer(u32::MAX));
+    let bench = Bench::of_state("gdb_lost", &state);
+    let mut client = bench.client();
     client.send("c");
+    assert!(client.stop().starts_with("T0520:00000020;"));
+    client.send("c");
+    std::thread::sleep(Duration::from_millis(100));
     drop(client);
-    assert!(bench.client().ask("?").starts_with("T0"));
+    let mut next = bench.client();
+    let (stop, at) = (next.ask("?"), next.ask("p20"));
+    assert!(["04000020", "08000020"].contains(&at.as_str()), "{at}");
+    assert!(stop.starts_with(&format!("T0220:{at};")), "{stop}");
+    let counted = next.ask("pa");
+    assert_ne!(counted, "00000000");
+    std::thread::sleep(Duration::from_millis(100));
+    assert_eq!(next.ask("pa"), counted);
 }
 
 #[test]

@@ -89,8 +89,11 @@ impl Target {
         self.stop = Stop::Step;
     }
 
-    /// Forgets what a client has set, and keeps the machine.
+    /// Forgets what a client has set, with a stop that was for it, and keeps the machine.
     pub fn leave(&mut self) {
+        if matches!(self.stop, Stop::Break | Stop::Watch(_)) {
+            self.stop = Stop::Step;
+        }
         self.stops.breaks.clear();
         self.watched.clear();
         self.watch();
@@ -114,9 +117,8 @@ impl Target {
             false => self.advance(go),
         };
         self.begins = false;
-        if let Some(stop) = &stop {
-            self.stop = stop.clone();
-        }
+        // The last stop is over, also if the client is lost before the next one.
+        self.stop = stop.clone().unwrap_or(Stop::Interrupted);
         stop
     }
 

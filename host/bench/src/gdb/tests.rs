@@ -1,6 +1,7 @@
 //! Sessions in memory: what a client is answered, and packets that no client sends.
 
 mod fuzz;
+mod lost;
 mod unsound;
 
 use super::packet::{bytes, digits, framed, Event, Framer};
