@@ -3,6 +3,7 @@
 
 mod common;
 
+use common::elf::{elf, Header, EXEC, RISCV};
 use common::words::{addi, EBREAK};
 use common::{bench_in, directory, golden, shell_in, Answer};
 use serde_json::Value;
@@ -13,42 +14,6 @@ fn code() -> Vec<u8> {
     let words = [addi(10, 0, 42), EBREAK];
     words.iter().flat_map(|word| word.to_le_bytes()).collect()
 }
-
-/// One program header: address, bytes in the file from an offset on, bytes in memory.
-struct Header {
-    address: u32,
-    offset: u32,
-    in_file: u32,
-    in_memory: u32,
-}
-
-/// An ELF file of a class (1 is 32 bits), a type, a machine, headers and then data.
-fn elf(class: u8, kind: u16, machine: u16, headers: &[Header], data: &[u8]) -> Vec<u8> {
-    let mut bytes = vec![
-        0x7F, b'E', b'L', b'F', class, 1, 1, 0, 0, 0, 0, 0, 0, 0, 0, 0,
-    ];
-    let entry = headers.first().map_or(0, |header| header.address);
-    bytes.extend([kind, machine].iter().flat_map(|half| half.to_le_bytes()));
-    let words = [1, entry, 52, 0, 0];
-    bytes.extend(words.iter().flat_map(|word| word.to_le_bytes()));
-    let halves = [52, 32, headers.len() as u16, 40, 0, 0];
-    bytes.extend(halves.iter().flat_map(|half| half.to_le_bytes()));
-    for header in headers {
-        let Header {
-            address,
-            offset,
-            in_file,
-            in_memory,
-        } = *header;
-        let words = [1, offset, address, address, in_file, in_memory, 7, 4];
-        bytes.extend(words.iter().flat_map(|word| word.to_le_bytes()));
-    }
-    bytes.extend(data);
-    bytes
-}
-
-const EXEC: u16 = 2;
-const RISCV: u16 = 243;
 
 /// The program's ELF file, its code at an address.
 fn program(address: u32) -> Vec<u8> {

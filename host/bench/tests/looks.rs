@@ -2,7 +2,8 @@
 
 mod common;
 
-use common::state::{text, with_code, with_code_and_value, LOAD_IT};
+use common::elf::{self, Symbol};
+use common::state::{text, with_code, with_code_and_value, LOAD_IT, START};
 use common::words::{addi, EBREAK};
 use common::{bench_in, directory, examples, golden, SMALL};
 use serde_json::json;
@@ -79,6 +80,45 @@ fn a_run_goes_on_from_a_breakpoint_to_the_next_and_leaves_what_one_run_leaves() 
     assert_eq!((value["end"].as_str(), retired), (Some("trap"), 364));
     let whole = small(&["--json"]).json();
     assert_eq!(value["state"], whole["state"]);
+}
+
+/// A symbol of the image's section, so far into it.
+fn symbol(name: &str, place: u32, size: u32) -> Symbol<'_> {
+    Symbol {
+        name,
+        address: START + place,
+        size,
+        section: 1,
+    }
+}
+
+#[test]
+fn a_breakpoint_stands_at_a_symbol() {
+    let folder = directory("break_at_symbol");
+    let count = addi(10, 10, 1);
+    let asked_for = Symbol {
+        section: 0,
+        ..symbol("elsewhere", 8, 4)
+    };
+    let symbols = [symbol("work", 4, 12), symbol("inside", 8, 0), asked_for];
+    let image = elf::program(START, &[count, count, count, EBREAK], &symbols);
+    std::fs::write(folder.join("image"), image).expect("an image");
+    for (name, told) in [
+        (
+            "work",
+            "1 step retired, 0 trapped. Stopped before the step at 20000004.\n",
+        ),
+        (
+            "inside",
+            "2 steps retired, 0 trapped. Stopped before the step at 20000008.\n",
+        ),
+    ] {
+        let answer = bench_in(&folder, &["run", "image", "--break", name]);
+        assert_eq!((answer.status, answer.err.as_str()), (0, ""), "{name}");
+        assert!(answer.out.starts_with(told), "{}", answer.out);
+    }
+    let refused = bench_in(&folder, &["run", "image", "--break", "elsewhere"]);
+    assert_eq!((refused.status, refused.out.as_str()), (3, ""));
 }
 
 #[test]
