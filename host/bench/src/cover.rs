@@ -10,6 +10,7 @@ use crate::proved::instruction;
 use lent::{instruction_bytes, State};
 use serde_json::{json, Value};
 use std::fmt::Write;
+use std::ops::Range;
 
 /// The bytes from one place of a word to the next.
 const HALF: usize = 2;
@@ -67,21 +68,41 @@ impl Cover {
         bytes
     }
 
+    /// The places in memory of the addresses [from, to), as far as memory reaches: a symbol may say that it is longer.
+    fn places(&self, from: u64, to: u64) -> Range<usize> {
+        let start = u64::from(self.start);
+        let end = start + (HALF * self.words.len()) as u64;
+        let place = |address: u64| (address.clamp(start, end) - start) as usize;
+        place(from)..place(to)
+    }
+
+    /// For each byte of memory whether the image has one for it.
+    fn image(&self, segments: &[Segment]) -> Vec<bool> {
+        let mut bytes = vec![false; HALF * self.words.len() + HALF];
+        for segment in segments {
+            let from = u64::from(segment.address);
+            let places = self.places(from, from + segment.bytes.len() as u64);
+            bytes[places].fill(true);
+        }
+        bytes
+    }
+
     /// The image's segments, then the named stretches that hold some of it.
     pub fn rows(&self, segments: &[Segment], names: &Names) -> Vec<Row> {
-        let bytes = self.bytes();
+        let bytes: Vec<(bool, bool)> = self.image(segments).into_iter().zip(self.bytes()).collect();
         let whole = segments.iter().map(|segment| {
             let length = segment.bytes.len() as u64;
             Name::new(segment.origin.as_bytes(), segment.address, length)
         });
         let stretches: Vec<Name> = whole.chain(names.0.iter().cloned()).collect();
         let rows = stretches.iter();
-        rows.map(|stretch| self.row(stretch, segments, &bytes))
+        rows.map(|stretch| self.row(stretch, &bytes))
             .filter(|row| row.bytes > 0)
             .collect()
     }
 
-    fn row(&self, stretch: &Name, segments: &[Segment], executed: &[bool]) -> Row {
+    /// A stretch, by whether the image has each byte of memory and whether that was executed.
+    fn row(&self, stretch: &Name, bytes: &[(bool, bool)]) -> Row {
         let (from, to) = (
             u64::from(stretch.start),
             u64::from(stretch.start) + stretch.length,
@@ -94,21 +115,19 @@ impl Cover {
             executed: 0,
             missed: Vec::new(),
         };
-        let start = u64::from(self.start);
-        for address in (from..to).filter(|address| in_image(*address, segments)) {
-            let place = address.checked_sub(start).map(|place| place as usize);
-            let done = place.and_then(|place| executed.get(place));
-            row.count(address, done.copied().unwrap_or(false));
+        for place in self.places(from, to) {
+            if let (true, executed) = bytes[place] {
+                row.count(u64::from(self.start) + place as u64, executed);
+            }
         }
         row
     }
 
     /// The bytes that were executed outside the image: what the program made itself.
     pub fn outside(&self, segments: &[Segment]) -> u64 {
-        let start = u64::from(self.start);
-        let bytes = self.bytes().into_iter().enumerate();
-        let made = bytes.filter(|(_, executed)| *executed);
-        made.filter(|(place, _)| !in_image(start + *place as u64, segments))
+        let bytes = self.bytes().into_iter().zip(self.image(segments));
+        bytes
+            .filter(|(executed, image)| *executed && !image)
             .count() as u64
     }
 
@@ -175,12 +194,4 @@ impl Row {
             _ => self.missed.push((address, address + 1)),
         }
     }
-}
-
-/// Whether the file has a byte for an address.
-fn in_image(address: u64, segments: &[Segment]) -> bool {
-    segments.iter().any(|segment| {
-        let place = address.checked_sub(segment.address.into());
-        place.is_some_and(|place| place < segment.bytes.len() as u64)
-    })
 }

@@ -7,6 +7,7 @@ use common::state::{text, with_code, with_code_and_value, LOAD_IT, START};
 use common::words::{addi, EBREAK};
 use common::{bench_in, directory, examples, golden, SMALL};
 use serde_json::json;
+use std::time::{Duration, Instant};
 
 fn small(further: &[&str]) -> common::Answer {
     bench_in(&examples(), &[&SMALL[..], further].concat())
@@ -119,6 +120,21 @@ fn a_breakpoint_stands_at_a_symbol() {
     }
     let refused = bench_in(&folder, &["run", "image", "--break", "elsewhere"]);
     assert_eq!((refused.status, refused.out.as_str()), (3, ""));
+}
+
+/// Addresses are walked as far as there is memory: symbols that say they are longer cost no more.
+#[test]
+fn symbols_of_4_gigabytes_are_covered_at_once() {
+    let folder = directory("cover_huge");
+    let names: Vec<String> = (0..3).map(|number| format!("huge{number}")).collect();
+    let symbols: Vec<Symbol> = names.iter().map(|name| symbol(name, 0, u32::MAX)).collect();
+    let image = elf::program(START, &[addi(10, 10, 1), EBREAK], &symbols);
+    std::fs::write(folder.join("image"), image).expect("an image");
+    let began = Instant::now();
+    let answer = bench_in(&folder, &["run", "image", "--cover"]);
+    assert!(began.elapsed() < Duration::from_secs(5), "{}", answer.out);
+    let row = "       4 of       8   50%  [20000000, 11fffffff)  huge2, first not at 20000004\n";
+    assert!(answer.out.ends_with(row), "{}", answer.out);
 }
 
 #[test]

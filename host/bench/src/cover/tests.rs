@@ -29,7 +29,9 @@ fn bytes_are_counted_by_segment_and_by_name() {
     let names = Names(vec![
         Name::new(b"first", START, 4),
         Name::new(b"elsewhere", START + 20, 4),
-        Name::new(b"whole", 0, 1 << 30),
+        Name::new(b"whole", 0, 1 << 32),
+        Name::new(b"below", 0, u64::from(START)),
+        Name::new(b"across", START + 10, u32::MAX.into()),
     ]);
     let rows = cover.rows(&segments, &names);
     let told: Vec<(&str, u64, u64)> = rows
@@ -41,6 +43,7 @@ fn bytes_are_counted_by_segment_and_by_name() {
         ("part", 0, 2),
         ("first", 2, 4),
         ("whole", 8, 14),
+        ("across", 2, 4),
     ];
     assert_eq!(told, wanted);
     let base = u64::from(START);
