@@ -235,7 +235,7 @@ impl Session<'_> {
             if let Err(reason) = self.target.move_to(address) {
                 return self.send(&refused(&reason));
             }
-            self.new_start();
+            self.wrote("pc was written");
         }
         self.target.begin();
         self.going = Some(go);
@@ -347,19 +347,15 @@ impl Session<'_> {
         })
     }
 
-    /// Says what was written, and what that means for the theorem that no run gains authority.
+    /// Says what was written, and what that means for the theorem that no run gains authority; the answer for it.
     fn wrote(&mut self, what: &str) -> Vec<u8> {
         self.notes.push(format!("By the debugger, {what}.\n"));
-        self.new_start();
-        OK.to_vec()
-    }
-
-    fn new_start(&mut self) {
         let said =
             "What is held now is a new start: that no run gains authority holds from here on.\n";
         if !self.untold.contains(said) {
             self.note(said);
         }
+        OK.to_vec()
     }
 
     /// Sets or removes a breakpoint or a watched range.

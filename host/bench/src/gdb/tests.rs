@@ -329,6 +329,26 @@ fn refused_registers_change_nothing() {
 }
 
 #[test]
+fn going_on_from_an_address_is_told_as_a_write_of_pc() {
+    let noted = |packets: &[&str]| {
+        let mut target = machine(5);
+        let mut session = Session::new(&mut target);
+        for packet in packets {
+            answers(&mut session, packet.as_bytes());
+        }
+        let said = session.notes.concat();
+        (said, target.state().clone(), target.written)
+    };
+    let written = noted(&["P20=04000020", "s"]);
+    let told = "By the debugger, pc was written.\nWhat is held now is a new start: ";
+    assert!(written.0.starts_with(told), "{}", written.0);
+    assert_eq!(noted(&["s20000004"]), written);
+    assert_eq!(noted(&["S05;20000004"]), written);
+    let trap = noted(&["P20=0c000020", "c"]);
+    assert_eq!(noted(&["c2000000c"]), trap);
+}
+
+#[test]
 fn steps_breakpoints_and_watched_ranges_stop_where_they_are() {
     let mut target = machine(5);
     let mut session = Session::new(&mut target);
@@ -362,7 +382,10 @@ fn steps_breakpoints_and_watched_ranges_stop_where_they_are() {
         "{said}"
     );
     assert_eq!(session.target.counts.retired, 15);
+    // A range of no bytes is taken, one of all addresses is not.
+    assert_eq!(answer(&mut session, "Z2,20000030,0"), "OK");
     for bad in [
+        "Z2,0,100000000",
         "Z0",
         "Z0,",
         "Z0,x,4",
