@@ -154,7 +154,9 @@ pub fn load(state: &mut State, segments: &[Segment]) -> Result<(), String> {
     }
     no_overlap(segments)?;
     for segment in segments {
-        put(state, segment);
+        let zeros = vec![0; segment.zeros as usize];
+        let bytes = [&segment.bytes[..], &zeros].concat();
+        put(state, segment.address, &bytes);
     }
     Ok(())
 }
@@ -177,11 +179,12 @@ fn no_overlap(segments: &[Segment]) -> Result<(), String> {
     Ok(())
 }
 
-fn put(state: &mut State, segment: &Segment) {
-    let zeros = vec![0; segment.zeros as usize];
-    state.write(segment.address, &[&segment.bytes[..], &zeros].concat());
-    let first = u64::from(segment.address) & !(GRANULE as u64 - 1);
-    for granule in (first..segment.end()).step_by(GRANULE) {
+/// Writes memory otherwise than by a step: the granules that are touched lose their tags.
+pub fn put(state: &mut State, address: u32, bytes: &[u8]) {
+    state.write(address, bytes);
+    let end = u64::from(address) + bytes.len() as u64;
+    let first = u64::from(address) & !(GRANULE as u64 - 1);
+    for granule in (first..end).step_by(GRANULE) {
         state.set_tag(granule as u32, false);
     }
 }

@@ -4,12 +4,13 @@ use super::registers::{self, Part};
 use super::stop::{Signal, Stop};
 use crate::course::Course;
 use crate::halt::{by_calls, by_steps, Halt, Pace, Stops};
+use crate::image;
 use crate::names::Names;
 use crate::proved::{Counts, MOST_STEPS};
 use crate::report;
 use crate::stack::Stack;
 use crate::trap::Trap;
-use lent::{Range, State, Watch, GRANULE, MCAUSE, PCC};
+use lent::{Range, State, Watch, MCAUSE, PCC};
 use std::collections::BTreeSet;
 
 /// The most steps one by one before the client is listened to again.
@@ -213,13 +214,7 @@ impl Target {
         if let Err(refusal) = self.course.may_start() {
             return Err(Unwritten::Refused(report::refused(refusal, self.state())));
         }
-        let end = u64::from(address) + bytes.len() as u64;
-        let first = u64::from(address) & !(GRANULE as u64 - 1);
-        let state = self.change();
-        state.write(address, bytes);
-        for granule in (first..end).step_by(GRANULE) {
-            state.set_tag(granule as u32, false);
-        }
+        image::put(self.change(), address, bytes);
         Ok(())
     }
 
