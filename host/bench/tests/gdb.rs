@@ -184,10 +184,11 @@ fn a_second_client_is_told_so_and_the_first_goes_on() {
 fn a_run_without_an_end_is_interrupted_soon() {
     let bench = Bench::of_code("gdb_interrupt", &[addi(10, 10, 1), AGAIN, JUMP_TO_ITSELF]);
     let mut client = bench.client();
-    // c11 is -1, so that the loop is a long one; then with a breakpoint that is never met.
+    // c11 is -1, so that the loop is a long one; then with a breakpoint, and with a watched range alone, that is never met.
     assert_eq!(client.ask("Pb=ffffffff"), "OK");
-    for setting in ["qC", "Z0,20000040,4", "Z2,20000040,4"] {
-        client.ask(setting);
+    for setting in ["z0,20000040,4", "Z0,20000040,4", "Z2,20000040,4"] {
+        assert_eq!(client.ask("z0,20000040,4"), "OK");
+        assert_eq!(client.ask(setting), "OK");
         client.send("c");
         std::thread::sleep(Duration::from_millis(300));
         let began = Instant::now();
