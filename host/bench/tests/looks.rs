@@ -5,9 +5,8 @@ mod common;
 use common::elf::{self, Symbol};
 use common::state::{text, with_code, with_code_and_value, LOAD_IT, START};
 use common::words::{addi, EBREAK};
-use common::{bench_in, directory, examples, golden, SMALL};
+use common::{bench_in, directory, examples, golden, shell_in, SMALL};
 use serde_json::json;
-use std::time::{Duration, Instant};
 
 fn small(further: &[&str]) -> common::Answer {
     bench_in(&examples(), &[&SMALL[..], further].concat())
@@ -130,9 +129,8 @@ fn symbols_of_4_gigabytes_are_covered_at_once() {
     let symbols: Vec<Symbol> = names.iter().map(|name| symbol(name, 0, u32::MAX)).collect();
     let image = elf::program(START, &[addi(10, 10, 1), EBREAK], &symbols);
     std::fs::write(folder.join("image"), image).expect("an image");
-    let began = Instant::now();
-    let answer = bench_in(&folder, &["run", "image", "--cover"]);
-    assert!(began.elapsed() < Duration::from_secs(5), "{}", answer.out);
+    // By the processor's time, which other work on the host does not add to.
+    let answer = shell_in(&folder, "ulimit -t 5; exec $BENCH run image --cover");
     let row = "       4 of       8   50%  [20000000, 11fffffff)  huge2, first not at 20000004\n";
     assert!(answer.out.ends_with(row), "{}", answer.out);
 }
