@@ -1,8 +1,4 @@
 // What jumps, branches and MRET do.
-mod again;
-
-pub use again::jal_again;
-pub use again::jalr_again;
 ghost use mathlib.Core.Path.{_≡_};
 ghost use mathlib.Core.Bool.{not, _&&_, _||_};
 ghost use Prim.Native.Nat.{_+_};
@@ -58,7 +54,7 @@ fn later_table(t: u32, cd: u32, cs1: u32) -> bool
 }
 
 // Whether a jump accepts a sealed target.
-fn accepts(edition: u32, c: Capability, cd: u32, cs1: u32) -> bool
+pub fn accepts(edition: u32, c: Capability, cd: u32, cs1: u32) -> bool
     ensures { λ r. ⌜ r ≡ accepts edition c cd cs1 ⌝ }
 {
     if edition == LATER_EDITION {
@@ -72,7 +68,7 @@ fn accepts(edition: u32, c: Capability, cd: u32, cs1: u32) -> bool
 }
 
 // The type of a link: an enabling one if MIE is set, else a disabling one.
-fn link_type(edition: u32, mstatus: u32) -> u32
+pub fn link_type(edition: u32, mstatus: u32) -> u32
     ensures { λ r. ⌜ r ≡ linkType edition mstatus ⌝ }
 {
     let enabled = state::mie_of(mstatus) == 1;
@@ -108,7 +104,7 @@ fn later_status(t: u32, mstatus: u32) -> u32
 }
 
 // mstatus after a jump by a target of a type.
-pub(crate) fn jump_status(edition: u32, t: u32, mstatus: u32) -> u32
+pub fn jump_status(edition: u32, t: u32, mstatus: u32) -> u32
     ensures { λ r. ⌜ r ≡ jumpStatus edition t mstatus ⌝ }
 {
     if edition == LATER_EDITION {
@@ -121,7 +117,7 @@ pub(crate) fn jump_status(edition: u32, t: u32, mstatus: u32) -> u32
 // ---- jumps
 
 // The link of a jump of some bytes: PCC after it, sealed.
-pub(crate) fn link_of(bytes: u32, edition: u32, pcc: Capability, mstatus: u32) -> Capability
+fn link_of(bytes: u32, edition: u32, pcc: Capability, mstatus: u32) -> Capability
     ensures { λ r. ⌜ r ≡ linkOf bytes edition pcc mstatus ⌝ }
 {
     let next = capability::move_address(pcc, wrapping_add_u32(pcc.address, bytes));
@@ -129,7 +125,7 @@ pub(crate) fn link_of(bytes: u32, edition: u32, pcc: Capability, mstatus: u32) -
 }
 
 // The effect where a target is aligned, else the trap.
-pub(crate) fn aligned_effect(target: u32, e: Effect) -> Effect
+fn aligned_effect(target: u32, e: Effect) -> Effect
     ensures { λ r. ⌜ r ≡ aligned target e ⌝ }
 {
     if target % TARGET_ALIGNMENT == 0 {
@@ -143,7 +139,7 @@ pub(crate) fn aligned_effect(target: u32, e: Effect) -> Effect
 }
 
 // The cause for which a target is out of bounds, or 0.
-pub(crate) fn target_cause(c: Capability, target: u32) -> u32
+fn target_cause(c: Capability, target: u32) -> u32
     ensures { λ r. ⌜ r ≡ targetCause c target ⌝ }
 {
     state::bounds_cause(state::in_bounds(c, target, TARGET_BYTES))
@@ -192,14 +188,7 @@ fn is_shut(sealed: bool, accepted: bool, still: bool) -> bool
     sealed && (!accepted || !still)
 }
 
-pub(crate) fn jalr_cause(
-    edition: u32,
-    rd: u32,
-    rs1: u32,
-    c: Capability,
-    offset: u32,
-    target: u32,
-) -> u32
+fn jalr_cause(edition: u32, rd: u32, rs1: u32, c: Capability, offset: u32, target: u32) -> u32
     ensures { λ r. ⌜ r ≡ jalrCause edition rd rs1 c offset target ⌝ }
 {
     first_jalr_cause(

@@ -27,13 +27,12 @@ use Rattle.state.specs.Lent.{State, state, lent}
 use Rattle.state.specs.declared.Board.{Board}
 use Rattle.state.specs.declared.Effect.{Effect}
 use Rattle.jump_instructions.specs.Jumps.{jumpEffect}
-use Rattle.jump_instructions.proofs.Laws.{jump-storeless}
 use Rattle.integer_instructions.specs.Integer.{aluOf, multipliedOf, dividedOf}
 use Rattle.capability_instructions.specs.Derivation.{movedBy}
 use Rattle.memory_instructions.specs.Access.{memoryEffect}
 use Rattle.execution.specs.Step.{effectOf}
 use Rattle.quick.specs.Turns.{wentOn, writtenAt, heldAt, Stands, Turned, doneTurn, leftTurn}
-use Rattle.quick.specs.Jumps.{GoTurns, BranchTurns, JumpTurns}
+use Rattle.quick.specs.Jumps.{GoTurns, BranchTurns, LinkTurns, RegisterTurns}
 use Rattle.quick.specs.Memory.{Loads, Stores, LoadsCapability, StoresCapability}
 use Rattle.quick.specs.Steady.{SteadyIf, TurnedBy}
 use Rattle.quick.specs.declared.Took.{Took}
@@ -165,19 +164,15 @@ module _ (board : Board) (revoked regs mem tags : List ℕ) (n to : ℕ) (e : to
   by-branch after kind from other offset t g st x word m a (rs1, rs2, i, f, o) s =
       (rw i (g rs1 rs2 m a n (board .edition) mem tags s (next m a s) f o), st)
 
-  pub by-jump-link : (after : List ℕ) (rd offset : ℕ) (e : Effect) (t : Took) → e ≡ jumpEffect n (board .edition) (Jal rd offset) regs
-      → JumpTurns e regs after t → SteadyIf (t .done) regs after
-      → TurnedBy board revoked (Operation.JumpLink rd offset) n (state regs mem tags) (state after mem tags) t
+  pub by-jump-link : (after : List ℕ) (rd offset : ℕ) (t : Took) → LinkTurns (board .start) (board .edition) rd offset to regs after t
+      → SteadyIf (t .done) regs after → TurnedBy board revoked (Operation.JumpLink rd offset) n (state regs mem tags) (state after mem tags) t
   unfolding effectOf
-  by-jump-link after rd offset e t q g st x word m a i s =
-      (rw i (rw q at (g (board .start) m a n mem tags s (rw q (jump-storeless n (board .edition) (Jal rd offset) regs)))), st)
+  by-jump-link after rd offset t g st x word m a i s = (rw i (g m a n mem tags s (next m a s)), st)
 
-  pub by-jump-register : (after : List ℕ) (rd rs1 offset : ℕ) (e : Effect) (t : Took) → e ≡ jumpEffect n (board .edition) (Jalr rd rs1 offset) regs
-      → JumpTurns e regs after t → SteadyIf (t .done) regs after
-      → TurnedBy board revoked (Operation.JumpRegister rd rs1 offset) n (state regs mem tags) (state after mem tags) t
+  pub by-jump-register : (after : List ℕ) (rd rs1 offset : ℕ) (t : Took) → RegisterTurns (board .start) (board .edition) rd rs1 offset to regs after t
+      → SteadyIf (t .done) regs after → TurnedBy board revoked (Operation.JumpRegister rd rs1 offset) n (state regs mem tags) (state after mem tags) t
   unfolding effectOf
-  by-jump-register after rd rs1 offset e t q g st x word m a i s =
-      (rw i (rw q at (g (board .start) m a n mem tags s (rw q (jump-storeless n (board .edition) (Jalr rd rs1 offset) regs)))), st)
+  by-jump-register after rd rs1 offset t g st x word m a i s = (rw i (g m a n mem tags s (next m a s)), st)
 
   -- ---- loads and stores
 

@@ -22,7 +22,8 @@ use Rattle.state.specs.Memory.{granuleBytes}
 use Rattle.state.specs.Effects.{Stored, nothing, bytes, whole, Within}
 use Rattle.commit.specs.Commit.{stored, storedCapability, memoryAfter}
 use Rattle.quick.specs.Turns.{MayStore}
-use Rattle.quick.specs.Entries.{slots, slotOf, thereOf, Decoded, Entry, Entries, clearedNear, touchesHull, forgotten, ClearedUnless}
+use Rattle.quick.specs.Entries.{slots, entries, slotOf, slotAt, thereOf, Decoded, Entry, Entries}
+use Rattle.quick.specs.Entries.{clearedSlot, clearedNear, touchesHull, forgotten, ClearedUnless}
 
 -- ---- memory after a store
 
@@ -98,24 +99,35 @@ left-one lens i j h =
     (λ t. absurd (h (rw (eqb-true j i t) (zero-at lens i))))
     (λ t. (getD-set-other lens i j 0 0 (eqb-false j i t), eqb-false j i t))
 
+-- both entries of a slot are cleared, so what is left has another one
+left-slot : (half : ℕ) (lens : List ℕ) (j : ℕ) → j < entries → (getD (clearedSlot half lens) j 0 ≡ 0 → ⊥)
+    → (getD (clearedSlot half lens) j 0 ≡ getD lens j 0) × (slotAt j ≡ half % slots → ⊥)
+left-slot half lens j l h =
+    let s = half % slots in
+    let b = left-one (set lens s 0) (s + slots) j h in
+    let a = left-one lens s j (λ z. h (b .0 ∙ z)) in (
+      b .0 ∙ a .0,
+      λ q. by-test (ltb j slots) (λ t. a .1 (omega (arith, q, ltb-true j slots t))) (λ t. b .1 (omega (arith, q, l, ltb-false j slots t))),
+    )
+
 -- none of the five slots from the first on
 abbrev Far : (first j : ℕ) → Type 0
 Far first j =
     (j ≡ first % slots → ⊥) × (j ≡ (first + 1) % slots → ⊥) × (j ≡ (first + 2) % slots → ⊥) × (j ≡ (first + 3) % slots → ⊥) × (j ≡ (first + 4) % slots → ⊥)
 
-left-near : (address : ℕ) (lens : List ℕ) (j : ℕ) → (getD (clearedNear address lens) j 0 ≡ 0 → ⊥)
-    → (getD (clearedNear address lens) j 0 ≡ getD lens j 0) × Far (address / 2 + slots - 1) j
-left-near address lens j h =
+left-near : (address : ℕ) (lens : List ℕ) (j : ℕ) → j < entries → (getD (clearedNear address lens) j 0 ≡ 0 → ⊥)
+    → (getD (clearedNear address lens) j 0 ≡ getD lens j 0) × Far (address / 2 + slots - 1) (slotAt j)
+left-near address lens j l h =
     let first = address / 2 + slots - 1 in
-    let one = set lens (first % slots) 0 in
-    let two = set one ((first + 1) % slots) 0 in
-    let three = set two ((first + 2) % slots) 0 in
-    let four = set three ((first + 3) % slots) 0 in
-    let e = left-one four ((first + 4) % slots) j h in
-    let d = left-one three ((first + 3) % slots) j (λ z. h (e .0 ∙ z)) in
-    let c = left-one two ((first + 2) % slots) j (λ z. h (e .0 ∙ d .0 ∙ z)) in
-    let b = left-one one ((first + 1) % slots) j (λ z. h (e .0 ∙ d .0 ∙ c .0 ∙ z)) in
-    let a = left-one lens (first % slots) j (λ z. h (e .0 ∙ d .0 ∙ c .0 ∙ b .0 ∙ z)) in
+    let one = clearedSlot first lens in
+    let two = clearedSlot (first + 1) one in
+    let three = clearedSlot (first + 2) two in
+    let four = clearedSlot (first + 3) three in
+    let e = left-slot (first + 4) four j l h in
+    let d = left-slot (first + 3) three j l (λ z. h (e .0 ∙ z)) in
+    let c = left-slot (first + 2) two j l (λ z. h (e .0 ∙ d .0 ∙ z)) in
+    let b = left-slot (first + 1) one j l (λ z. h (e .0 ∙ d .0 ∙ c .0 ∙ z)) in
+    let a = left-slot first lens j l (λ z. h (e .0 ∙ d .0 ∙ c .0 ∙ b .0 ∙ z)) in
     (e .0 ∙ d .0 ∙ c .0 ∙ b .0 ∙ a .0, (a .1, b .1, c .1, d .1, e .1))
 
 -- a slot that is left: no byte is stored, or the hull is not touched, or it is none of the five
@@ -129,11 +141,11 @@ left-if false false lens near j F f h = (refl, inr (inl refl))
 abbrev Spared : (low high start at width j : ℕ) → Type 0
 Spared low high start at width j = (eqb width 0 ≡ true) ⊎ ((touchesHull low high at width ≡ false) ⊎ Far ((start + at) / 2 + slots - 1) j)
 
-left-of : (low high start at width : ℕ) (lens : List ℕ) (j : ℕ) → (getD (forgotten low high start at width lens) j 0 ≡ 0 → ⊥)
-    → (getD (forgotten low high start at width lens) j 0 ≡ getD lens j 0) × Spared low high start at width j
-left-of low high start at width lens j h =
-    left-if (eqb width 0) (touchesHull low high at width) lens (clearedNear (start + at) lens) j (Far ((start + at) / 2 + slots - 1) j)
-    (left-near (start + at) lens j) h
+left-of : (low high start at width : ℕ) (lens : List ℕ) (j : ℕ) → j < entries → (getD (forgotten low high start at width lens) j 0 ≡ 0 → ⊥)
+    → (getD (forgotten low high start at width lens) j 0 ≡ getD lens j 0) × Spared low high start at width (slotAt j)
+left-of low high start at width lens j l h =
+    left-if (eqb width 0) (touchesHull low high at width) lens (clearedNear (start + at) lens) j (Far ((start + at) / 2 + slots - 1) (slotAt j))
+    (left-near (start + at) lens j l) h
 
 -- ---- four bytes whose slot is left are apart from what is stored
 
@@ -175,7 +187,7 @@ module _ (low high start at width a : ℕ) (aligned : start % granuleBytes ≡ 0
 -- ---- the entries after a store
 
 module _ (start : ℕ) (mem : List ℕ) (low high j key n : ℕ) (op : Operation) (at width : ℕ) (aligned : start % granuleBytes ≡ 0)
-    (e : Entry start mem low high j key n op) (spared : Spared low high start at width j) where
+    (e : Entry start mem low high j key n op) (spared : Spared low high start at width (slotAt j)) where
   entry-outside : (after : List ℕ) → Outside at width mem after → 1 ≤ width → at % granuleBytes + width ≤ granuleBytes → Entry start after low high j key n op
   entry-outside after o some together =
       let a : ℕ = e .address in
@@ -207,7 +219,7 @@ module _ (start : ℕ) (mem : List ℕ) (low high : ℕ) (lens keys : List ℕ) 
   pub entries-after : (x : Stored) (at width : ℕ) → start % granuleBytes ≡ 0 → Within (length mem) x → MayStore x at width
       → Entries start mem low high lens keys code → Entries start (memoryAfter x mem) low high (forgotten low high start at width lens) keys code
   entries-after x at width aligned w m es j l h =
-      let k = left-of low high start at width lens j h in
+      let k = left-of low high start at width lens j l h in
       rw (k .0)
       (entry-after start mem low high j (getD keys j 0) (getD lens j 0) (getD code j Plain) at width aligned (es j l (λ z. h (k .0 ∙ z))) (k .1) x w m)
 
@@ -218,7 +230,7 @@ module _ (start : ℕ) (mem : List ℕ) (low high : ℕ) (lens keys : List ℕ) 
   entries-cleared trapped after lens′ (inr c) same es = λ j l h. absurd (h (c .1 j l))
 
   -- no lengths, no entries
-  pub entries-none : ((j : ℕ) → j < slots → getD lens j 0 ≡ 0) → Entries start mem low high lens keys code
+  pub entries-none : ((j : ℕ) → j < entries → getD lens j 0 ≡ 0) → Entries start mem low high lens keys code
   entries-none none j l h = absurd (h (none j l))
 
 -- ---- a new entry
@@ -229,8 +241,8 @@ put-same [] i v h = absurd (h refl)
 put-same (x ∷ xs) zero v h = refl
 put-same (x ∷ xs) (suc i) v h = put-same xs i v h
 
-module _ (start : ℕ) (mem : List ℕ) (low high low′ high′ : ℕ) (lens keys : List ℕ) (code : List Operation) (i key n : ℕ) (op : Operation) (inside : i < slots)
-    (keys-long : length keys ≡ slots) (code-long : length code ≡ slots) (e : Entry start mem low′ high′ i key n op) where
+module _ (start : ℕ) (mem : List ℕ) (low high low′ high′ : ℕ) (lens keys : List ℕ) (code : List Operation) (i key n : ℕ) (op : Operation) (inside : i < entries)
+    (keys-long : length keys ≡ entries) (code-long : length code ≡ entries) (e : Entry start mem low′ high′ i key n op) where
   abbrev Put : ℕ → Type 0
   Put j =
       (getD (set lens i n) j 0 ≡ 0 → ⊥)

@@ -13,6 +13,7 @@ use Rattle.words.proofs.Word.{by-test}
 use Rattle.capability.specs.Capability.{moveOf}
 use Rattle.capability.specs.declared.Capability.{Capability}
 use Rattle.instructions.specs.declared.StoreKind.{StoreKind}
+use Rattle.state.specs.Layout.{registerWords, timeIndex}
 use Rattle.state.specs.Registers.{capabilityAt, setCapability, writeRegister, pccOf, mstatusOf}
 use Rattle.state.specs.Addresses.{nextAddress}
 use Rattle.state.specs.Marks.{cleared, belowMark, marked}
@@ -62,27 +63,27 @@ uncarried l h b k =
     let w : (h * 2 ^ 32 + l + 1) % 2 ^ 64 ≡ h * 2 ^ 32 + (l + 1) = omega (arith, b, k) in
     rw w (omega (arith, b), omega (arith, b))
 
-pub ticked-carry : (l : List ℕ) → getD l 68 0 ≡ 4294967295 → getD l 69 0 < 2 ^ 32
-    → ticked l ≡ set (set l 68 0) 69 (wrap (getD (set l 68 0) 69 0 + 1))
+pub ticked-carry : (l : List ℕ) → getD l timeIndex 0 ≡ 4294967295 → getD l (timeIndex + 1) 0 < 2 ^ 32
+    → ticked l ≡ set (set l timeIndex 0) (timeIndex + 1) (wrap (getD (set l timeIndex 0) (timeIndex + 1) 0 + 1))
 unfolding ticked timeOf
 ticked-carry l e h =
-    let w = carried (getD l 69 0) h in
-    let kept : getD (set l 68 0) 69 0 ≡ getD l 69 0 = getD-set-other l 68 69 0 0 (λ q. omega arith) in
+    let w = carried (getD l (timeIndex + 1) 0) h in
+    let kept : getD (set l timeIndex 0) (timeIndex + 1) 0 ≡ getD l (timeIndex + 1) 0 = getD-set-other l timeIndex (timeIndex + 1) 0 0 (λ q. omega arith) in
     rw (e, w .0, w .1, kept) refl
 
-pub ticked-low : (l : List ℕ) → getD l 68 0 < 4294967295 → getD l 69 0 < 2 ^ 32 → ticked l ≡ set l 68 (getD l 68 0 + 1)
+pub ticked-low : (l : List ℕ) → getD l timeIndex 0 < 4294967295 → getD l (timeIndex + 1) 0 < 2 ^ 32 → ticked l ≡ set l timeIndex (getD l timeIndex 0 + 1)
 unfolding ticked timeOf
 ticked-low l e h =
-    let w = uncarried (getD l 68 0) (getD l 69 0) e h in
-    rw (w .0, w .1) (set-same (set l 68 (getD l 68 0 + 1)) 69 (getD l 69 0) (getD-set-other l 68 69 (getD l 68 0 + 1) 0 (λ q. omega arith)))
+    let w = uncarried (getD l timeIndex 0) (getD l (timeIndex + 1) 0) e h in
+    rw (w .0, w .1) (set-same (set l timeIndex (getD l timeIndex 0 + 1)) (timeIndex + 1) (getD l (timeIndex + 1) 0) (getD-set-other l timeIndex (timeIndex + 1) (getD l timeIndex 0 + 1) 0 (λ q. omega arith)))
 
 -- ---- what stays
 
-pub stays-on : (l : List ℕ) (to j : ℕ) → (j ≡ 48 → ⊥) → (j ≡ 68 → ⊥) → (j ≡ 69 → ⊥) → getD (wentOn to l) j 0 ≡ getD l j 0
+pub stays-on : (l : List ℕ) (to j : ℕ) → (j ≡ 48 → ⊥) → (j ≡ timeIndex → ⊥) → (j ≡ timeIndex + 1 → ⊥) → getD (wentOn to l) j 0 ≡ getD l j 0
 unfolding ticked
 stays-on l to j h p q =
     let r = set l 48 to in
-    getD-set-other (set r 68 (nextTime r % 2 ^ 32)) 69 j (nextTime r / 2 ^ 32) 0 q ∙ getD-set-other r 68 j (nextTime r % 2 ^ 32) 0 p
+    getD-set-other (set r timeIndex (nextTime r % 2 ^ 32)) (timeIndex + 1) j (nextTime r / 2 ^ 32) 0 q ∙ getD-set-other r timeIndex j (nextTime r % 2 ^ 32) 0 p
     ∙ getD-set-other l 48 j to 0 h
 
 pub stays-written : (l : List ℕ) (at j : ℕ) (c : Capability) → at ≤ 45 → 48 ≤ j → getD (writtenAt at c l) j 0 ≡ getD l j 0
@@ -122,23 +123,23 @@ long-marked l address = go (belowMark l address)
     go false = refl
 
 -- PCC's address, and time
-pub address-on : (l : List ℕ) (to : ℕ) → length l ≡ 72 → getD (wentOn to l) 48 0 ≡ to
+pub address-on : (l : List ℕ) (to : ℕ) → length l ≡ registerWords → getD (wentOn to l) 48 0 ≡ to
 address-on l to h = ticked-below (set l 48 to) 48 (omega arith) ∙ getD-set-same l 48 to 0 (omega arith)
 
 time-moved : (l : List ℕ) (to : ℕ) → timeOf (set l 48 to) ≡ timeOf l
 unfolding timeOf
-time-moved l to = rw (getD-set-other l 48 68 to 0 (λ q. omega arith), getD-set-other l 48 69 to 0 (λ q. omega arith)) refl
+time-moved l to = rw (getD-set-other l 48 timeIndex to 0 (λ q. omega arith), getD-set-other l 48 (timeIndex + 1) to 0 (λ q. omega arith)) refl
 
-pub time-on : (l : List ℕ) (to : ℕ) → length l ≡ 72 → timeOf (wentOn to l) ≡ (timeOf l + 1) % 2 ^ 64
+pub time-on : (l : List ℕ) (to : ℕ) → length l ≡ registerWords → timeOf (wentOn to l) ≡ (timeOf l + 1) % 2 ^ 64
 time-on l to h = ticked-time (set l 48 to) (length-set l 48 to ∙ h) ∙ ap (λ (t : ℕ). (t + 1) % 2 ^ 64) (time-moved l to)
 
 pub time-written : (l : List ℕ) (at : ℕ) (c : Capability) → at ≤ 45 → timeOf (writtenAt at c l) ≡ timeOf l
 unfolding timeOf
-time-written l at c h = rw (stays-written l at 68 c h (omega arith), stays-written l at 69 c h (omega arith)) refl
+time-written l at c h = rw (stays-written l at timeIndex c h (omega arith), stays-written l at (timeIndex + 1) c h (omega arith)) refl
 
 pub time-marked : (l : List ℕ) (address : ℕ) → timeOf (marked address l) ≡ timeOf l
 unfolding timeOf
-time-marked l address = rw (stays-marked l address 68 (λ q. omega arith), stays-marked l address 69 (λ q. omega arith)) refl
+time-marked l address = rw (stays-marked l address timeIndex (λ q. omega arith), stays-marked l address (timeIndex + 1) (λ q. omega arith)) refl
 
 -- ---- a register by its place
 

@@ -10,6 +10,7 @@ use Rattle.capability.specs.declared.Capability.{Capability}
 use Rattle.instructions.specs.declared.StoreKind.{StoreKind}
 use Rattle.instructions.specs.declared.MemoryInstruction.{MemoryInstruction}
 use Rattle.instructions.specs.declared.MemoryInstruction.the-variants as Access
+use Rattle.state.specs.Layout.{registerWords, timeIndex, compareIndex}
 use Rattle.state.specs.Registers.{registerAt, integerAt}
 use Rattle.state.specs.Timer.{timeOf, compareOf}
 use Rattle.state.specs.Marks.{marked}
@@ -34,41 +35,41 @@ Same l r = (j : ℕ) → 48 ≤ j → (j ≡ 66 → ⊥) → getD r j 0 ≡ getD
 
 same-time : (l r : List ℕ) → Same l r → timeOf r ≡ timeOf l
 unfolding timeOf
-same-time l r h = rw (h 68 (omega arith) (λ q. omega arith), h 69 (omega arith) (λ q. omega arith)) refl
+same-time l r h = rw (h timeIndex (omega arith) (λ q. omega arith), h (timeIndex + 1) (omega arith) (λ q. omega arith)) refl
 
-same-compare : (l r : List ℕ) → getD r 70 0 ≡ getD l 70 0 → getD r 71 0 ≡ getD l 71 0 → compareOf r ≡ compareOf l
+same-compare : (l r : List ℕ) → getD r compareIndex 0 ≡ getD l compareIndex 0 → getD r (compareIndex + 1) 0 ≡ getD l (compareIndex + 1) 0 → compareOf r ≡ compareOf l
 unfolding compareOf
 same-compare l r p q = rw (p, q) refl
 
-kept-on : (l r : List ℕ) (to : ℕ) → Same l r → (j : ℕ) → 49 ≤ j → (j ≡ 66 → ⊥) → (j ≡ 68 → ⊥) → (j ≡ 69 → ⊥) → getD (wentOn to r) j 0 ≡ getD l j 0
+kept-on : (l r : List ℕ) (to : ℕ) → Same l r → (j : ℕ) → 49 ≤ j → (j ≡ 66 → ⊥) → (j ≡ timeIndex → ⊥) → (j ≡ timeIndex + 1 → ⊥) → getD (wentOn to r) j 0 ≡ getD l j 0
 kept-on l r to h j k a b c = stays-on r to j (λ q. omega arith) b c ∙ h j (omega arith) a
 
-steady-over : (l r : List ℕ) (to : ℕ) → length l ≡ 72 → length r ≡ length l → Same l r → Steady l (wentOn to r)
+steady-over : (l r : List ℕ) (to : ℕ) → length l ≡ registerWords → length r ≡ length l → Same l r → Steady l (wentOn to r)
 steady-over l r to long e h =
     record {
       word-stays = kept-on l r to h 49 (omega arith) (λ q. omega arith) (λ q. omega arith) (λ q. omega arith);
       tag-stays = kept-on l r to h 50 (omega arith) (λ q. omega arith) (λ q. omega arith) (λ q. omega arith);
       status-stays = kept-on l r to h 63 (omega arith) (λ q. omega arith) (λ q. omega arith) (λ q. omega arith);
-      compare-stays = same-compare l (wentOn to r) (kept-on l r to h 70 (omega arith) (λ q. omega arith) (λ q. omega arith) (λ q. omega arith))
-          (kept-on l r to h 71 (omega arith) (λ q. omega arith) (λ q. omega arith) (λ q. omega arith));
+      compare-stays = same-compare l (wentOn to r) (kept-on l r to h compareIndex (omega arith) (λ q. omega arith) (λ q. omega arith) (λ q. omega arith))
+          (kept-on l r to h (compareIndex + 1) (omega arith) (λ q. omega arith) (λ q. omega arith) (λ q. omega arith));
       time-goes = time-on r to (e ∙ long) ∙ ap (λ (t : ℕ). (t + 1) % 2 ^ 64) (same-time l r h);
       long-stays = long-on r to ∙ e;
     }
 
-pub steady-on : (l after : List ℕ) (to : ℕ) → length l ≡ 72 → after ≡ wentOn to l → Steady l after
+pub steady-on : (l after : List ℕ) (to : ℕ) → length l ≡ registerWords → after ≡ wentOn to l → Steady l after
 steady-on l after to long e = rw e (steady-over l l to long refl (λ j k n. refl))
 
-pub steady-written : (l after : List ℕ) (to at : ℕ) (c : Capability) → length l ≡ 72 → at ≤ 45 → after ≡ wentOn to (writtenAt at c l) → Steady l after
+pub steady-written : (l after : List ℕ) (to at : ℕ) (c : Capability) → length l ≡ registerWords → at ≤ 45 → after ≡ wentOn to (writtenAt at c l) → Steady l after
 steady-written l after to at c long h e =
     rw e (steady-over l (writtenAt at c l) to long (long-written l at c) (λ j k n. stays-written l at j c h k))
 
-pub steady-marked : (l after : List ℕ) (to address : ℕ) → length l ≡ 72 → after ≡ wentOn to (marked address l) → Steady l after
+pub steady-marked : (l after : List ℕ) (to address : ℕ) → length l ≡ registerWords → after ≡ wentOn to (marked address l) → Steady l after
 steady-marked l after to address long e =
     rw e (steady-over l (marked address l) to long (long-marked l address) (λ j k n. stays-marked l address j n))
 
 -- ---- jumps
 
-pub went-steady : (regs after : List ℕ) (start size to : ℕ) (t : Took) → length regs ≡ 72 → Went start size to regs after t → SteadyIf (t .done) regs after
+pub went-steady : (regs after : List ℕ) (start size to : ℕ) (t : Took) → length regs ≡ registerWords → Went start size to regs after t → SteadyIf (t .done) regs after
 went-steady regs after start size to t long w = go (t .done) (w .0)
   where
     go : (b : Bool) → WentIf b start size to regs after → SteadyIf b regs after

@@ -1,8 +1,8 @@
 -- A jump to what PCC reaches passes its checks, so that its effect is PCC at the target. Assumes nothing.
 use mathlib.Core.Path.{_≡_, refl, sym, ap, _∙_}
-use mathlib.Core.Bool.{Bool, true, false, not, true≢false}
+use mathlib.Core.Bool.{Bool, true, false, not, _&&_, true≢false}
 use mathlib.Core.List.{List}
-use Prim.Native.Nat.{ℕ, _+_, _*_, _%_}
+use Prim.Native.Nat.{ℕ, _+_, _*_, _/_, _%_}
 use native.Mathlib.Omega.{arith}
 use lib.Dec.{eqb}
 use lib.ListN.{getD, length}
@@ -10,22 +10,27 @@ use borrow.Author.Tests.{eq-eqb}
 use Rattle.words.specs.Words.{wrap}
 use Rattle.metadata.specs.Rights.{EX}
 use Rattle.metadata.specs.Word.{typeOf}
-use Rattle.capability.specs.Capability.{capability, integer, sealed, moveOf}
+use Rattle.metadata.proofs.Words.{permissions-of-type, scale-of-type, top-of-type, base-of-type}
+use Rattle.bounds.specs.Bounds.{lowAt, highAt}
+use Rattle.capability.specs.Capability.{integer, low, high, rights, covers, sealed, tagged, grants, moveOf}
+use Rattle.capability.specs.Sealing.{withObjectType}
 use Rattle.capability.specs.declared.Capability.{Capability}
 use Rattle.instructions.specs.declared.BranchKind.{BranchKind}
-use Rattle.instructions.specs.declared.JumpInstruction.the-variants.{Jal, Branch}
-use Rattle.state.specs.Registers.{capabilityAt, integerAt, pccOf, mstatusOf}
+use Rattle.instructions.specs.declared.JumpInstruction.the-variants.{Jal, Jalr, Branch}
+use Rattle.state.specs.Layout.{registerWords}
+use Rattle.state.specs.Registers.{capabilityAt, registerAt, integerAt, pccOf, mstatusOf}
 use Rattle.state.specs.Checks.{checked}
 use Rattle.state.specs.Lent.{state}
 use Rattle.state.specs.Effects.{Stored, nothing, bytes, whole, storedBy, Nothing, Storeless}
 use Rattle.state.specs.declared.Effect.{Effect}
 use Rattle.state.specs.declared.Effect.the-variants.{Jump}
-use Rattle.jump_instructions.specs.Jumps.{linkOf, aligned, targetCause, jalEffect, taken, takenEffect, branchEffect, jumpEffect}
+use Rattle.jump_instructions.specs.Editions.{accepts, linkType, jumpStatus}
+use Rattle.jump_instructions.specs.Jumps.{linkOf, aligned, targetCause, jalEffect, jalrCause, jalrEffect, taken, takenEffect, branchEffect, jumpEffect}
 use Rattle.jump_instructions.proofs.Laws.{jump-storeless}
 use Rattle.commit.specs.Commit.{retires}
 use Rattle.quick.specs.Rows.{Reached}
-use Rattle.quick.specs.Turns.{wentOn, writtenAt, pccAt, MayStore, Done, Turned, doneTurn, leftTurn}
-use Rattle.quick.specs.Jumps.{WentIf, Went, GoTurns, BranchTurns, StaysAt, JumpTurns}
+use Rattle.quick.specs.Turns.{wentOn, writtenAt, heldAt, pccAt, Stands, MayStore, Done, Turned, doneTurn, leftTurn}
+use Rattle.quick.specs.Jumps.{WentIf, Went, GoTurns, BranchTurns, linkAt, LinkTurns, shut, RegisterTurns}
 use Rattle.quick.specs.Steady.{SteadyIf}
 use Rattle.quick.specs.declared.Took.{Took}
 use Rattle.quick.proofs.Onward.{took-advance, took-jump, took-linked, pcc-words}
@@ -104,26 +109,116 @@ branch-passed regs start offset next kind from other b rs1 rs2 m a n edition mem
     let c : taken kind (integerAt regs rs1) (integerAt regs rs2) ≡ false = rw (f, o) at b in
     rw c (took-advance regs mem tags start m a n next s q, refl, refl)
 
--- ---- jumps by their effect
+-- ---- jumps with a link
 
-target-at : (c : Capability) (m : ℕ) → c .metadata ≡ m → c .tag ≡ 1 → c ≡ pccAt m (c .address)
-target-at c m p q = ap (λ (x : ℕ). capability (c .address) x (c .tag)) p ∙ ap (λ (x : ℕ). capability (c .address) m x) q
+link-is : (regs : List ℕ) (m a n next edition : ℕ) → Stands regs m a n → next ≡ wrap (a + n)
+    → linkAt edition next (getD regs 49 0) (getD regs 63 0) ≡ linkOf n edition (pccOf regs) (mstatusOf regs)
+unfolding linkOf
+link-is regs m a n next edition s q =
+    let seal : Capability → Capability = λ c. withObjectType c (linkType edition (mstatusOf regs)) in
+    ap (λ (x : ℕ). seal (pccAt x next)) (pcc-words regs m a (s .pcc-is) .1)
+    ∙ ap seal (ap (pccAt m) q ∙ sym (s .goes-on))
+    ∙ ap (λ (c : Capability). seal (moveOf c (wrap (c .address + n)))) (sym (s .pcc-is))
 
-pub linked-turned : (regs after : List ℕ) (e : Effect) (t : Took) (at rd mstatus : ℕ) (link target : Capability) → e ≡ Jump rd link target mstatus
-    → t ≡ doneTurn → at ≡ rd % 16 * 3 → StaysAt target mstatus regs → after ≡ wentOn (target .address) (writtenAt at link regs) → length regs ≡ 72
-    → JumpTurns e regs after t × SteadyIf (t .done) regs after
-unfolding retires
-linked-turned regs after e t at rd mstatus link target q u z w h long =
-    rw (q, u) (
-      λ start m a n mem tags s still. (
-        ap (λ (l : List ℕ). state l mem tags) h
-            ∙ took-linked regs mem tags start m a n (target .address) (s .pcc-is) at rd mstatus link target z
-            (target-at target m (w .word-stays ∙ pcc-words regs m a (s .pcc-is) .1) (w .is-tagged)) (w .status-stays),
+-- a jump whose effect is PCC at the target, with a link
+module _ (regs after mem tags : List ℕ) (start m a n next to at rd edition mstatus : ℕ) (s : Stands regs m a n) (q : next ≡ wrap (a + n)) (e : Effect)
+    (target : Capability) (e-is : e ≡ Jump rd (linkOf n edition (pccOf regs) (mstatusOf regs)) target mstatus) (target-is : target ≡ pccAt m to)
+    (stays : mstatus ≡ mstatusOf regs) (at-is : at ≡ rd % 16 * 3)
+    (after-is : after ≡ wentOn to (writtenAt at (linkAt edition next (getD regs 49 0) (getD regs 63 0)) regs)) where
+  linked-turned : Turned start n e (state regs mem tags) (state after mem tags) doneTurn
+  unfolding retires
+  linked-turned =
+      rw (e-is, after-is, link-is regs m a n next edition s q) (
+        took-linked regs mem tags start m a n to (s .pcc-is) at rd mstatus (linkOf n edition (pccOf regs) (mstatusOf regs)) target at-is target-is stays,
         refl,
         refl,
-      ),
-      steady-written regs after (target .address) at link long (omega (arith, z)) h,
+      )
+
+-- CJAL to what PCC reaches
+pub link-turned : (regs after : List ℕ) (start size edition rd offset next to at : ℕ) (t : Took) → length regs ≡ registerWords → t ≡ doneTurn
+    → to ≡ wrap (getD regs 48 0 + offset) → to % 2 ≡ 0 → Reached EX start size (heldAt 48 regs) to 2 → at ≡ rd % 16 * 3
+    → after ≡ wentOn to (writtenAt at (linkAt edition next (getD regs 49 0) (getD regs 63 0)) regs)
+    → LinkTurns start edition rd offset next regs after t × SteadyIf (t .done) regs after
+unfolding jumpEffect capabilityAt
+link-turned regs after start size edition rd offset next to at t long u e z r w h =
+    rw u (
+      λ m a n mem tags s q.
+          linked-turned regs after mem tags start m a n next to at rd edition (mstatusOf regs) s q (jumpEffect n edition (Jal rd offset) regs)
+          (moveOf (pccOf regs) to) (ap (λ (x : ℕ). jalEffect n edition rd x regs) (sym e) ∙ jal-inside regs start size to r z n edition rd)
+          (moved-is (pccOf regs) start size to r ∙ ap (λ (c : Capability). pccAt (c .metadata) to) (s .pcc-is)) refl w h,
+      steady-written regs after to at (linkAt edition next (getD regs 49 0) (getD regs 63 0)) long (omega (arith, w)) h,
     )
 
-pub left-turned : (regs : List ℕ) (e : Effect) (t : Took) → t ≡ leftTurn → JumpTurns e regs regs t × SteadyIf (t .done) regs regs
-left-turned regs e t u = rw u (λ start m a n mem tags s still. (refl, may-nothing (storedBy e) 0 0 still), tt)
+-- a capability without its seal has its own rights and bounds
+module _ (c : Capability) (start size to : ℕ) (r : Reached EX start size (withObjectType c 0) to 2) where
+  open-tagged : tagged c ≡ true
+  unfolding withObjectType tagged
+  open-tagged = eq-eqb (c .tag) 1 (r .is-tagged)
+
+  open-granted : grants c EX ≡ true
+  unfolding withObjectType rights
+  open-granted = rw (permissions-of-type (c .metadata) 0 (omega arith)) at (r .has-right)
+
+  open-inside : targetCause c to ≡ 0
+  unfolding targetCause withObjectType covers low high lowAt highAt
+  open-inside =
+      let i = rw (scale-of-type (c .metadata) 0, top-of-type (c .metadata) 0, base-of-type (c .metadata) 0) at (r .in-bounds) in
+      rw i refl
+
+  pub jalr-inside : (n edition rd rs1 offset : ℕ) (regs : List ℕ) → shut edition rd rs1 offset c ≡ false → to % 2 ≡ 0
+      → jalrEffect n edition rd rs1 offset to c regs
+      ≡ Jump rd (linkOf n edition (pccOf regs) (mstatusOf regs)) (moveOf (withObjectType c 0) to) (jumpStatus edition (typeOf (c .metadata)) (mstatusOf regs))
+  unfolding jalrEffect jalrCause checked aligned
+  jalr-inside n edition rd rs1 offset regs z k = rw (open-tagged, z, open-granted, open-inside, eq-eqb (to % 2) 0 k) refl
+
+-- CJALR to a capability of PCC's word that PCC's row has
+pub register-turned : (regs after : List ℕ) (start size edition rd rs1 offset next to at from : ℕ) (c : Capability) (t : Took) → length regs ≡ registerWords
+    → t ≡ doneTurn → c ≡ heldAt from regs → from ≡ rs1 % 16 * 3 → to ≡ wrap (c .address + offset) / 2 * 2
+    → withObjectType c 0 .metadata ≡ getD regs 49 0 → Reached EX start size (withObjectType c 0) to 2 → shut edition rd rs1 offset c ≡ false
+    → jumpStatus edition (typeOf (c .metadata)) (getD regs 63 0) ≡ getD regs 63 0 → at ≡ rd % 16 * 3
+    → after ≡ wentOn to (writtenAt at (linkAt edition next (getD regs 49 0) (getD regs 63 0)) regs)
+    → RegisterTurns start edition rd rs1 offset next regs after t × SteadyIf (t .done) regs after
+unfolding jumpEffect capabilityAt integerAt
+register-turned regs after start size edition rd rs1 offset next to at from c t long u e f g word r z k w h =
+    let held : c ≡ registerAt regs rs1 = e ∙ ap (λ (x : ℕ). heldAt x regs) f in
+    rw u (
+      λ m a n mem tags s q.
+          linked-turned regs after mem tags start m a n next to at rd edition (jumpStatus edition (typeOf (c .metadata)) (mstatusOf regs)) s q
+          (jumpEffect n edition (Jalr rd rs1 offset) regs) (moveOf (withObjectType c 0) to)
+          (ap (λ (x : Capability). jalrEffect n edition rd rs1 offset (wrap (x .address + offset) / 2 * 2) x regs) (sym held)
+          ∙ ap (λ (x : ℕ). jalrEffect n edition rd rs1 offset x c regs) (sym g)
+          ∙ jalr-inside c start size to r n edition rd rs1 offset regs z (omega (arith, g)))
+          (moved-is (withObjectType c 0) start size to r ∙ ap (λ (x : ℕ). pccAt x to) (word ∙ pcc-words regs m a (s .pcc-is) .1)) k w h,
+      steady-written regs after to at (linkAt edition next (getD regs 49 0) (getD regs 63 0)) long (omega (arith, w)) h,
+    )
+
+-- a jump that is left
+pub link-left : (regs : List ℕ) (start edition rd offset next : ℕ) (t : Took) → t ≡ leftTurn
+    → LinkTurns start edition rd offset next regs regs t × SteadyIf (t .done) regs regs
+link-left regs start edition rd offset next t u =
+    rw u (λ m a n mem tags s q. (refl, may-nothing (storedBy (jumpEffect n edition (Jal rd offset) regs)) 0 0 (jump-storeless n edition (Jal rd offset) regs)), tt)
+
+pub register-left : (regs : List ℕ) (start edition rd rs1 offset next : ℕ) (t : Took) → t ≡ leftTurn
+    → RegisterTurns start edition rd rs1 offset next regs regs t × SteadyIf (t .done) regs regs
+register-left regs start edition rd rs1 offset next t u =
+    rw u (
+      λ m a n mem tags s q.
+          (refl, may-nothing (storedBy (jumpEffect n edition (Jalr rd rs1 offset) regs)) 0 0 (jump-storeless n edition (Jalr rd rs1 offset) regs)),
+      tt,
+    )
+
+-- ---- which sealed targets are not refused
+
+pub refused : (b : Bool) → not b ≡ true → b ≡ false
+refused true h = absurd (true≢false (sym h))
+refused false h = refl
+
+pub open-not-shut : (edition rd rs1 offset : ℕ) (c : Capability) → sealed c ≡ false → shut edition rd rs1 offset c ≡ false
+open-not-shut edition rd rs1 offset c h = rw h refl
+
+pub accepted-not-shut : (edition rd rs1 offset : ℕ) (c : Capability) → offset ≡ 0 → accepts edition c rd rs1 ≡ true → shut edition rd rs1 offset c ≡ false
+accepted-not-shut edition rd rs1 offset c z h = rw (z, h) (go (sealed c))
+  where
+    go : (b : Bool) → (b && false) ≡ false
+    go true = refl
+    go false = refl

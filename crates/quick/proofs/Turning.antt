@@ -11,6 +11,7 @@ use Rattle.watch.specs.declared.Watch.{Watch}
 use Rattle.capability.specs.declared.Capability.{Capability}
 use Rattle.operations.specs.declared.Operation.{Operation}
 use Rattle.operations.specs.declared.Operation.the-variants.{Plain}
+use Rattle.state.specs.Layout.{registerWords, compareIndex}
 use Rattle.state.specs.Registers.{pccOf}
 use Rattle.state.specs.Memory.{granuleBytes}
 use Rattle.state.specs.Timer.{compareOf, interrupted}
@@ -31,7 +32,8 @@ use Rattle.machine_laws.proofs.Fetch.{next-within}
 use Rattle.quick.specs.Rows.{Good}
 use Rattle.quick.specs.Turns.{pccAt, Stands, StoredAt, MayStore, Done, Turned}
 use Rattle.quick.specs.Steady.{Steady, SteadyIf, TurnedBy}
-use Rattle.quick.specs.Entries.{slots, slotOf, thereOf, keyOf, Entry, Entries, FoundAt, forgotten, ClearedUnless, Quiet, Calm, notedAt}
+use Rattle.quick.specs.Entries.{entries, slotOf, slotAt, thereOf, keyOf, Entry, Entries, FoundAt, forgotten, ClearedUnless}
+use Rattle.quick.specs.Entries.{Quiet, Calm, notedAt}
 use Rattle.quick.specs.Running.{Running}
 use Rattle.quick.specs.declared.Took.{Took}
 use Rattle.quick.specs.declared.Found.{Found}
@@ -92,7 +94,7 @@ may-store (whole i v) at width h = h
 -- ---- a turn at an entry
 
 module _ (board : Board) (revoked : List ℕ) (s after : State) (low high j key n : ℕ) (op : Operation) (t : Took)
-    (entry : Entry (board .start) (s .mem) low high j key n op) (long : length (s .regs) ≡ 72)
+    (entry : Entry (board .start) (s .mem) low high j key n op) (long : length (s .regs) ≡ registerWords)
     (pcc : pccOf (s .regs) ≡ pccAt (entry .word) (entry .address)) (due : interrupted (s .regs) ≡ false)
     (turned : TurnedBy board revoked op n s after t) where
   stands : Stands (s .regs) (entry .word) (entry .address) n
@@ -176,7 +178,7 @@ module _ (board : Board) (revoked : List ℕ) (n : ℕ) (s₀ : State) (w₀ : W
       rw (memory-is after h) (entries-after (board .start) (s .mem) low high lens keys code (storedBy does) at width aligned within m (r .entries-hold))
 
   -- at an entry
-  module _ (i pc : ℕ) (slot : i < slots) (pc-is : pc ≡ getD (s .regs) 48 0) (pc-fits : pc < 2 ^ 32)
+  module _ (i pc : ℕ) (slot : i < entries) (pc-is : pc ≡ getD (s .regs) 48 0) (pc-fits : pc < 2 ^ 32)
       (ready : (k < limit) × (getD lens i 0 ≡ 0 → ⊥) × (getD keys i 0 ≡ base + pc)) where
     pub here : Entry (board .start) (s .mem) low high i (getD keys i 0) (getD lens i 0) (getD code i Plain)
     here = r .entries-hold i slot (ready .1)
@@ -243,7 +245,7 @@ module _ (board : Board) (revoked : List ℕ) (n : ℕ) (s₀ : State) (w₀ : W
 -- a new entry, and no step
 pub way-found : (board : Board) (revoked : List ℕ) (n : ℕ) (s₀ : State) (w₀ : Watch) (s : State) (code : List Operation) (keys lens rows : List ℕ)
     (low high base limit : ℕ) (watch : Watch) (trapped k : ℕ) → Running board revoked n s₀ w₀ s code keys lens rows low high base limit watch trapped k
-    → (i key : ℕ) (pcc : Capability) → i < slots → slotOf (pcc .address) ≡ i → key ≡ keyOf (pcc .metadata) (pcc .address) → (f : Found)
+    → (i key : ℕ) (pcc : Capability) → i < entries → slotOf (pcc .address) ≡ slotAt i → key ≡ keyOf (pcc .metadata) (pcc .address) → (f : Found)
     → FoundAt (board .start) (s .mem) pcc f → (low' high' base' : ℕ)
     → low' ≤ low → high ≤ high' → low' ≤ pcc .address - board .start → pcc .address - board .start + 4 ≤ high' → base' ≡ getD (s .regs) 49 0 * 2 ^ 32
     → Running board revoked n s₀ w₀ s (set code i (f .op)) (set keys i key) (set lens i (f .bytes)) rows low' high' base' limit watch trapped k
@@ -273,7 +275,7 @@ way-found board revoked n s₀ w₀ s code keys lens rows low high base limit wa
       watches = r .watches;
     }
 
-pub compare-fits : (regs : List ℕ) → getD regs 70 0 < 2 ^ 32 → getD regs 71 0 < 2 ^ 32 → compareOf regs < 2 ^ 64
+pub compare-fits : (regs : List ℕ) → getD regs compareIndex 0 < 2 ^ 32 → getD regs (compareIndex + 1) 0 < 2 ^ 32 → compareOf regs < 2 ^ 64
 unfolding compareOf
 compare-fits regs a b = omega (arith, a, b)
 

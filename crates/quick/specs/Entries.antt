@@ -31,12 +31,19 @@ use Rattle.quick.specs.Turns.{pccAt}
 
 -- ---- entries
 
--- how many entries there are, and the entry that an address has
+-- how many slots there are, and entries: each slot has two
 abbrev pub slots : ℕ
-slots = 2048
+slots = 1024
 
+abbrev pub entries : ℕ
+entries = 2048
+
+-- the slot of an address, and that of an entry
 abbrev pub slotOf : (a : ℕ) → ℕ
 slotOf a = a / 2 % slots
+
+abbrev pub slotAt : (j : ℕ) → ℕ
+slotAt j = j % slots
 
 -- PCC passes every check of a fetch of four bytes, which are in memory
 pub record Open (start size : ℕ) (pcc : Capability) : Type 0 where
@@ -64,13 +71,13 @@ pub record Decoded (start : ℕ) (mem : List ℕ) (m a bytes : ℕ) (x : Instruc
 abbrev pub keyOf : (m a : ℕ) → ℕ
 keyOf m a = m * 2 ^ 32 + a
 
--- what an entry says: its key's address has its slot, lies in the hull from low to high, counted from memory's start, and holds what the operation means
+-- what entry j says: its key's address has its slot, lies in the hull from low to high, counted from memory's start, and holds what the operation means
 pub record Entry (start : ℕ) (mem : List ℕ) (low high j key bytes : ℕ) (op : Operation) : Type 0 where
   pub word : ℕ
   pub address : ℕ
   pub instruction : Instruction
   pub key-is : key ≡ keyOf word address
-  pub slot-is : slotOf address ≡ j
+  pub slot-is : slotOf address ≡ slotAt j
   pub in-hull : (low ≤ address - start) × (address - start + 4 ≤ high)
   pub decoded : Decoded start mem word address bytes instruction
   pub means : Means op instruction
@@ -79,11 +86,11 @@ pub record Entry (start : ℕ) (mem : List ℕ) (low high j key bytes : ℕ) (op
 -- each entry that has a length is one
 abbrev pub Entries : (start : ℕ) → (mem : List ℕ) → (low high : ℕ) → (lens keys : List ℕ) → (code : List Operation) → Type 0
 Entries start mem low high lens keys code =
-    (j : ℕ) → j < slots → (getD lens j 0 ≡ 0 → ⊥) → Entry start mem low high j (getD keys j 0) (getD lens j 0) (getD code j Plain)
+    (j : ℕ) → j < entries → (getD lens j 0 ≡ 0 → ⊥) → Entry start mem low high j (getD keys j 0) (getD lens j 0) (getD code j Plain)
 
--- a step that stands at an entry for a key
-abbrev pub ReadyIf : Bool → (k limit : ℕ) → (lens keys : List ℕ) → (i key : ℕ) → Type 0
-ReadyIf b k limit lens keys i key = b ≡ true → (k < limit) × (getD lens i 0 ≡ 0 → ⊥) × (getD keys i 0 ≡ key)
+-- the entry i that a step stands at for a key, where it is one
+abbrev pub ReadyAt : (i k limit : ℕ) → (lens keys : List ℕ) → (key : ℕ) → Type 0
+ReadyAt i k limit lens keys key = i < entries → (k < limit) × (getD lens i 0 ≡ 0 → ⊥) × (getD keys i 0 ≡ key)
 
 -- ---- how one is made
 
@@ -116,11 +123,15 @@ FirstLook missed f = (f .bytes ≡ 0 → ⊥) → missed ≡ 0
 
 -- ---- what a store leaves of them
 
--- no entry at the five slots around an address
+-- no entry at the slot of a half's number
+abbrev pub clearedSlot : (half : ℕ) → (lens : List ℕ) → List ℕ
+clearedSlot half lens = set (set lens (half % slots) 0) (half % slots + slots) 0
+
+-- nor at the five slots around an address
 abbrev pub clearedNear : (address : ℕ) → (lens : List ℕ) → List ℕ
 clearedNear address lens =
     let first = address / 2 + slots - 1 in
-    set (set (set (set (set lens (first % slots) 0) ((first + 1) % slots) 0) ((first + 2) % slots) 0) ((first + 3) % slots) 0) ((first + 4) % slots) 0
+    clearedSlot (first + 4) (clearedSlot (first + 3) (clearedSlot (first + 2) (clearedSlot (first + 1) (clearedSlot first lens))))
 
 -- width bytes at a place touch the hull
 abbrev pub touchesHull : (low high at width : ℕ) → Bool
@@ -131,7 +142,7 @@ forgotten low high start at width lens = cond (eqb width 0) lens (cond (touchesH
 
 -- no entry, unless a step trapped
 abbrev pub ClearedUnless : (trapped : ℕ) → (before after : List ℕ) → Type 0
-ClearedUnless trapped before after = ((trapped ≡ 0 → ⊥) × (after ≡ before)) ⊎ ((trapped ≡ 0) × ((j : ℕ) → j < slots → getD after j 0 ≡ 0))
+ClearedUnless trapped before after = ((trapped ≡ 0 → ⊥) × (after ≡ before)) ⊎ ((trapped ≡ 0) × ((j : ℕ) → j < entries → getD after j 0 ≡ 0))
 
 -- ---- how long PCC's word and tag stay and no interrupt is due
 

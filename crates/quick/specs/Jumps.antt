@@ -1,21 +1,22 @@
 -- A turn of a jump. CHERIoT report, 9.4 (CJAL, CJALR); document 02, 14. Assumes nothing.
-use mathlib.Core.Bool.{Bool, true, false}
+use mathlib.Core.Bool.{Bool, true, false, not, _&&_, _||_}
 use mathlib.Core.List.{List}
 use mathlib.Core.Path.{_≡_}
 use Prim.Native.Nat.{ℕ, _+_, _*_, _%_}
 use Rattle.words.specs.Words.{wrap}
-use lib.ListN.{getD}
+use lib.Dec.{eqb}
 use Rattle.metadata.specs.Rights.{EX}
+use Rattle.capability.specs.Capability.{sealed}
+use Rattle.capability.specs.Sealing.{withObjectType}
 use Rattle.capability.specs.declared.Capability.{Capability}
 use Rattle.instructions.specs.declared.BranchKind.{BranchKind}
-use Rattle.instructions.specs.declared.JumpInstruction.the-variants.{Jal, Branch}
+use Rattle.instructions.specs.declared.JumpInstruction.the-variants.{Jal, Jalr, Branch}
 use Rattle.state.specs.Addresses.{targetBytes, targetAlignment}
 use Rattle.state.specs.Lent.{state}
-use Rattle.state.specs.Effects.{Storeless}
-use Rattle.state.specs.declared.Effect.{Effect}
+use Rattle.jump_instructions.specs.Editions.{accepts, linkType}
 use Rattle.jump_instructions.specs.Jumps.{jumpEffect}
 use Rattle.quick.specs.Rows.{Reached}
-use Rattle.quick.specs.Turns.{wentOn, heldAt, pccPlace, Stands, Turned}
+use Rattle.quick.specs.Turns.{wentOn, heldAt, pccAt, pccPlace, Stands, Turned}
 use Rattle.quick.specs.declared.Took.{Took}
 
 -- PCC goes to an aligned target that it reaches; or nothing is changed
@@ -40,13 +41,22 @@ BranchTurns start kind from other offset to before after t =
     (rs1 rs2 m a n edition : ℕ) → (mem tags : List ℕ) → Stands before m a n → to ≡ wrap (a + n) → from ≡ rs1 % 16 * 3 → other ≡ rs2 % 16 * 3
     → Turned start n (jumpEffect n edition (Branch kind rs1 rs2 offset) before) (state before mem tags) (state after mem tags) t
 
--- a target at which PCC keeps its word and its tag, and mstatus as it is
-pub record StaysAt (target : Capability) (mstatus : ℕ) (regs : List ℕ) : Type 0 where
-  pub is-tagged : target .tag ≡ 1
-  pub word-stays : target .metadata ≡ getD regs 49 0
-  pub status-stays : mstatus ≡ getD regs 63 0
+-- the link of a jump: PCC's word at the address after it, sealed by the interrupt status
+abbrev pub linkAt : (edition next word mstatus : ℕ) → Capability
+linkAt edition next word mstatus = withObjectType (pccAt word next) (linkType edition mstatus)
 
--- a jump by its effect, which stores nothing
-abbrev pub JumpTurns : Effect → (before after : List ℕ) → Took → Type 0
-JumpTurns e before after t =
-    (start m a n : ℕ) → (mem tags : List ℕ) → Stands before m a n → Storeless e → Turned start n e (state before mem tags) (state after mem tags) t
+-- CJAL with a link; next is the address after it
+abbrev pub LinkTurns : (start edition rd offset next : ℕ) → (before after : List ℕ) → Took → Type 0
+LinkTurns start edition rd offset next before after t =
+    (m a n : ℕ) → (mem tags : List ℕ) → Stands before m a n → next ≡ wrap (a + n)
+    → Turned start n (jumpEffect n edition (Jal rd offset) before) (state before mem tags) (state after mem tags) t
+
+-- a sealed target is refused: it is not accepted, or there is an offset
+abbrev pub shut : (edition rd rs1 offset : ℕ) → Capability → Bool
+shut edition rd rs1 offset c = sealed c && (not (accepts edition c rd rs1) || not (eqb offset 0))
+
+-- CJALR; next is the address after it
+abbrev pub RegisterTurns : (start edition rd rs1 offset next : ℕ) → (before after : List ℕ) → Took → Type 0
+RegisterTurns start edition rd rs1 offset next before after t =
+    (m a n : ℕ) → (mem tags : List ℕ) → Stands before m a n → next ≡ wrap (a + n)
+    → Turned start n (jumpEffect n edition (Jalr rd rs1 offset) before) (state before mem tags) (state after mem tags) t

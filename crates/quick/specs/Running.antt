@@ -6,20 +6,21 @@ use Prim.Native.Nat.{ℕ, _-_, _≤_}
 use lib.ListN.{length}
 use Rattle.watch.specs.declared.Watch.{Watch}
 use Rattle.operations.specs.declared.Operation.{Operation}
+use Rattle.state.specs.Layout.{registerWords}
 use Rattle.state.specs.Lent.{State}
 use Rattle.state.specs.declared.Board.{Board}
 use Rattle.machine.specs.Run.{ran, iterate}
 use Rattle.machine.specs.Watching.{watchedBy}
 use Rattle.quick.specs.Rows.{Good}
-use Rattle.quick.specs.Entries.{slots, Entries, Calm}
+use Rattle.quick.specs.Entries.{entries, Entries, Calm}
 
 pub record Running (board : Board) (revoked : List ℕ) (n : ℕ) (s₀ : State) (w₀ : Watch) (s : State) (code : List Operation) (keys lens rows : List ℕ)
     (low high base limit : ℕ) (watch : Watch) (trapped k : ℕ) : Type 0 where
   pub in-run : k ≤ n
   pub few-trapped : trapped ≤ k
-  pub whole-file : length (s .regs) ≡ 72
-  pub keys-long : length keys ≡ slots
-  pub code-long : length code ≡ slots
+  pub whole-file : length (s .regs) ≡ registerWords
+  pub keys-long : length keys ≡ entries
+  pub code-long : length code ≡ entries
   pub entries-hold : Entries (board .start) (s .mem) low high lens keys code
   pub reach-holds : Good (board .start) (length (s .mem)) rows
   pub calm-holds : Calm base k limit (s .regs)

@@ -8,6 +8,7 @@ use lib.ListN.{getD, set, length}
 use Rattle.words.specs.Words.{wrap}
 use Rattle.capability.specs.Capability.{capability, moveOf}
 use Rattle.capability.specs.declared.Capability.{Capability}
+use Rattle.state.specs.Layout.{registerWords}
 use Rattle.state.specs.Registers.{pccOf}
 use Rattle.state.specs.Timer.{ticked}
 use Rattle.state.specs.Lent.{State}
@@ -39,7 +40,7 @@ pccAt m a = capability a m 1
 
 -- where a turn stands: the register file is whole, PCC is a tagged word at an address, and it is itself after some bytes
 pub record Stands (regs : List ℕ) (m a bytes : ℕ) : Type 0 where
-  pub long : length regs ≡ 72
+  pub long : length regs ≡ registerWords
   pub pcc-is : pccOf regs ≡ pccAt m a
   pub goes-on : moveOf (pccAt m a) (wrap (a + bytes)) ≡ pccAt m (wrap (a + bytes))
 

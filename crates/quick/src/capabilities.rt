@@ -2,6 +2,7 @@
 ghost use mathlib.Core.Path.{_≡_};
 ghost use Prim.Native.Nat.{_≤_};
 ghost use lib.ListN.{getD, length};
+ghost use Rattle.state.specs.Layout.{registerWords};
 ghost use Rattle.capability.specs.Capability.{moveOf, setBoundsOf};
 ghost use Rattle.capability_instructions.specs.Derivation.{movedBy};
 ghost use Rattle.quick.specs.Turns.{wentOn, writtenAt, heldAt};
@@ -10,7 +11,7 @@ use std::num::wrapping_add_u32;
 
 // CIncAddrImm, AUIPCC and AUICGP.
 pub(crate) fn increment(at: u32, from: u32, offset: u32, regs: &mut [u32], to: u32)
-    requires { ⌜ (length (now regs) ≡ 72) × (at ≤ 45) × (from ≤ 48) ⌝ }
+    requires { ⌜ (length (now regs) ≡ registerWords) × (at ≤ 45) × (from ≤ 48) ⌝ }
     ensures { λ _. ⌜ now (regs .exit)
         ≡ wentOn to (writtenAt at (movedBy (heldAt from (now (regs .entry))) offset) (now (regs .entry))) ⌝ }
 {
@@ -21,7 +22,7 @@ pub(crate) fn increment(at: u32, from: u32, offset: u32, regs: &mut [u32], to: u
 
 // CSetBoundsImm.
 pub(crate) fn cut(at: u32, from: u32, size: u32, regs: &mut [u32], to: u32)
-    requires { ⌜ (length (now regs) ≡ 72) × (at ≤ 45) × (from ≤ 45) ⌝ }
+    requires { ⌜ (length (now regs) ≡ registerWords) × (at ≤ 45) × (from ≤ 45) ⌝ }
     ensures { λ _. ⌜ now (regs .exit)
         ≡ wentOn to (writtenAt at (setBoundsOf (heldAt from (now (regs .entry))) size) (now (regs .entry))) ⌝ }
 {
@@ -31,7 +32,7 @@ pub(crate) fn cut(at: u32, from: u32, size: u32, regs: &mut [u32], to: u32)
 
 // CMove.
 pub(crate) fn copy(at: u32, from: u32, regs: &mut [u32], to: u32)
-    requires { ⌜ (length (now regs) ≡ 72) × (at ≤ 45) × (from ≤ 45) ⌝ }
+    requires { ⌜ (length (now regs) ≡ registerWords) × (at ≤ 45) × (from ≤ 45) ⌝ }
     ensures { λ _. ⌜ now (regs .exit) ≡ wentOn to (writtenAt at (heldAt from (now (regs .entry))) (now (regs .entry))) ⌝ }
 {
     let c = registers::read_capability(regs, from);
@@ -40,7 +41,7 @@ pub(crate) fn copy(at: u32, from: u32, regs: &mut [u32], to: u32)
 
 // CSetAddr.
 pub(crate) fn set_address(at: u32, from: u32, other: u32, regs: &mut [u32], to: u32)
-    requires { ⌜ (length (now regs) ≡ 72) × (at ≤ 45) × (from ≤ 45) × (other ≤ 45) ⌝ }
+    requires { ⌜ (length (now regs) ≡ registerWords) × (at ≤ 45) × (from ≤ 45) × (other ≤ 45) ⌝ }
     ensures { λ _. ⌜ now (regs .exit)
         ≡ wentOn to (writtenAt at (moveOf (heldAt from (now (regs .entry))) (getD (now (regs .entry)) other 0)) (now (regs .entry))) ⌝ }
 {
@@ -51,7 +52,7 @@ pub(crate) fn set_address(at: u32, from: u32, other: u32, regs: &mut [u32], to: 
 
 // CIncAddr.
 pub(crate) fn increment_by(at: u32, from: u32, other: u32, regs: &mut [u32], to: u32)
-    requires { ⌜ (length (now regs) ≡ 72) × (at ≤ 45) × (from ≤ 45) × (other ≤ 45) ⌝ }
+    requires { ⌜ (length (now regs) ≡ registerWords) × (at ≤ 45) × (from ≤ 45) × (other ≤ 45) ⌝ }
     ensures { λ _. ⌜ now (regs .exit)
         ≡ wentOn to (writtenAt at (movedBy (heldAt from (now (regs .entry))) (getD (now (regs .entry)) other 0)) (now (regs .entry))) ⌝ }
 {

@@ -13,16 +13,18 @@ use std::num::wrapping_add_u32;
 ghost use mathlib.Core.Path.{_≡_};
 ghost use mathlib.Core.Bool.{true};
 ghost use Prim.Native.Nat.{_+_, _-_, _^_, _≤_, _<_};
-ghost use Rattle.quick.specs.Entries.{slots, slotOf, OpenIf, FoundIf, FirstLook, FoundAs, ReadyIf, ClearedUnless, clearedNear, forgotten};
+ghost use Rattle.quick.specs.Entries.{slots, entries, slotOf, slotAt, OpenIf, FoundIf, FirstLook, FoundAs, ReadyAt, ClearedUnless, clearedSlot, clearedNear, forgotten};
 
-// How many entries there are.
-pub(crate) const SLOTS: usize = 2048;
+// How many slots there are, and entries: each slot has two, so that two pieces of code at any distance are both kept.
+const SLOTS: usize = 1024;
+
+pub(crate) const ENTRIES: usize = 2048;
 
 // The slot of an address.
 pub(crate) fn slot_of(address: u32) -> usize
     ensures { λ r. ⌜ (r ≡ slotOf address) × (r < slots) ⌝ }
 {
-    (address / 2 % 2048) as usize
+    address as usize / 2 % SLOTS
 }
 
 // Whether a fetch at PCC meets no fault, whichever length stands there.
@@ -89,17 +91,26 @@ pub(crate) fn look(missed: u32, pcc: Capability, start: u32, mem: &[u8]) -> Foun
     }
 }
 
+// No entry left at a slot.
+fn clear_slot(lens: &mut [u32; 2048], half: usize)
+    ensures { λ _. ⌜ now (lens .exit) ≡ clearedSlot half (now (lens .entry)) ⌝ }
+{
+    let slot = half % SLOTS;
+    lens[slot] = 0;
+    lens[slot + SLOTS] = 0;
+}
+
 // No entry left at the five slots around an address.
 fn clear_near(lens: &mut [u32; 2048], address: usize)
     requires { ⌜ address < 2 ^ 33 ⌝ }
     ensures { λ _. ⌜ now (lens .exit) ≡ clearedNear address (now (lens .entry)) ⌝ }
 {
     let first = address / 2 + SLOTS - 1;
-    lens[first % SLOTS] = 0;
-    lens[(first + 1) % SLOTS] = 0;
-    lens[(first + 2) % SLOTS] = 0;
-    lens[(first + 3) % SLOTS] = 0;
-    lens[(first + 4) % SLOTS] = 0;
+    clear_slot(lens, first);
+    clear_slot(lens, first + 1);
+    clear_slot(lens, first + 2);
+    clear_slot(lens, first + 3);
+    clear_slot(lens, first + 4);
 }
 
 // The entries after width bytes are stored at a place.
@@ -158,25 +169,44 @@ pub(crate) fn key_of(base: u64, address: u32) -> u64
     base + address as u64
 }
 
-// Whether step k stands at an entry for a key.
-pub(crate) fn is_ready(
+// The entry that step k stands at, for a key of a slot; where there is none, the number of entries.
+pub(crate) fn entry_for(
     k: u32,
     limit: u32,
     lens: &[u32; 2048],
     keys: &[u64; 2048],
-    i: usize,
+    slot: usize,
     key: u64,
-) -> bool
-    requires { ⌜ i < slots ⌝ }
-    ensures { λ r. ⌜ ReadyIf r k limit (now (lens .entry)) (now (keys .entry)) i key ⌝ }
+) -> usize
+    requires { ⌜ slot < slots ⌝ }
+    ensures { λ r. ⌜ ReadyAt r k limit (now (lens .entry)) (now (keys .entry)) key ⌝ }
 {
     if limit <= k {
-        return false;
+        return ENTRIES;
     }
-    if lens[i] == 0 {
-        return false;
+    if keys[slot] == key {
+        if lens[slot] != 0 {
+            return slot;
+        }
     }
-    keys[i] == key
+    let other = slot + SLOTS;
+    if keys[other] == key {
+        if lens[other] != 0 {
+            return other;
+        }
+    }
+    ENTRIES
+}
+
+// The entry that new code of a slot takes: the first, unless that is in use.
+pub(crate) fn room_at(lens: &[u32; 2048], slot: usize) -> usize
+    requires { ⌜ slot < slots ⌝ }
+    ensures { λ r. ⌜ (slotAt r ≡ slot) × (r < entries) ⌝ }
+{
+    if lens[slot] == 0 {
+        return slot;
+    }
+    slot + SLOTS
 }
 
 // No entry left after a step of which nothing is known, unless it trapped and so stored nothing.
@@ -187,7 +217,7 @@ pub(crate) fn clear_unless(lens: &mut [u32; 2048], trapped: u32)
         return;
     }
     let mut i = 0;
-    while i < SLOTS {
+    while i < ENTRIES {
         lens[i] = 0;
         i += 1;
     }

@@ -2,6 +2,7 @@
 ghost use mathlib.Core.Path.{_≡_};
 ghost use Prim.Native.Nat.{_≤_};
 ghost use lib.ListN.{getD, length};
+ghost use Rattle.state.specs.Layout.{registerWords};
 ghost use Rattle.capability.specs.Capability.{integer};
 ghost use Rattle.integer_instructions.specs.Integer.{aluOf, multipliedOf, dividedOf};
 ghost use Rattle.quick.specs.Turns.{wentOn, writtenAt};
@@ -13,7 +14,7 @@ use std::num::wrapping_add_u32;
 
 // LUI.
 pub(crate) fn put(at: u32, value: u32, regs: &mut [u32], to: u32)
-    requires { ⌜ (length (now regs) ≡ 72) × (at ≤ 45) ⌝ }
+    requires { ⌜ (length (now regs) ≡ registerWords) × (at ≤ 45) ⌝ }
     ensures { λ _. ⌜ now (regs .exit) ≡ wentOn to (writtenAt at (integer value) (now (regs .entry))) ⌝ }
 {
     registers::write(regs, at, capability::integer(value), to);
@@ -21,7 +22,7 @@ pub(crate) fn put(at: u32, value: u32, regs: &mut [u32], to: u32)
 
 // ADDI, the most frequent of OP-IMM.
 pub(crate) fn add_immediate(at: u32, from: u32, value: u32, regs: &mut [u32], to: u32)
-    requires { ⌜ (length (now regs) ≡ 72) × (at ≤ 45) × (from ≤ 45) ⌝ }
+    requires { ⌜ (length (now regs) ≡ registerWords) × (at ≤ 45) × (from ≤ 45) ⌝ }
     ensures { λ _. ⌜ now (regs .exit)
         ≡ wentOn to (writtenAt at (integer (aluOf Alu.Add (getD (now (regs .entry)) from 0) value)) (now (regs .entry))) ⌝ }
 {
@@ -31,7 +32,7 @@ pub(crate) fn add_immediate(at: u32, from: u32, value: u32, regs: &mut [u32], to
 
 // OP-IMM.
 pub(crate) fn immediate(op: Alu, at: u32, from: u32, value: u32, regs: &mut [u32], to: u32)
-    requires { ⌜ (length (now regs) ≡ 72) × (at ≤ 45) × (from ≤ 45) ⌝ }
+    requires { ⌜ (length (now regs) ≡ registerWords) × (at ≤ 45) × (from ≤ 45) ⌝ }
     ensures { λ _. ⌜ now (regs .exit)
         ≡ wentOn to (writtenAt at (integer (aluOf op (getD (now (regs .entry)) from 0) value)) (now (regs .entry))) ⌝ }
 {
@@ -41,7 +42,7 @@ pub(crate) fn immediate(op: Alu, at: u32, from: u32, value: u32, regs: &mut [u32
 
 // OP.
 pub(crate) fn two(op: Alu, at: u32, from: u32, other: u32, regs: &mut [u32], to: u32)
-    requires { ⌜ (length (now regs) ≡ 72) × (at ≤ 45) × (from ≤ 45) × (other ≤ 45) ⌝ }
+    requires { ⌜ (length (now regs) ≡ registerWords) × (at ≤ 45) × (from ≤ 45) × (other ≤ 45) ⌝ }
     ensures { λ _. ⌜ now (regs .exit) ≡ wentOn to
         (writtenAt at (integer (aluOf op (getD (now (regs .entry)) from 0) (getD (now (regs .entry)) other 0))) (now (regs .entry))) ⌝ }
 {
@@ -59,7 +60,7 @@ pub(crate) fn multiply(
     regs: &mut [u32],
     to: u32,
 )
-    requires { ⌜ (length (now regs) ≡ 72) × (at ≤ 45) × (from ≤ 45) × (other ≤ 45) ⌝ }
+    requires { ⌜ (length (now regs) ≡ registerWords) × (at ≤ 45) × (from ≤ 45) × (other ≤ 45) ⌝ }
     ensures { λ _. ⌜ now (regs .exit) ≡ wentOn to
         (writtenAt at (integer (multipliedOf kind (getD (now (regs .entry)) from 0) (getD (now (regs .entry)) other 0))) (now (regs .entry))) ⌝ }
 {
@@ -70,7 +71,7 @@ pub(crate) fn multiply(
 
 // DIV and REM.
 pub(crate) fn divide(kind: DivideKind, at: u32, from: u32, other: u32, regs: &mut [u32], to: u32)
-    requires { ⌜ (length (now regs) ≡ 72) × (at ≤ 45) × (from ≤ 45) × (other ≤ 45) ⌝ }
+    requires { ⌜ (length (now regs) ≡ registerWords) × (at ≤ 45) × (from ≤ 45) × (other ≤ 45) ⌝ }
     ensures { λ _. ⌜ now (regs .exit) ≡ wentOn to
         (writtenAt at (integer (dividedOf kind (getD (now (regs .entry)) from 0) (getD (now (regs .entry)) other 0))) (now (regs .entry))) ⌝ }
 {

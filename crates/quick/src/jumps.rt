@@ -1,11 +1,11 @@
-// Jumps after which PCC is itself at the target, so that one word of it changes: those that link no register, to a target in PCC's remembered row, and
-// those whose effect says so.
+// Jumps to a target in PCC's remembered row, after which PCC is itself at the target: one word of it changes.
 ghost use mathlib.Core.Path.{_≡_};
-ghost use mathlib.Core.Bool.{true};
+ghost use mathlib.Core.Bool.{true, false};
 ghost use Prim.Native.Nat.{_≤_};
 ghost use lib.ListN.{length};
+ghost use Rattle.state.specs.Layout.{registerWords};
 ghost use Rattle.quick.specs.Rows.{Good};
-ghost use Rattle.quick.specs.Jumps.{Went, GoTurns, BranchTurns, StaysAt, JumpTurns};
+ghost use Rattle.quick.specs.Jumps.{Went, GoTurns, BranchTurns, linkAt, LinkTurns, shut, RegisterTurns};
 ghost use Rattle.quick.specs.Steady.{SteadyIf};
 use crate::Took;
 use crate::pace::STATUS_PLACE;
@@ -17,14 +17,13 @@ use crate::rows::ROW_OF_PCC;
 use crate::turn;
 use capability::Capability;
 use instructions::BranchKind;
-use state::Effect;
 use state::TARGET_ALIGNMENT;
 use state::TARGET_BYTES;
 use std::num::wrapping_add_u32;
 
 // PCC at a target that it reaches; else nothing is changed.
 fn go_to(rows: &[u64; 99], regs: &mut [u32], start: u32, size: usize, to: u32) -> Took
-    requires { ⌜ (length (now regs) ≡ 72) × Good start size (now rows) ⌝ }
+    requires { ⌜ (length (now regs) ≡ registerWords) × Good start size (now rows) ⌝ }
     ensures { λ t. ⌜ Went start size to (now (regs .entry)) (now (regs .exit)) t ⌝ }
 {
     if to % TARGET_ALIGNMENT != 0 {
@@ -34,7 +33,7 @@ fn go_to(rows: &[u64; 99], regs: &mut [u32], start: u32, size: usize, to: u32) -
             width: 0,
         };
     }
-    let pcc = registers::read_capability(regs, PCC_PLACE as u32);
+    let pcc = registers::read_pcc(regs);
     if rows::has(rows, ROW_OF_PCC, pcc, to, TARGET_BYTES) {
         registers::go_on(regs, to);
         return Took {
@@ -58,7 +57,7 @@ pub(crate) fn take_go(
     start: u32,
     size: usize,
 ) -> Took
-    requires { ⌜ (length (now regs) ≡ 72) × Good start size (now rows) ⌝ }
+    requires { ⌜ (length (now regs) ≡ registerWords) × Good start size (now rows) ⌝ }
     ensures { λ t. ⌜ GoTurns start offset (now (regs .entry)) (now (regs .exit)) t
         × SteadyIf (t .done) (now (regs .entry)) (now (regs .exit)) ⌝ }
 {
@@ -78,7 +77,7 @@ pub(crate) fn take_branch(
     size: usize,
     to: u32,
 ) -> Took
-    requires { ⌜ (length (now regs) ≡ 72) × (from ≤ 45) × (other ≤ 45) × Good start size (now rows) ⌝ }
+    requires { ⌜ (length (now regs) ≡ registerWords) × (from ≤ 45) × (other ≤ 45) × Good start size (now rows) ⌝ }
     ensures { λ t. ⌜ BranchTurns start kind from other offset to (now (regs .entry)) (now (regs .exit)) t
         × SteadyIf (t .done) (now (regs .entry)) (now (regs .exit)) ⌝ }
 {
@@ -96,38 +95,97 @@ pub(crate) fn take_branch(
     }
 }
 
-// Whether PCC keeps its word and tag at a target, and mstatus stays.
-fn is_steady(target: Capability, mstatus: u32, regs: &[u32]) -> bool
-    requires { ⌜ length (now regs) ≡ 72 ⌝ }
-    ensures { λ r. ⌜ (r ≡ true → StaysAt target mstatus (now (regs .entry))) ⌝ }
+// The link of a jump: PCC's word at the address after it, sealed.
+fn link_at(edition: u32, next: u32, word: u32, mstatus: u32) -> Capability
+    ensures { λ r. ⌜ r ≡ linkAt edition next word mstatus ⌝ }
 {
-    if target.tag != 1 {
-        return false;
-    }
-    if target.metadata != regs[WORD_PLACE] {
-        return false;
-    }
-    mstatus == regs[STATUS_PLACE]
+    let after = Capability {
+        address: next,
+        metadata: word,
+        tag: 1,
+    };
+    capability::with_object_type(after, jump_instructions::link_type(edition, mstatus))
 }
 
-// A jump by its effect, where PCC keeps its word and mstatus stays; else nothing is changed.
-pub(crate) fn take_jump(e: Effect, regs: &mut [u32]) -> Took
-    requires { ⌜ length (now regs) ≡ 72 ⌝ }
-    ensures { λ t. ⌜ JumpTurns e (now (regs .entry)) (now (regs .exit)) t × SteadyIf (t .done) (now (regs .entry)) (now (regs .exit)) ⌝ }
+// CJAL with a link; next is the address after it.
+pub(crate) fn take_link(
+    edition: u32,
+    rd: u32,
+    offset: u32,
+    rows: &[u64; 99],
+    regs: &mut [u32],
+    start: u32,
+    size: usize,
+    next: u32,
+) -> Took
+    requires { ⌜ (length (now regs) ≡ registerWords) × Good start size (now rows) ⌝ }
+    ensures { λ t. ⌜ LinkTurns start edition rd offset next (now (regs .entry)) (now (regs .exit)) t
+        × SteadyIf (t .done) (now (regs .entry)) (now (regs .exit)) ⌝ }
 {
-    match e {
-        Effect::Jump {
-            rd,
-            link,
-            target,
-            mstatus,
-        } => {
-            if is_steady(target, mstatus, regs) {
-                registers::write(regs, operations::place_of(rd), link, target.address);
-                return turn::done();
-            }
-            turn::left()
-        }
-        _ => turn::left(),
+    let to = wrapping_add_u32(regs[PCC_PLACE], offset);
+    if to % TARGET_ALIGNMENT != 0 {
+        return turn::left();
     }
+    let pcc = registers::read_pcc(regs);
+    if !rows::has(rows, ROW_OF_PCC, pcc, to, TARGET_BYTES) {
+        return turn::left();
+    }
+    let link = link_at(edition, next, pcc.metadata, regs[STATUS_PLACE]);
+    registers::write(regs, operations::place_of(rd), link, to);
+    turn::done()
+}
+
+// Whether a sealed capability may be jumped to.
+fn is_entered(edition: u32, rd: u32, rs1: u32, offset: u32, c: Capability) -> bool
+    ensures { λ r. ⌜ (r ≡ true → shut edition rd rs1 offset c ≡ false) ⌝ }
+{
+    if !capability::is_sealed(c) {
+        return true;
+    }
+    if offset != 0 {
+        return false;
+    }
+    jump_instructions::accepts(edition, c, rd, rs1)
+}
+
+// CJALR to a capability of PCC's word, mstatus as it is; next is the address after it.
+pub(crate) fn take_register(
+    edition: u32,
+    rd: u32,
+    rs1: u32,
+    offset: u32,
+    rows: &[u64; 99],
+    regs: &mut [u32],
+    start: u32,
+    size: usize,
+    next: u32,
+) -> Took
+    requires { ⌜ (length (now regs) ≡ registerWords) × Good start size (now rows) ⌝ }
+    ensures { λ t. ⌜ RegisterTurns start edition rd rs1 offset next (now (regs .entry)) (now (regs .exit)) t
+        × SteadyIf (t .done) (now (regs .entry)) (now (regs .exit)) ⌝ }
+{
+    let c = registers::read_capability(regs, operations::place_of(rs1));
+    let to = wrapping_add_u32(c.address, offset) / 2 * 2;
+    let open = capability::with_object_type(c, 0);
+    let word = regs[WORD_PLACE];
+    let mstatus = regs[STATUS_PLACE];
+    if open.metadata != word {
+        return turn::left();
+    }
+    if !rows::has(rows, ROW_OF_PCC, open, to, TARGET_BYTES) {
+        return turn::left();
+    }
+    if !is_entered(edition, rd, rs1, offset, c) {
+        return turn::left();
+    }
+    if jump_instructions::jump_status(edition, metadata::otype(c.metadata), mstatus) != mstatus {
+        return turn::left();
+    }
+    registers::write(
+        regs,
+        operations::place_of(rd),
+        link_at(edition, next, word, mstatus),
+        to,
+    );
+    turn::done()
 }

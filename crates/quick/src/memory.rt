@@ -3,6 +3,7 @@ ghost use mathlib.Core.Path.{_≡_};
 ghost use mathlib.Core.Bool.{true, false, not};
 ghost use Prim.Native.Nat.{_≤_};
 ghost use lib.ListN.{length};
+ghost use Rattle.state.specs.Layout.{registerWords};
 ghost use Rattle.words.specs.Words.{putBit};
 ghost use Rattle.capability.specs.Capability.{keepTagIf};
 ghost use Rattle.state.specs.Memory.{loadWidth, storeWidth};
@@ -43,7 +44,7 @@ pub(crate) fn take_word(
     mem: &[u8],
     to: u32,
 ) -> Took
-    requires { ⌜ (length (now regs) ≡ 72) × (at ≤ 45) × Place from × Good start (length (now mem)) (now rows) ⌝ }
+    requires { ⌜ (length (now regs) ≡ registerWords) × (at ≤ 45) × Place from × Good start (length (now mem)) (now rows) ⌝ }
     ensures { λ r. ⌜ Good start (length (now (mem .entry))) (now (rows .exit))
         × Loads LoadKind.Lw at from offset to start (now (mem .entry)) (now (regs .entry)) (now (regs .exit)) r ⌝ }
 {
@@ -97,7 +98,7 @@ pub(crate) fn take_small(
     mem: &[u8],
     to: u32,
 ) -> Took
-    requires { ⌜ (length (now regs) ≡ 72) × (at ≤ 45) × Place from × Good start (length (now mem)) (now rows) ⌝ }
+    requires { ⌜ (length (now regs) ≡ registerWords) × (at ≤ 45) × Place from × Good start (length (now mem)) (now rows) ⌝ }
     ensures { λ r. ⌜ Good start (length (now (mem .entry))) (now (rows .exit))
         × Loads kind at from offset to start (now (mem .entry)) (now (regs .entry)) (now (regs .exit)) r ⌝ }
 {
@@ -166,7 +167,7 @@ pub(crate) fn take_store_word(
     tags: &mut [u8],
     to: u32,
 ) -> Took
-    requires { ⌜ (length (now regs) ≡ 72) × (other ≤ 45) × Place from × Good start (length (now mem)) (now rows) ⌝ }
+    requires { ⌜ (length (now regs) ≡ registerWords) × (other ≤ 45) × Place from × Good start (length (now mem)) (now rows) ⌝ }
     ensures { λ r. ⌜ Good start (length (now (mem .entry))) (now (rows .exit))
         × Stores StoreKind.Sw from other offset to start (state (now (regs .entry)) (now (mem .entry)) (now (tags .entry)))
         (state (now (regs .exit)) (now (mem .exit)) (now (tags .exit))) r ⌝ }
@@ -222,7 +223,7 @@ pub(crate) fn take_store_small(
     tags: &mut [u8],
     to: u32,
 ) -> Took
-    requires { ⌜ (length (now regs) ≡ 72) × (other ≤ 45) × Place from × Good start (length (now mem)) (now rows) ⌝ }
+    requires { ⌜ (length (now regs) ≡ registerWords) × (other ≤ 45) × Place from × Good start (length (now mem)) (now rows) ⌝ }
     ensures { λ r. ⌜ Good start (length (now (mem .entry))) (now (rows .exit))
         × Stores kind from other offset to start (state (now (regs .entry)) (now (mem .entry)) (now (tags .entry)))
         (state (now (regs .exit)) (now (mem .exit)) (now (tags .exit))) r ⌝ }
@@ -276,7 +277,7 @@ pub(crate) fn take_load_capability(
     revoked: &[u8],
     to: u32,
 ) -> Took
-    requires { ⌜ (length (now regs) ≡ 72) × (at ≤ 45) × Place from × Good (board .start) (length (now mem)) (now rows) ⌝ }
+    requires { ⌜ (length (now regs) ≡ registerWords) × (at ≤ 45) × Place from × Good (board .start) (length (now mem)) (now rows) ⌝ }
     ensures { λ r. ⌜ Good (board .start) (length (now (mem .entry))) (now (rows .exit))
         × LoadsCapability at from offset to (lent board (now (mem .entry)) (now (tags .entry)) (now (revoked .entry)))
         (now (regs .entry)) (now (regs .exit)) r ⌝ }
@@ -332,7 +333,7 @@ pub(crate) fn take_store_capability(
     tags: &mut [u8],
     to: u32,
 ) -> Took
-    requires { ⌜ (length (now regs) ≡ 72) × (other ≤ 45) × Place from × Good start (length (now mem)) (now rows) ⌝ }
+    requires { ⌜ (length (now regs) ≡ registerWords) × (other ≤ 45) × Place from × Good start (length (now mem)) (now rows) ⌝ }
     ensures { λ r. ⌜ Good start (length (now (mem .entry))) (now (rows .exit))
         × StoresCapability from other offset to start (state (now (regs .entry)) (now (mem .entry)) (now (tags .entry)))
         (state (now (regs .exit)) (now (mem .exit)) (now (tags .exit))) r ⌝ }

@@ -2,36 +2,37 @@
 ghost use mathlib.Core.Path.{_≡_};
 ghost use Prim.Native.Nat.{_≤_};
 ghost use lib.ListN.{getD, length};
+ghost use Rattle.state.specs.Layout.{registerWords};
 ghost use Rattle.state.specs.Marks.{marked};
-ghost use Rattle.quick.specs.Turns.{wentOn, writtenAt, heldAt};
+ghost use Rattle.quick.specs.Turns.{pccPlace, wentOn, writtenAt, heldAt};
 use capability::Capability;
+use state::CONTROL_START;
+use state::TIME_INDEX;
 use std::num::wrapping_add_u32;
 
-// The places of PCC's address, of the mark and its base, and of time.
+// The places of PCC's address, and of the mark and its base.
 pub(crate) const PCC_PLACE: usize = 48;
 
-pub(crate) const MARK_PLACE: usize = 66;
+const MARK_PLACE: usize = CONTROL_START + 3;
 
-pub(crate) const BASE_PLACE: usize = 67;
-
-pub(crate) const TIME_PLACE: usize = 68;
+const BASE_PLACE: usize = CONTROL_START + 4;
 
 // PCC at an address of the same word, and time one on.
 pub(crate) fn go_on(regs: &mut [u32], to: u32)
-    requires { ⌜ length (now regs) ≡ 72 ⌝ }
+    requires { ⌜ length (now regs) ≡ registerWords ⌝ }
     ensures { λ _. ⌜ now (regs .exit) ≡ wentOn to (now (regs .entry)) ⌝ }
 {
     regs[PCC_PLACE] = to;
-    let low = wrapping_add_u32(regs[TIME_PLACE], 1);
-    regs[TIME_PLACE] = low;
+    let low = wrapping_add_u32(regs[TIME_INDEX], 1);
+    regs[TIME_INDEX] = low;
     if low == 0 {
-        regs[TIME_PLACE + 1] = wrapping_add_u32(regs[TIME_PLACE + 1], 1);
+        regs[TIME_INDEX + 1] = wrapping_add_u32(regs[TIME_INDEX + 1], 1);
     }
 }
 
 // A register written, and on.
 pub(crate) fn write(regs: &mut [u32], at: u32, c: Capability, to: u32)
-    requires { ⌜ (length (now regs) ≡ 72) × (at ≤ 45) ⌝ }
+    requires { ⌜ (length (now regs) ≡ registerWords) × (at ≤ 45) ⌝ }
     ensures { λ _. ⌜ now (regs .exit) ≡ wentOn to (writtenAt at c (now (regs .entry))) ⌝ }
 {
     let i = at as usize;
@@ -45,7 +46,7 @@ pub(crate) fn write(regs: &mut [u32], at: u32, c: Capability, to: u32)
 
 // The integer in a register.
 pub(crate) fn read(regs: &[u32], from: u32) -> u32
-    requires { ⌜ (length (now regs) ≡ 72) × (from ≤ 45) ⌝ }
+    requires { ⌜ (length (now regs) ≡ registerWords) × (from ≤ 45) ⌝ }
     ensures { λ r. ⌜ r ≡ getD (now (regs .entry)) from 0 ⌝ }
 {
     regs[from as usize]
@@ -53,7 +54,7 @@ pub(crate) fn read(regs: &[u32], from: u32) -> u32
 
 // The capability at a place.
 pub(crate) fn read_capability(regs: &[u32], from: u32) -> Capability
-    requires { ⌜ (length (now regs) ≡ 72) × (from ≤ 48) ⌝ }
+    requires { ⌜ (length (now regs) ≡ registerWords) × (from ≤ 48) ⌝ }
     ensures { λ r. ⌜ r ≡ heldAt from (now (regs .entry)) ⌝ }
 {
     let i = from as usize;
@@ -64,9 +65,17 @@ pub(crate) fn read_capability(regs: &[u32], from: u32) -> Capability
     }
 }
 
+// PCC.
+pub(crate) fn read_pcc(regs: &[u32]) -> Capability
+    requires { ⌜ length (now regs) ≡ registerWords ⌝ }
+    ensures { λ r. ⌜ r ≡ heldAt pccPlace (now (regs .entry)) ⌝ }
+{
+    read_capability(regs, PCC_PLACE as u32)
+}
+
 // The mark after a store at an address.
 pub(crate) fn mark(regs: &mut [u32], address: u32)
-    requires { ⌜ length (now regs) ≡ 72 ⌝ }
+    requires { ⌜ length (now regs) ≡ registerWords ⌝ }
     ensures { λ _. ⌜ now (regs .exit) ≡ marked address (now (regs .entry)) ⌝ }
 {
     if regs[BASE_PLACE] <= address {

@@ -1,6 +1,6 @@
-// The loop of the second engine. Its arrays of operations stay in its own frame: they are not lent.
+// The loop of the second engine. Its array of operations stays in its own frame: an array of enums is not lent. Those of numbers are.
 use crate::entries;
-use crate::entries::SLOTS;
+use crate::entries::ENTRIES;
 use crate::pace;
 use crate::registers;
 use crate::registers::PCC_PLACE;
@@ -15,6 +15,7 @@ use watch::Watch;
 ghost use mathlib.Core.Path.{_≡_};
 ghost use Prim.Native.Nat.{_%_};
 ghost use lib.ListN.{length};
+ghost use Rattle.state.specs.Layout.{registerWords};
 ghost use Rattle.state.specs.Lent.{state};
 ghost use Rattle.machine.specs.Run.{ran, iterate};
 ghost use Rattle.machine.specs.Watching.{watchedBy};
@@ -22,6 +23,9 @@ ghost use Rattle.quick.specs.Entries.{notedAt};
 
 // No address is so high: the low end of the hull of no entries.
 const NO_LOW: u64 = 0xFFFF_FFFF_FFFF_FFFF;
+
+// The bytes that an entry's instruction lies in.
+const MOST_BYTES: u64 = 4;
 
 // The record after a turn that is done.
 fn noted(w: Watch, start: u32, at: u32, width: u32) -> Watch
@@ -43,14 +47,14 @@ pub(crate) fn take_quick(
     n: u32,
     w: Watch,
 ) -> Tally
-    requires { ⌜ (length (now regs) ≡ 72) × (board .start % 8 ≡ 0) ⌝ }
+    requires { ⌜ (length (now regs) ≡ registerWords) × (board .start % 8 ≡ 0) ⌝ }
     ensures { λ r. ⌜ (ran (state (now (regs .exit)) (now (mem .exit)) (now (tags .exit))) (r .retired) (r .trapped)
         ≡ iterate n board (now (revoked .entry)) (ran (state (now (regs .entry)) (now (mem .entry)) (now (tags .entry))) 0 0))
         × (r .watch ≡ watchedBy n board (now (revoked .entry)) (state (now (regs .entry)) (now (mem .entry)) (now (tags .entry))) w) ⌝ }
 {
-    let mut code = [Operation::Plain; SLOTS];
-    let mut keys = [0u64; SLOTS];
-    let mut lens = [0u32; SLOTS];
+    let mut code = [Operation::Plain; ENTRIES];
+    let mut keys = [0u64; ENTRIES];
+    let mut lens = [0u32; ENTRIES];
     let mut rows = [0u64; ROW_WORDS];
     let mut low = NO_LOW;
     let mut high: u64 = 0;
@@ -62,8 +66,9 @@ pub(crate) fn take_quick(
     let mut k: u32 = 0;
     while k < n {
         let pc = regs[PCC_PLACE];
-        let i = entries::slot_of(pc);
-        if entries::is_ready(k, limit, &lens, &keys, i, entries::key_of(base, pc)) {
+        let slot = entries::slot_of(pc);
+        let i = entries::entry_for(k, limit, &lens, &keys, slot, entries::key_of(base, pc));
+        if i < ENTRIES {
             let op = code[i];
             let bytes = lens[i];
             let t = turn::turn(op, bytes, &mut rows, regs, board, mem, tags, revoked);
@@ -77,12 +82,7 @@ pub(crate) fn take_quick(
                 watch = noted(watch, board.start, t.at, t.width);
                 continue;
             }
-            rows::learn(
-                &mut rows,
-                registers::read_capability(regs, 48),
-                board.start,
-                mem.len(),
-            );
+            rows::learn(&mut rows, registers::read_pcc(regs), board.start, mem.len());
             let p = machine::take_watched(regs, board, mem, tags, revoked, 1, watch);
             watch = p.watch;
             trapped += p.trapped;
@@ -90,21 +90,17 @@ pub(crate) fn take_quick(
             limit = pace::limit_from(regs, k, n);
             continue;
         }
-        let f = entries::look(
-            missed,
-            registers::read_capability(regs, 48),
-            board.start,
-            mem,
-        );
+        let f = entries::look(missed, registers::read_pcc(regs), board.start, mem);
         base = pace::base_of(regs);
         if f.bytes != 0 {
             let op = f.op;
             let at = entries::place_in(board.start, pc);
-            code[i] = op;
-            keys[i] = entries::key_of(base, pc);
-            lens[i] = f.bytes;
+            let j = entries::room_at(&lens, slot);
+            code[j] = op;
+            keys[j] = entries::key_of(base, pc);
+            lens[j] = f.bytes;
             low = entries::smaller(low, at);
-            high = entries::larger(high, at + 4);
+            high = entries::larger(high, at + MOST_BYTES);
             missed = 1;
             continue;
         }
@@ -137,7 +133,7 @@ pub(crate) fn take_steps(
     n: u32,
     w: Watch,
 ) -> Tally
-    requires { ⌜ (length (now regs) ≡ 72) × (board .start % 8 ≡ 0) ⌝ }
+    requires { ⌜ (length (now regs) ≡ registerWords) × (board .start % 8 ≡ 0) ⌝ }
     ensures { λ r. ⌜ (ran (state (now (regs .exit)) (now (mem .exit)) (now (tags .exit))) (r .retired) (r .trapped)
         ≡ iterate n board (now (revoked .entry)) (ran (state (now (regs .entry)) (now (mem .entry)) (now (tags .entry))) 0 0))
         × (r .watch ≡ watchedBy n board (now (revoked .entry)) (state (now (regs .entry)) (now (mem .entry)) (now (tags .entry))) w) ⌝ }

@@ -1,6 +1,7 @@
 // The turn of an operation: each has its own function.
 ghost use mathlib.Core.Path.{_≡_};
 ghost use lib.ListN.{length};
+ghost use Rattle.state.specs.Layout.{registerWords};
 ghost use Rattle.operations.specs.Means.{Placed};
 ghost use Rattle.state.specs.Lent.{state};
 ghost use Rattle.quick.specs.Rows.{Good};
@@ -48,7 +49,7 @@ pub(crate) fn turn(
     tags: &mut [u8],
     revoked: &[u8],
 ) -> Took
-    requires { ⌜ (length (now regs) ≡ 72) × Placed op × Good (board .start) (length (now mem)) (now rows) ⌝ }
+    requires { ⌜ (length (now regs) ≡ registerWords) × Placed op × Good (board .start) (length (now mem)) (now rows) ⌝ }
     ensures { λ t. ⌜ Good (board .start) (length (now (mem .entry))) (now (rows .exit))
         × TurnedBy board (now (revoked .entry)) op bytes (state (now (regs .entry)) (now (mem .entry)) (now (tags .entry)))
         (state (now (regs .exit)) (now (mem .exit)) (now (tags .exit))) t ⌝ }
@@ -103,12 +104,20 @@ pub(crate) fn turn(
         }
         Operation::Go { offset } => jumps::take_go(offset, rows, regs, start, mem.len()),
         Operation::JumpLink { rd, offset } => {
-            let e = jump_instructions::jal_again(bytes, board.edition, rd, offset, regs);
-            jumps::take_jump(e, regs)
+            jumps::take_link(board.edition, rd, offset, rows, regs, start, mem.len(), to)
         }
         Operation::JumpRegister { rd, rs1, offset } => {
-            let e = jump_instructions::jalr_again(bytes, board.edition, rd, rs1, offset, regs);
-            jumps::take_jump(e, regs)
+            jumps::take_register(
+                board.edition,
+                rd,
+                rs1,
+                offset,
+                rows,
+                regs,
+                start,
+                mem.len(),
+                to,
+            )
         }
         Operation::Branch {
             kind,

@@ -8,19 +8,15 @@ use Rattle.quick.proofs.jumps.go_to.Tie as tie
 
 returns-2 : tie.Need-returns-2
 returns-2 c =
-    let test = c .before .before .before .before in
-    let held = test .before .before in
-    let start = held .before .before .before .before in
-    let there = rw (held .read-capability .ensures) at (test .before .has .ensures (test .if2 .taken)) in
-    let reach = reached _ _ _ 96 _ _ _ (start .pre .1) (omega arith) refl (there .0) (there .1) (omega (arith, start .fits .to))
-    (there .2) in
-    ((c .before .before .go-on .ensures, held .before .before .if1 .left, reach), refl)
+    let c8 = c .before .before .before .before .before .before .before .before in
+    let there = rw (c .before .before .before .before .before .before .read-pcc .ensures) at (c .before .before .before .before .before .has .ensures (c .before .before .before .before .if2 .taken)) in
+    let reach = reached _ _ _ 96 _ _ _ (c8 .before .before .pre .1) (omega arith) refl (there .0) (there .1) (omega (arith, c8 .before .before .fits .to)) (there .2) in
+    ((c .before .before .go-on .ensures, c8 .if1 .left, reach), refl)
 
 pub go-to-spec : {M : Type 1} → statement M
 go-to-spec =
     tie.close
     (tie.spec
-    (λ c. search needs)
     (λ c. search needs)
     (λ c κs. search needs)
     (λ c κs. search needs)

@@ -5,6 +5,7 @@ use mathlib.Core.Logic.{inl, inr}
 use mathlib.Core.List.{List}
 use Prim.Native.Nat.{ℕ, _+_, _*_, _^_, _≤_}
 use lib.ListN.{getD}
+use Rattle.state.specs.Layout.{timeIndex, compareIndex}
 use Rattle.state.specs.Timer.{timeOf, compareOf}
 use borrow.Author.Needs.{needs}
 use Rattle.quick.proofs.pace.quiet_steps.Statement.{statement}
@@ -15,7 +16,7 @@ use Rattle.quick.proofs.pace.long_of.Reads as long-of-reads
 use Rattle.state.proofs.mie_of.Reads as mie-of-reads
 
 -- steps that end before compare, by the two numbers
-before-compare : (regs : List ℕ) (time compare left : ℕ) → time ≡ getD regs 69 0 * 2 ^ 32 + getD regs 68 0 → compare ≡ getD regs 71 0 * 2 ^ 32 + getD regs 70 0
+before-compare : (regs : List ℕ) (time compare left : ℕ) → time ≡ getD regs (timeIndex + 1) 0 * 2 ^ 32 + getD regs timeIndex 0 → compare ≡ getD regs (compareIndex + 1) 0 * 2 ^ 32 + getD regs compareIndex 0
     → time + left ≤ compare → timeOf regs + left ≤ compareOf regs
 unfolding timeOf compareOf
 before-compare regs time compare left t c h = rw (t, c) at h

@@ -1,7 +1,9 @@
 -- PCC's word, and the next time by the low word's carry.
 use mathlib.Core.Path.{sym, _∙_}
+use Prim.Native.Nat.{_+_}
 use lib.ListN.{length-set}
 use native.Mathlib.Omega.{arith}
+use Rattle.state.specs.Layout.{timeIndex}
 use Rattle.quick.proofs.Onward.{wraps-largest, wraps-below, ticked-carry, ticked-low}
 use borrow.Author.Needs.{needs}
 use Rattle.quick.proofs.registers.go_on.Statement.{statement}
@@ -18,15 +20,15 @@ returns c =
     let sum = c .before .before .before in
     let file = sum .before in
     let zero = c .before .before .if1 .taken in
-    let largest = wraps-largest _ (file .slice-known2 .given 68 .fits) (sym (sum .wrapping-add-u32 .ensures) ∙ zero) in
-    rw (c .wrapping-add-u322 .ensures, zero) (sym (ticked-carry _ largest (file .slice-known2 .given 69 .fits)))
+    let largest = wraps-largest _ (file .slice-known2 .given timeIndex .fits) (sym (sum .wrapping-add-u32 .ensures) ∙ zero) in
+    rw (c .wrapping-add-u322 .ensures, zero) (sym (ticked-carry _ largest (file .slice-known2 .given (timeIndex + 1) .fits)))
 
 returns-2 : tie.Need-returns-2
 returns-2 c =
     let sum = c .before in
     let file = sum .before in
-    let below = wraps-below _ (file .slice-known2 .given 68 .fits) (λ q. c .if1 .left (sum .wrapping-add-u32 .ensures ∙ q)) in
-    rw (sum .wrapping-add-u32 .ensures, below .1) (sym (ticked-low _ (below .0) (file .slice-known2 .given 69 .fits)))
+    let below = wraps-below _ (file .slice-known2 .given timeIndex .fits) (λ q. c .if1 .left (sum .wrapping-add-u32 .ensures ∙ q)) in
+    rw (sum .wrapping-add-u32 .ensures, below .1) (sym (ticked-low _ (below .0) (file .slice-known2 .given (timeIndex + 1) .fits)))
 
 pub go-on-spec : {M : Type 1} → statement M
 go-on-spec =

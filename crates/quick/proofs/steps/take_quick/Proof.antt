@@ -7,13 +7,14 @@ use mathlib.Core.Path.{_≡_, refl, sym, ap, _∙_}
 use Prim.Native.Nat.{ℕ, _+_, _-_, _*_, _≤_, _<_}
 use lib.ListN.{getD, length, replicate, length-replicate}
 use Rattle.capability.specs.declared.Capability.{Capability}
+use Rattle.state.specs.Layout.{compareIndex}
 use Rattle.state.specs.Lent.{state}
 use Rattle.operations.specs.declared.Operation.{Operation}
 use Rattle.operations.specs.declared.Operation.the-variants.{Plain}
 use Rattle.machine.specs.Run.{ran, iterate}
 use Rattle.machine.specs.Watching.{watchedBy}
 use Rattle.quick.specs.Turns.{heldAt}
-use Rattle.quick.specs.Entries.{slots}
+use Rattle.quick.specs.Entries.{entries}
 use Rattle.quick.specs.Running.{Running}
 use Rattle.quick.proofs.Forget.{entries-none}
 use Rattle.quick.proofs.Reach.{good-empty}
@@ -33,15 +34,12 @@ abbrev μ-loop : tie.MeasureT-loop
     regs mem tags code keys lens rows low high base limit missed watch trapped k =
     2 * (n - k) + (1 - missed)
 
--- src/steps.rt:57:9
 base-of-requires : tie.Need-base-of-requires Inv-loop μ-loop
 base-of-requires c κs = c .before .before .before .before .before .pre .0
 
--- src/steps.rt:58:9
 limit-from-requires : tie.Need-limit-from-requires Inv-loop μ-loop
 limit-from-requires c κs = (c .before .before .before .before .before .before .before .pre .0, omega arith)
 
--- src/steps.rt:63:5
 loop-holds : tie.Need-loop-holds Inv-loop μ-loop
 loop-holds c =
     let c8 = c .before .before .before .before .before .before .before .before in
@@ -49,7 +47,7 @@ loop-holds c =
     let n = a .n in
     let z : n - 0 ≡ n = omega arith in
     let none : List ℕ = replicate 2048 0 in
-    let zs : (j : ℕ) → j < slots → _≡_ {A = ℕ} (getD none j 0) 0 = λ j l. zeros 2048 j in (
+    let zs : (j : ℕ) → j < entries → _≡_ {A = ℕ} (getD none j 0) 0 = λ j l. zeros 2048 j in (
       record {
         in-run = omega arith;
         few-trapped = omega arith;
@@ -67,59 +65,48 @@ loop-holds c =
       refl,
     )
 
--- src/steps.rt:64:18
 slice-read-pc : tie.Need-slice-read-pc Inv-loop μ-loop
 slice-read-pc c = omega (arith, c .before .before .loop .inv .0 .whole-file)
 
--- src/steps.rt:65:13
 slot-of-requires : tie.Need-slot-of-requires Inv-loop μ-loop
 slot-of-requires c κs = search needs
 
--- src/steps.rt:66:57
 key-of-requires : tie.Need-key-of-requires Inv-loop μ-loop
 key-of-requires c κs =
     omega (arith, c .before .before .before .before .before .loop .inv .0 .calm-holds .0, c .before .before .before .slice-known4 .given 49)
 
--- src/steps.rt:66:12
-is-ready-requires : tie.Need-is-ready-requires Inv-loop μ-loop
-is-ready-requires c κs = c .before .before .before .slot-of .ensures .1
+entry-for-requires : tie.Need-entry-for-requires Inv-loop μ-loop
+entry-for-requires c κs = c .before .before .before .slot-of .ensures .1
 
--- src/steps.rt:67:22
 mul-op : tie.Need-mul-op Inv-loop μ-loop
-mul-op c = omega (arith, c .before .before .before .before .before .slot-of .ensures .1)
+mul-op c = omega (arith, c .if1 .taken)
 
--- src/steps.rt:67:22
 array-copy-out-op : tie.Need-array-copy-out-op Inv-loop μ-loop
-array-copy-out-op c = omega (arith, c .before .before .before .before .before .slot-of .ensures .1)
+array-copy-out-op c = omega (arith, c .if1 .taken)
 
--- src/steps.rt:68:25
 mul-bytes : tie.Need-mul-bytes Inv-loop μ-loop
-mul-bytes c = omega (arith, c .before .before .before .before .before .before .slot-of .ensures .1)
+mul-bytes c = omega (arith, c .before .if1 .taken)
 
--- src/steps.rt:68:25
 array-read-bytes : tie.Need-array-read-bytes Inv-loop μ-loop
-array-read-bytes c = omega (arith, c .before .before .before .before .before .before .slot-of .ensures .1)
+array-read-bytes c = omega (arith, c .before .if1 .taken)
 
--- src/steps.rt:69:17
 turn-requires : tie.Need-turn-requires Inv-loop μ-loop
 turn-requires c κs =
     let c8 = c .before .before .before .before .before .before .before .before in
     let c16 = c8 .before .before .before .before .before .before .before .before in
     let r = c8 .before .before .before .before .before .loop .inv .0 in
     let more = c8 .before .before .before .before .loop-test .taken in
-    let slot = c8 .before .before .slot-of .ensures in
-    let y = c .before .before .before .before .before .before .is-ready .ensures (c .before .before .before .before .before .if1 .taken) in
+    let y = c .before .before .before .before .before .before .entry-for .ensures (c .before .before .before .before .before .if1 .taken) in
     let key = c .before .before .before .before .before .before .before .key-of .ensures in
     let given = c8 .before .before .before .slice-known4 .given in (
       r .whole-file,
       laws.here _ _ _ _ _ _ _ _ _ _ _ _ _ _ _ _ _ r more
           (omega (arith, c16 .before .before .before .before .before .before .fits))
           (c16 .before .before .before .before .before .before .pre .1) _ _
-          (slot .1) refl (omega (arith, given 48)) (y .0, y .1, y .2 ∙ key) .placed,
+          (c .before .before .before .before .before .if1 .taken) refl (omega (arith, given 48)) (y .0, y .1, y .2 ∙ key) .placed,
       r .reach-holds,
     )
 
--- src/steps.rt:70:13
 add-k : tie.Need-add-k Inv-loop μ-loop
 add-k c =
     let c8 = c .before .before .before .before .before .before .before .before in
@@ -128,18 +115,15 @@ add-k c =
     let more = c16 .before .before .before .loop-test .taken in
     omega (arith, more, c24 .before .before .before .before .before .fits)
 
--- src/steps.rt:72:16
 is-silent-requires : tie.Need-is-silent-requires Inv-loop μ-loop
 is-silent-requires c κs = search needs
 
--- src/steps.rt:63:5
 loop-less : tie.Need-loop-less Inv-loop μ-loop
 loop-less c =
     let c8 = c .before .before .before .before .before .before .before .before in
     let c16 = c8 .before .before .before .before .before .before .before .before in
     omega (arith, c16 .before .before .before .before .before .loop-test .taken)
 
--- src/steps.rt:63:5
 loop-again : tie.Need-loop-again Inv-loop μ-loop
 loop-again c =
     let c8 = c .before .before .before .before .before .before .before .before in
@@ -147,8 +131,7 @@ loop-again c =
     let c24 = c16 .before .before .before .before .before .before .before .before in
     let l = c16 .before .before .before .before .before .before .loop .inv in
     let more = c16 .before .before .before .before .before .loop-test .taken in
-    let slot = c16 .before .before .before .slot-of .ensures in
-    let y = c8 .before .before .before .before .before .before .before .is-ready .ensures (c8 .before .before .before .before .before .before .if1 .taken) in
+    let y = c8 .before .before .before .before .before .before .before .entry-for .ensures (c8 .before .before .before .before .before .before .if1 .taken) in
     let key = c16 .key-of .ensures in
     let turned = c8 .turn .ensures in
     let given = c16 .before .before .before .before .slice-known4 .given in
@@ -156,22 +139,19 @@ loop-again c =
       laws.way-silent _ _ _ _ _ _ _ _ _ _ _ _ _ _ _ _ _ (l .0) more
           (omega (arith, c24 .before .before .before .before .before .before .before .fits))
           (c24 .before .before .before .before .before .before .before .pre .1) _ _
-          (slot .1) refl (omega (arith, given 48)) (y .0, y .1, y .2 ∙ key) _ _ (turned .1) _ (turned .0)
-          silent (laws.compare-fits _ (omega (arith, given 70)) (omega (arith, given 71))),
+          (c8 .before .before .before .before .before .before .if1 .taken) refl (omega (arith, given 48)) (y .0, y .1, y .2 ∙ key) _ _ (turned .1) _ (turned .0)
+          silent (laws.compare-fits _ (omega (arith, given compareIndex)) (omega (arith, given (compareIndex + 1)))),
       omega (arith, l .1, c .before .before .before .before .before .before .before .regs .given),
       omega (arith, l .2, c .before .before .before .before .before .mem .given),
       omega (arith, l .3, c .before .before .before .tags .given),
     )
 
--- src/steps.rt:75:13
 forget-requires : tie.Need-forget-requires Inv-loop μ-loop
 forget-requires c κs = search needs
 
--- src/steps.rt:77:17
 noted-requires : tie.Need-noted-requires Inv-loop μ-loop
 noted-requires c κs = search needs
 
--- src/steps.rt:63:5
 loop-less-2 : tie.Need-loop-less-2 Inv-loop μ-loop
 loop-less-2 c =
     let c8 = c .before .before .before .before .before .before .before .before in
@@ -179,7 +159,6 @@ loop-less-2 c =
     let c24 = c16 .before .before .before .before .before .before .before .before in
     omega (arith, c24 .before .loop-test .taken)
 
--- src/steps.rt:63:5
 loop-again-2 : tie.Need-loop-again-2 Inv-loop μ-loop
 loop-again-2 c =
     let c8 = c .before .before .before .before .before .before .before .before in
@@ -188,42 +167,37 @@ loop-again-2 c =
     let c32 = c24 .before .before .before .before .before .before .before .before in
     let l = c24 .before .before .loop .inv in
     let more = c24 .before .loop-test .taken in
-    let slot = c16 .before .before .before .before .before .before .before .slot-of .ensures in
-    let y = c16 .before .before .before .is-ready .ensures (c16 .before .before .if1 .taken) in
+    let y = c16 .before .before .before .entry-for .ensures (c16 .before .before .if1 .taken) in
     let key = c16 .before .before .before .before .key-of .ensures in
     let turned = c8 .before .before .before .before .turn .ensures in
     let given = c24 .slice-known4 .given in (
       laws.way-done _ _ _ _ _ _ _ _ _ _ _ _ _ _ _ _ _ (l .0) more
           (omega (arith, c32 .before .before .before .fits))
           (c32 .before .before .before .pre .1) _ _
-          (slot .1) refl (omega (arith, given 48)) (y .0, y .1, y .2 ∙ key) _ _ (turned .1) _ (turned .0)
-          (c .before .if3 .taken) (laws.compare-fits _ (omega (arith, given 70)) (omega (arith, given 71)))
+          (c16 .before .before .if1 .taken) refl (omega (arith, given 48)) (y .0, y .1, y .2 ∙ key) _ _ (turned .1) _ (turned .0)
+          (c .before .if3 .taken) (laws.compare-fits _ (omega (arith, given compareIndex)) (omega (arith, given (compareIndex + 1))))
           _ (c .noted .ensures) _ (c .before .before .forget .ensures),
       omega (arith, l .1, c8 .before .before .before .regs .given),
       omega (arith, l .2, c8 .before .mem .given),
       omega (arith, l .3, c .before .before .before .before .before .before .before .tags .given),
     )
 
--- src/steps.rt:82:17
-read-capability-requires : tie.Need-read-capability-requires Inv-loop μ-loop
-read-capability-requires c κs =
+read-pcc-requires : tie.Need-read-pcc-requires Inv-loop μ-loop
+read-pcc-requires c κs =
     let c8 = c .before .before .before .before .before .before .before .before in
     let c16 = c8 .before .before .before .before .before .before .before .before in
     let c24 = c16 .before .before .before .before .before .before .before .before in
     let long = c24 .before .before .before .loop .inv .0 .whole-file in
-    (omega (arith, long, c8 .before .before .before .before .regs .given), omega arith)
+    omega (arith, long, c8 .before .before .before .before .regs .given)
 
--- src/steps.rt:80:13
 learn-requires : tie.Need-learn-requires Inv-loop μ-loop
 learn-requires c κs =
     let c8 = c .before .before .before .before .before .before .before .before in
     rw (c8 .before .before .before .mem .given) (c8 .before .before .before .before .before .before .turn .ensures .0)
 
--- src/steps.rt:86:17
 take-watched-requires : tie.Need-take-watched-requires Inv-loop μ-loop
 take-watched-requires c κs = search needs
 
--- src/steps.rt:88:13
 add-trapped : tie.Need-add-trapped Inv-loop μ-loop
 add-trapped c =
     let c8 = c .before .before .before .before .before .before .before .before in
@@ -242,7 +216,6 @@ add-trapped c =
       c48 .before .before .fits,
     )
 
--- src/steps.rt:89:13
 base-of-requires-2 : tie.Need-base-of-requires-2 Inv-loop μ-loop
 base-of-requires-2 c κs =
     let c8 = c .before .before .before .before .before .before .before .before in
@@ -253,7 +226,6 @@ base-of-requires-2 c κs =
     let long = c40 .before .before .loop .inv .0 .whole-file in
     omega (arith, long, c24 .before .before .before .regs .given, c8 .regs2 .given)
 
--- src/steps.rt:90:13
 limit-from-requires-2 : tie.Need-limit-from-requires-2 Inv-loop μ-loop
 limit-from-requires-2 c κs =
     let c8 = c .before .before .before .before .before .before .before .before in
@@ -266,7 +238,6 @@ limit-from-requires-2 c κs =
       omega (arith, c40 .before .before .before .loop-test .taken),
     )
 
--- src/steps.rt:63:5
 loop-less-3 : tie.Need-loop-less-3 Inv-loop μ-loop
 loop-less-3 c =
     let c8 = c .before .before .before .before .before .before .before .before in
@@ -276,7 +247,6 @@ loop-less-3 c =
     let c40 = c32 .before .before .before .before .before .before .before .before in
     omega (arith, c40 .before .before .before .before .loop-test .taken)
 
--- src/steps.rt:63:5
 loop-again-3 : tie.Need-loop-again-3 Inv-loop μ-loop
 loop-again-3 c =
     let c8 = c .before .before .before .before .before .before .before .before in
@@ -287,8 +257,7 @@ loop-again-3 c =
     let c48 = c40 .before .before .before .before .before .before .before .before in
     let l = c40 .before .before .before .before .before .loop .inv in
     let more = c40 .before .before .before .before .loop-test .taken in
-    let slot = c40 .before .before .slot-of .ensures in
-    let y = c32 .before .before .before .before .before .before .is-ready .ensures (c32 .before .before .before .before .before .if1 .taken) in
+    let y = c32 .before .before .before .before .before .before .entry-for .ensures (c32 .before .before .before .before .before .if1 .taken) in
     let key = c32 .before .before .before .before .before .before .before .key-of .ensures in
     let turned = c24 .before .before .before .before .before .before .before .turn .ensures in
     let given = c40 .before .before .before .slice-known4 .given in
@@ -298,7 +267,7 @@ loop-again-3 c =
       laws.way-left _ _ _ _ _ _ _ _ _ _ _ _ _ _ _ _ _ (l .0) more
           (omega (arith, c48 .before .before .before .before .before .before .fits))
           (c48 .before .before .before .before .before .before .pre .1) _ _
-          (slot .1) refl (omega (arith, given 48)) (y .0, y .1, y .2 ∙ key) _ _ (turned .1) _ (rw mem at learnt)
+          (c32 .before .before .before .before .before .if1 .taken) refl (omega (arith, given 48)) (y .0, y .1, y .2 ∙ key) _ _ (turned .1) _ (rw mem at learnt)
           (c16 .before .before .before .before .if3 .left) _ _ _ _ _ _
           (step .0) (step .1) (c .before .before .base-of2 .ensures, c .limit-from2 .ensures) _
           (c16 .before .before .before .before .before .forget .ensures),
@@ -307,108 +276,93 @@ loop-again-3 c =
       omega (arith, l .3, c24 .before .before .tags .given, c .before .before .before .before .before .before .before .tags2 .given),
     )
 
--- src/steps.rt:95:13
-read-capability-requires-2 : tie.Need-read-capability-requires-2 Inv-loop μ-loop
-read-capability-requires-2 c κs =
+read-pcc-requires-2 : tie.Need-read-pcc-requires-2 Inv-loop μ-loop
+read-pcc-requires-2 c κs =
     let c8 = c .before .before .before .before .before .before .before .before in
-    (c8 .before .loop .inv .0 .whole-file, omega arith)
+    c8 .before .loop .inv .0 .whole-file
 
--- src/steps.rt:93:13
 look-requires : tie.Need-look-requires Inv-loop μ-loop
 look-requires c κs = search needs
 
--- src/steps.rt:99:9
 base-of-requires-3 : tie.Need-base-of-requires-3 Inv-loop μ-loop
 base-of-requires-3 c κs =
     let c8 = c .before .before .before .before .before .before .before .before in
     c8 .before .before .before .before .before .loop .inv .0 .whole-file
 
--- src/steps.rt:102:17
 place-in-requires : tie.Need-place-in-requires Inv-loop μ-loop
 place-in-requires c κs = search needs
 
--- src/steps.rt:103:13
+room-at-requires : tie.Need-room-at-requires Inv-loop μ-loop
+room-at-requires c κs =
+    let c8 = c .before .before .before .before .before .before .before .before in
+    c8 .before .before .before .before .before .before .before .slot-of .ensures .1
+
 mul-code : tie.Need-mul-code Inv-loop μ-loop
 mul-code c =
-    let c8 = c .before .before .before .before .before .before .before .before in
-    omega (arith, c8 .before .before .before .before .before .before .slot-of .ensures .1)
+    omega (arith, c .room-at .ensures .1)
 
--- src/steps.rt:103:13
 array-set-from-code : tie.Need-array-set-from-code Inv-loop μ-loop
 array-set-from-code c =
-    let c8 = c .before .before .before .before .before .before .before .before in
-    omega (arith, c8 .before .before .before .before .before .before .slot-of .ensures .1)
+    omega (arith, c .room-at .ensures .1)
 
--- src/steps.rt:104:23
 key-of-requires-2 : tie.Need-key-of-requires-2 Inv-loop μ-loop
 key-of-requires-2 c κs =
     let c8 = c .before .before .before .before .before .before .before .before in
-    omega (arith, c .before .before .before .base-of3 .ensures, c8 .before .before .before .before .before .before .before .slice-known4 .given 49)
+    let c16 = c8 .before .before .before .before .before .before .before .before in
+    omega (arith, c .before .before .before .before .before .base-of3 .ensures, c16 .before .slice-known4 .given 49)
 
--- src/steps.rt:104:13
 mul-keys : tie.Need-mul-keys Inv-loop μ-loop
 mul-keys c =
-    let c8 = c .before .before .before .before .before .before .before .before in
-    omega (arith, c8 .before .before .before .before .before .before .before .slot-of .ensures .1)
+    omega (arith, c .before .room-at .ensures .1)
 
--- src/steps.rt:104:13
 array-write-keys : tie.Need-array-write-keys Inv-loop μ-loop
 array-write-keys c =
-    let c8 = c .before .before .before .before .before .before .before .before in
-    omega (arith, c8 .before .before .before .before .before .before .before .slot-of .ensures .1)
+    omega (arith, c .before .room-at .ensures .1)
 
--- src/steps.rt:105:13
 mul-lens : tie.Need-mul-lens Inv-loop μ-loop
 mul-lens c =
-    let c8 = c .before .before .before .before .before .before .before .before in
-    omega (arith, c8 .before .before .before .before .before .before .before .slot-of .ensures .1)
+    omega (arith, c .before .room-at .ensures .1)
 
--- src/steps.rt:105:13
 array-write-lens : tie.Need-array-write-lens Inv-loop μ-loop
 array-write-lens c =
-    let c8 = c .before .before .before .before .before .before .before .before in
-    omega (arith, c8 .before .before .before .before .before .before .before .slot-of .ensures .1)
+    omega (arith, c .before .room-at .ensures .1)
 
--- src/steps.rt:106:13
 smaller-requires : tie.Need-smaller-requires Inv-loop μ-loop
 smaller-requires c κs = search needs
 
--- src/steps.rt:107:42
 add-larger : tie.Need-add-larger Inv-loop μ-loop
 add-larger c =
     let c8 = c .before .before .before .before .before .before .before .before in
     let c16 = c8 .before .before .before .before .before .before .before .before in
-    omega (arith, c .before .before .place-in .ensures, c16 .before .slice-known4 .given 48)
+    omega (arith, c .before .before .before .before .place-in .ensures, c16 .before .before .before .slice-known4 .given 48)
 
--- src/steps.rt:107:13
 larger-requires : tie.Need-larger-requires Inv-loop μ-loop
 larger-requires c κs = search needs
 
--- src/steps.rt:63:5
 loop-less-4 : tie.Need-loop-less-4 Inv-loop μ-loop
 loop-less-4 c =
     let c8 = c .before .before .before .before .before .before .before .before in
     let c16 = c8 .before .before .before .before .before .before .before .before in
-    let first = c8 .look .ensures .1 (c .before .before .before .before .if4 .taken) in
-    omega (arith, c16 .before .before .before .loop-test .taken, first)
+    let first = c8 .before .before .look .ensures .1 (c .before .before .before .before .before .before .if4 .taken) in
+    omega (arith, c16 .before .before .before .before .before .loop-test .taken, first)
 
--- src/steps.rt:63:5
 loop-again-4 : tie.Need-loop-again-4 Inv-loop μ-loop
 loop-again-4 c =
     let c8 = c .before .before .before .before .before .before .before .before in
     let c16 = c8 .before .before .before .before .before .before .before .before in
-    let l = c16 .before .before .before .before .loop in
-    let given = c16 .before .before .slice-known4 .given in
-    let slot = c16 .before .slot-of .ensures in
-    let base = c .before .before .before .before .before .before .base-of3 .ensures in
-    let at = c .before .before .before .place-in .ensures in
+    let l = c16 .before .before .before .before .before .before .loop in
+    let given = c16 .before .before .before .before .slice-known4 .given in
+    let slot = c16 .before .before .before .slot-of .ensures in
+    let room = c .before .before .before .room-at .ensures in
+    let base = c8 .base-of3 .ensures in
+    let at = c .before .before .before .before .before .place-in .ensures in
     let low = c .before .smaller .ensures in
     let high = c .larger .ensures in
-    let look = c8 .look in
+    let look = c8 .before .before .look in
     let pcc : Capability = heldAt 48 (l .regs) in
-    let read = c8 .before .before .read-capability2 .ensures in
-    let found = rw read at (look .ensures .0 (c .before .before .before .before .if4 .taken)) (omega (arith, given 49)) (omega (arith, given 48)) in (
-      laws.way-found _ _ _ _ _ _ _ _ _ _ _ _ _ _ _ _ _ (l .inv .0) _ _ pcc (slot .1) (sym (slot .0))
+    let read = c8 .before .before .before .before .read-pcc2 .ensures in
+    let found = rw read at (look .ensures .0 (c .before .before .before .before .before .before .if4 .taken)) (omega (arith, given 49)) (omega (arith, given 48)) in (
+      laws.way-found _ _ _ _ _ _ _ _ _ _ _ _ _ _ _ _ _ (l .inv .0) _ _ pcc (room .1) (sym (slot .0) ∙ sym (room .0))
           (c .before .before .key-of2 .ensures ∙ ap (λ (b : ℕ). b + getD (l .regs) 48 0) base) (look .result) found
           _ _ _ (low .0) (high .0) (omega (arith, low .1, at)) (omega (arith, high .1, at)) base,
       l .inv .1,
@@ -416,11 +370,9 @@ loop-again-4 c =
       l .inv .3,
     )
 
--- src/steps.rt:111:13
 take-watched-requires-2 : tie.Need-take-watched-requires-2 Inv-loop μ-loop
 take-watched-requires-2 c κs = search needs
 
--- src/steps.rt:113:9
 add-trapped-2 : tie.Need-add-trapped-2 Inv-loop μ-loop
 add-trapped-2 c =
     let c8 = c .before .before .before .before .before .before .before .before in
@@ -437,11 +389,9 @@ add-trapped-2 c =
       c32 .before .before .before .before .before .fits,
     )
 
--- src/steps.rt:114:9
 clear-unless-requires : tie.Need-clear-unless-requires Inv-loop μ-loop
 clear-unless-requires c κs = search needs
 
--- src/steps.rt:115:9
 base-of-requires-4 : tie.Need-base-of-requires-4 Inv-loop μ-loop
 base-of-requires-4 c κs =
     let c8 = c .before .before .before .before .before .before .before .before in
@@ -449,7 +399,6 @@ base-of-requires-4 c κs =
     let c24 = c16 .before .before .before .before .before .before .before .before in
     omega (arith, c24 .before .before .before .before .before .before .before .loop .inv .0 .whole-file, c8 .before .before .regs3 .given)
 
--- src/steps.rt:116:9
 add-k-2 : tie.Need-add-k-2 Inv-loop μ-loop
 add-k-2 c =
     let c8 = c .before .before .before .before .before .before .before .before in
@@ -460,7 +409,6 @@ add-k-2 c =
     let more = c24 .before .before .before .before .before .before .before .loop-test .taken in
     omega (arith, more, c40 .before .fits)
 
--- src/steps.rt:117:9
 limit-from-requires-3 : tie.Need-limit-from-requires-3 Inv-loop μ-loop
 limit-from-requires-3 c κs =
     let c8 = c .before .before .before .before .before .before .before .before in
@@ -470,7 +418,6 @@ limit-from-requires-3 c κs =
     let long = c32 .before .loop .inv .0 .whole-file in
     (omega (arith, long, c8 .before .before .before .before .regs3 .given), omega (arith, c32 .loop-test .taken))
 
--- src/steps.rt:63:5
 loop-less-5 : tie.Need-loop-less-5 Inv-loop μ-loop
 loop-less-5 c =
     let c8 = c .before .before .before .before .before .before .before .before in
@@ -479,7 +426,6 @@ loop-less-5 c =
     let c32 = c24 .before .before .before .before .before .before .before .before in
     omega (arith, c32 .before .loop-test .taken)
 
--- src/steps.rt:63:5
 loop-again-5 : tie.Need-loop-again-5 Inv-loop μ-loop
 loop-again-5 c =
     let c8 = c .before .before .before .before .before .before .before .before in
@@ -498,25 +444,20 @@ loop-again-5 c =
       omega (arith, l .3, c8 .before .tags3 .given),
     )
 
--- src/steps.rt:121:18
-sub-t101 : tie.Need-sub-t101 Inv-loop μ-loop
-sub-t101 c =
+sub-t103 : tie.Need-sub-t103 Inv-loop μ-loop
+sub-t103 c =
     let r = c .before .loop .inv .0 in
     omega (arith, r .few-trapped, r .in-run)
 
--- src/steps.rt:37:1
 same-length : tie.Need-same-length Inv-loop μ-loop
 same-length c = c .before .loop .inv .1
 
--- src/steps.rt:37:1
 same-length-2 : tie.Need-same-length-2 Inv-loop μ-loop
 same-length-2 c = c .before .loop .inv .2
 
--- src/steps.rt:37:1
 same-length-3 : tie.Need-same-length-3 Inv-loop μ-loop
 same-length-3 c = c .before .loop .inv .3
 
--- src/steps.rt:37:1
 returns : tie.Need-returns Inv-loop μ-loop
 unfolding iterate watchedBy
 returns c =
@@ -541,7 +482,7 @@ take-quick-spec =
     slice-read-pc
     slot-of-requires
     key-of-requires
-    is-ready-requires
+    entry-for-requires
     mul-op
     array-copy-out-op
     mul-bytes
@@ -555,7 +496,7 @@ take-quick-spec =
     noted-requires
     loop-less-2
     loop-again-2
-    read-capability-requires
+    read-pcc-requires
     learn-requires
     take-watched-requires
     add-trapped
@@ -563,10 +504,11 @@ take-quick-spec =
     limit-from-requires-2
     loop-less-3
     loop-again-3
-    read-capability-requires-2
+    read-pcc-requires-2
     look-requires
     base-of-requires-3
     place-in-requires
+    room-at-requires
     mul-code
     array-set-from-code
     key-of-requires-2
@@ -587,7 +529,7 @@ take-quick-spec =
     limit-from-requires-3
     loop-less-5
     loop-again-5
-    sub-t101
+    sub-t103
     same-length
     same-length-2
     same-length-3

@@ -282,36 +282,34 @@ returns-9 : tie.Need-returns-9
 returns-9 c =
     let c6 = c .before .before .before .before .before .before in
     let c12 = c6 .before .before .before .before .before .before in
-    let start = c12 .before .before .before in
-    let sum = c6 .before .before .before .wrapping-add-u32 in
-    let is-op = c6 .before .op8 .given .1 in
-    let effect = c .before .before .before .before .jal-again in
-    let call = c .before .before .take-jump in
+    let start = c12 .before .before in
+    let sum = c6 .before .before .wrapping-add-u32 in
+    let is-op = c6 .op8 .given .1 in
+    let call = c .before .before .take-link in
     let before = state (start .args .regs .now) (start .args .mem .now) (start .args .tags .now) in
-    let after = (state (call .last .1 .0) (start .args .mem .now) (start .args .tags .now)) in (
+    let after = (state (call .last .1 .1 .1 .1 .0) (start .args .mem .now) (start .args .tags .now)) in (
       start .pre .2,
       told-op (start .args .board) (start .args .revoked .now) _ _ (start .args .bytes) before after (call .result) is-op
           (by-jump-link (start .args .board) (start .args .revoked .now) (start .args .regs .now) (start .args .mem .now) (start .args .tags .now)
           (start .args .bytes) (sum .result) (sum .ensures)
-          (call .last .1 .0) _ _ (effect .result) (call .result) (effect .ensures) (call .ensures .0) (call .ensures .1)),
+          (call .last .1 .1 .1 .1 .0) _ _ (call .result) (call .ensures .0) (call .ensures .1)),
     )
 
 returns-10 : tie.Need-returns-10
 returns-10 c =
     let c6 = c .before .before .before .before .before .before in
     let c12 = c6 .before .before .before .before .before .before in
-    let start = c12 .before .before .before in
-    let sum = c6 .before .before .before .wrapping-add-u32 in
-    let is-op = c6 .before .op9 .given .1 in
-    let effect = c .before .before .before .before .jalr-again in
-    let call = c .before .before .take-jump2 in
+    let start = c12 .before .before in
+    let sum = c6 .before .before .wrapping-add-u32 in
+    let is-op = c6 .op9 .given .1 in
+    let call = c .before .before .take-register in
     let before = state (start .args .regs .now) (start .args .mem .now) (start .args .tags .now) in
-    let after = (state (call .last .1 .0) (start .args .mem .now) (start .args .tags .now)) in (
+    let after = (state (call .last .1 .1 .1 .1 .1 .0) (start .args .mem .now) (start .args .tags .now)) in (
       start .pre .2,
       told-op (start .args .board) (start .args .revoked .now) _ _ (start .args .bytes) before after (call .result) is-op
           (by-jump-register (start .args .board) (start .args .revoked .now) (start .args .regs .now) (start .args .mem .now) (start .args .tags .now)
           (start .args .bytes) (sum .result) (sum .ensures)
-          (call .last .1 .0) _ _ _ (effect .result) (call .result) (effect .ensures) (call .ensures .0) (call .ensures .1)),
+          (call .last .1 .1 .1 .1 .1 .0) _ _ _ (call .result) (call .ensures .0) (call .ensures .1)),
     )
 
 returns-11 : tie.Need-returns-11
@@ -562,9 +560,7 @@ turn-spec =
     (λ c κs. search needs)
     (λ c. search needs)
     (λ c κs. search needs)
-    (λ c κs. search needs)
     (λ c. search needs)
-    (λ c κs. search needs)
     (λ c κs. search needs)
     (λ c. search needs)
     take-branch-requires
