@@ -87,25 +87,25 @@ wider start mem low high low′ high′ j key n op l g e =
 
 -- ---- what is cleared
 
-zero-at : (lens : List ℕ) (i : ℕ) → getD (set lens i 0) i 0 ≡ 0
+zero-at : (keys : List ℕ) (i : ℕ) → getD (set keys i 0) i 0 ≡ 0
 zero-at [] i = refl
 zero-at (x ∷ xs) zero = refl
 zero-at (x ∷ xs) (suc i) = zero-at xs i
 
 -- what is left is what was there, at another slot
-left-one : (lens : List ℕ) (i j : ℕ) → (getD (set lens i 0) j 0 ≡ 0 → ⊥) → (getD (set lens i 0) j 0 ≡ getD lens j 0) × (j ≡ i → ⊥)
-left-one lens i j h =
+left-one : (keys : List ℕ) (i j : ℕ) → (getD (set keys i 0) j 0 ≡ 0 → ⊥) → (getD (set keys i 0) j 0 ≡ getD keys j 0) × (j ≡ i → ⊥)
+left-one keys i j h =
     by-test (eqb j i)
-    (λ t. absurd (h (rw (eqb-true j i t) (zero-at lens i))))
-    (λ t. (getD-set-other lens i j 0 0 (eqb-false j i t), eqb-false j i t))
+    (λ t. absurd (h (rw (eqb-true j i t) (zero-at keys i))))
+    (λ t. (getD-set-other keys i j 0 0 (eqb-false j i t), eqb-false j i t))
 
 -- both entries of a slot are cleared, so what is left has another one
-left-slot : (half : ℕ) (lens : List ℕ) (j : ℕ) → j < entries → (getD (clearedSlot half lens) j 0 ≡ 0 → ⊥)
-    → (getD (clearedSlot half lens) j 0 ≡ getD lens j 0) × (slotAt j ≡ half % slots → ⊥)
-left-slot half lens j l h =
+left-slot : (half : ℕ) (keys : List ℕ) (j : ℕ) → j < entries → (getD (clearedSlot half keys) j 0 ≡ 0 → ⊥)
+    → (getD (clearedSlot half keys) j 0 ≡ getD keys j 0) × (slotAt j ≡ half % slots → ⊥)
+left-slot half keys j l h =
     let s = half % slots in
-    let b = left-one (set lens s 0) (s + slots) j h in
-    let a = left-one lens s j (λ z. h (b .0 ∙ z)) in (
+    let b = left-one (set keys s 0) (s + slots) j h in
+    let a = left-one keys s j (λ z. h (b .0 ∙ z)) in (
       b .0 ∙ a .0,
       λ q. by-test (ltb j slots) (λ t. a .1 (omega (arith, q, ltb-true j slots t))) (λ t. b .1 (omega (arith, q, l, ltb-false j slots t))),
     )
@@ -115,11 +115,11 @@ abbrev Far : (first j : ℕ) → Type 0
 Far first j =
     (j ≡ first % slots → ⊥) × (j ≡ (first + 1) % slots → ⊥) × (j ≡ (first + 2) % slots → ⊥) × (j ≡ (first + 3) % slots → ⊥) × (j ≡ (first + 4) % slots → ⊥)
 
-left-near : (address : ℕ) (lens : List ℕ) (j : ℕ) → j < entries → (getD (clearedNear address lens) j 0 ≡ 0 → ⊥)
-    → (getD (clearedNear address lens) j 0 ≡ getD lens j 0) × Far (address / 2 + slots - 1) (slotAt j)
-left-near address lens j l h =
+left-near : (address : ℕ) (keys : List ℕ) (j : ℕ) → j < entries → (getD (clearedNear address keys) j 0 ≡ 0 → ⊥)
+    → (getD (clearedNear address keys) j 0 ≡ getD keys j 0) × Far (address / 2 + slots - 1) (slotAt j)
+left-near address keys j l h =
     let first = address / 2 + slots - 1 in
-    let one = clearedSlot first lens in
+    let one = clearedSlot first keys in
     let two = clearedSlot (first + 1) one in
     let three = clearedSlot (first + 2) two in
     let four = clearedSlot (first + 3) three in
@@ -127,25 +127,25 @@ left-near address lens j l h =
     let d = left-slot (first + 3) three j l (λ z. h (e .0 ∙ z)) in
     let c = left-slot (first + 2) two j l (λ z. h (e .0 ∙ d .0 ∙ z)) in
     let b = left-slot (first + 1) one j l (λ z. h (e .0 ∙ d .0 ∙ c .0 ∙ z)) in
-    let a = left-slot first lens j l (λ z. h (e .0 ∙ d .0 ∙ c .0 ∙ b .0 ∙ z)) in
+    let a = left-slot first keys j l (λ z. h (e .0 ∙ d .0 ∙ c .0 ∙ b .0 ∙ z)) in
     (e .0 ∙ d .0 ∙ c .0 ∙ b .0 ∙ a .0, (a .1, b .1, c .1, d .1, e .1))
 
 -- a slot that is left: no byte is stored, or the hull is not touched, or it is none of the five
-left-if : (w t : Bool) (lens near : List ℕ) (j : ℕ) (F : Type 0) → ((getD near j 0 ≡ 0 → ⊥) → (getD near j 0 ≡ getD lens j 0) × F)
-    → (getD (cond w lens (cond t near lens)) j 0 ≡ 0 → ⊥)
-    → (getD (cond w lens (cond t near lens)) j 0 ≡ getD lens j 0) × ((w ≡ true) ⊎ ((t ≡ false) ⊎ F))
-left-if true t lens near j F f h = (refl, inl refl)
-left-if false true lens near j F f h = (f h .0, inr (inr (f h .1)))
-left-if false false lens near j F f h = (refl, inr (inl refl))
+left-if : (w t : Bool) (keys near : List ℕ) (j : ℕ) (F : Type 0) → ((getD near j 0 ≡ 0 → ⊥) → (getD near j 0 ≡ getD keys j 0) × F)
+    → (getD (cond w keys (cond t near keys)) j 0 ≡ 0 → ⊥)
+    → (getD (cond w keys (cond t near keys)) j 0 ≡ getD keys j 0) × ((w ≡ true) ⊎ ((t ≡ false) ⊎ F))
+left-if true t keys near j F f h = (refl, inl refl)
+left-if false true keys near j F f h = (f h .0, inr (inr (f h .1)))
+left-if false false keys near j F f h = (refl, inr (inl refl))
 
 abbrev Spared : (low high start at width j : ℕ) → Type 0
 Spared low high start at width j = (eqb width 0 ≡ true) ⊎ ((touchesHull low high at width ≡ false) ⊎ Far ((start + at) / 2 + slots - 1) j)
 
-left-of : (low high start at width : ℕ) (lens : List ℕ) (j : ℕ) → j < entries → (getD (forgotten low high start at width lens) j 0 ≡ 0 → ⊥)
-    → (getD (forgotten low high start at width lens) j 0 ≡ getD lens j 0) × Spared low high start at width (slotAt j)
-left-of low high start at width lens j l h =
-    left-if (eqb width 0) (touchesHull low high at width) lens (clearedNear (start + at) lens) j (Far ((start + at) / 2 + slots - 1) (slotAt j))
-    (left-near (start + at) lens j l) h
+left-of : (low high start at width : ℕ) (keys : List ℕ) (j : ℕ) → j < entries → (getD (forgotten low high start at width keys) j 0 ≡ 0 → ⊥)
+    → (getD (forgotten low high start at width keys) j 0 ≡ getD keys j 0) × Spared low high start at width (slotAt j)
+left-of low high start at width keys j l h =
+    left-if (eqb width 0) (touchesHull low high at width) keys (clearedNear (start + at) keys) j (Far ((start + at) / 2 + slots - 1) (slotAt j))
+    (left-near (start + at) keys j l) h
 
 -- ---- four bytes whose slot is left are apart from what is stored
 
@@ -217,40 +217,40 @@ module _ (start : ℕ) (mem : List ℕ) (low high j key n : ℕ) (op : Operation
 module _ (start : ℕ) (mem : List ℕ) (low high : ℕ) (lens keys : List ℕ) (code : List Operation) where
   -- each entry that a store leaves is one of memory after it
   pub entries-after : (x : Stored) (at width : ℕ) → start % granuleBytes ≡ 0 → Within (length mem) x → MayStore x at width
-      → Entries start mem low high lens keys code → Entries start (memoryAfter x mem) low high (forgotten low high start at width lens) keys code
+      → Entries start mem low high lens keys code → Entries start (memoryAfter x mem) low high lens (forgotten low high start at width keys) code
   entries-after x at width aligned w m es j l h =
-      let k = left-of low high start at width lens j l h in
+      let k = left-of low high start at width keys j l h in
       rw (k .0)
       (entry-after start mem low high j (getD keys j 0) (getD lens j 0) (getD code j Plain) at width aligned (es j l (λ z. h (k .0 ∙ z))) (k .1) x w m)
 
   -- after a plain step none is left, unless it trapped: then memory is as it was
-  pub entries-cleared : (trapped : ℕ) (after lens′ : List ℕ) → ClearedUnless trapped lens lens′ → ((trapped ≡ 0 → ⊥) → after ≡ mem)
-      → Entries start mem low high lens keys code → Entries start after low high lens′ keys code
-  entries-cleared trapped after lens′ (inl c) same es = rw (c .1, same (c .0)) es
-  entries-cleared trapped after lens′ (inr c) same es = λ j l h. absurd (h (c .1 j l))
+  pub entries-cleared : (trapped : ℕ) (after keys′ : List ℕ) → ClearedUnless trapped keys keys′ → ((trapped ≡ 0 → ⊥) → after ≡ mem)
+      → Entries start mem low high lens keys code → Entries start after low high lens keys′ code
+  entries-cleared trapped after keys′ (inl c) same es = rw (c .1, same (c .0)) es
+  entries-cleared trapped after keys′ (inr c) same es = λ j l h. absurd (h (c .1 j l))
 
-  -- no lengths, no entries
-  pub entries-none : ((j : ℕ) → j < entries → getD lens j 0 ≡ 0) → Entries start mem low high lens keys code
+  -- no keys, no entries
+  pub entries-none : ((j : ℕ) → j < entries → getD keys j 0 ≡ 0) → Entries start mem low high lens keys code
   entries-none none j l h = absurd (h (none j l))
 
 -- ---- a new entry
 
--- a length that is not 0 is the one that was put
+-- a key that is not 0 is the one that was put
 put-same : (l : List ℕ) (i v : ℕ) → (getD (set l i v) i 0 ≡ 0 → ⊥) → getD (set l i v) i 0 ≡ v
 put-same [] i v h = absurd (h refl)
 put-same (x ∷ xs) zero v h = refl
 put-same (x ∷ xs) (suc i) v h = put-same xs i v h
 
-module _ (start : ℕ) (mem : List ℕ) (low high low′ high′ : ℕ) (lens keys : List ℕ) (code : List Operation) (i key n : ℕ) (op : Operation) (inside : i < entries)
-    (keys-long : length keys ≡ entries) (code-long : length code ≡ entries) (e : Entry start mem low′ high′ i key n op) where
+module _ (start : ℕ) (mem : List ℕ) (low high low′ high′ : ℕ) (lens keys : List ℕ) (code : List Operation) (i key n : ℕ) (op : Operation)
+    (inside : i < entries) (lens-long : length lens ≡ entries) (code-long : length code ≡ entries) (e : Entry start mem low′ high′ i key n op) where
   abbrev Put : ℕ → Type 0
   Put j =
-      (getD (set lens i n) j 0 ≡ 0 → ⊥)
+      (getD (set keys i key) j 0 ≡ 0 → ⊥)
       → Entry start mem low′ high′ j (getD (set keys i key) j 0) (getD (set lens i n) j 0) (getD (set code i op) j Plain)
 
   put-there : Put i
   put-there h =
-      rw (put-same lens i n h, getD-set-same keys i key 0 (rw keys-long inside), getD-set-same code i op Plain (rw code-long inside)) e
+      rw (put-same keys i key h, getD-set-same lens i n 0 (rw lens-long inside), getD-set-same code i op Plain (rw code-long inside)) e
 
   put-other : (j : ℕ) → (j ≡ i → ⊥) → Entry start mem low′ high′ j (getD keys j 0) (getD lens j 0) (getD code j Plain)
       → Entry start mem low′ high′ j (getD (set keys i key) j 0) (getD (set lens i n) j 0) (getD (set code i op) j Plain)
@@ -264,4 +264,4 @@ module _ (start : ℕ) (mem : List ℕ) (low high low′ high′ : ℕ) (lens ke
       (λ t. rw (eqb-true j i t) put-there)
       (λ t h. let d = eqb-false j i t in
       put-other j d (wider start mem low high low′ high′ j (getD keys j 0) (getD lens j 0) (getD code j Plain) l g
-      (es j s (λ z. h (getD-set-other lens i j n 0 d ∙ z)))))
+      (es j s (λ z. h (getD-set-other keys i j key 0 d ∙ z)))))

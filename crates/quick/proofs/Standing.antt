@@ -45,7 +45,7 @@ not-due regs left h (inr (inr t)) = go (eqb (bit (mstatusOf regs) MIE) 1) (lt-le
 pub calm-after : (base k limit : ℕ) (regs after : List ℕ) → compareOf regs < 2 ^ 64 → Steady regs after → Calm base k limit regs → k < limit
     → Calm base (k + 1) limit after
 calm-after base k limit regs after fits s (b, c) h =
-    (b ∙ ap (λ (x : ℕ). x * 2 ^ 32) (sym (s .word-stays)), λ g. (s .tag-stays ∙ c h .0, go (c h .1) g))
+    (b ∙ ap (λ (x : ℕ). x * 2 ^ 32) (sym (s .word-stays)), λ g. (s .tag-stays ∙ c h .0, λ z. c h .1 (sym (s .word-stays) ∙ z), go (c h .2) g))
   where
     go : Quiet (limit - k) regs → k + 1 < limit → Quiet (limit - (k + 1)) after
     go (inl z) g = absurd (omega (arith, z, g))

@@ -2,7 +2,7 @@
 use mathlib.Core.Path.{_≡_, refl, sym, ap, _∙_}
 use mathlib.Core.Bool.{Bool, true, false, not, _&&_, true≢false}
 use mathlib.Core.List.{List}
-use Prim.Native.Nat.{ℕ, _+_, _*_, _/_, _%_}
+use Prim.Native.Nat.{ℕ, _+_, _*_, _/_, _%_, _^_, _<_}
 use native.Mathlib.Omega.{arith}
 use lib.Dec.{eqb}
 use lib.ListN.{getD, length}
@@ -28,12 +28,13 @@ use Rattle.jump_instructions.specs.Editions.{accepts, linkType, jumpStatus}
 use Rattle.jump_instructions.specs.Jumps.{linkOf, aligned, targetCause, jalEffect, jalrCause, jalrEffect, taken, takenEffect, branchEffect, jumpEffect}
 use Rattle.jump_instructions.proofs.Laws.{jump-storeless}
 use Rattle.commit.specs.Commit.{retires}
-use Rattle.quick.specs.Rows.{Reached}
+use Rattle.quick.specs.Rows.{Good, Reached}
 use Rattle.quick.specs.Turns.{wentOn, writtenAt, heldAt, pccAt, Stands, MayStore, Done, Turned, doneTurn, leftTurn}
-use Rattle.quick.specs.Jumps.{WentIf, Went, GoTurns, BranchTurns, linkAt, LinkTurns, shut, RegisterTurns}
+use Rattle.quick.specs.Jumps.{Lands, WentIf, Went, GoTurns, BranchTurns, linkAt, LinkTurns, shut, RegisterTurns}
 use Rattle.quick.specs.Steady.{SteadyIf}
 use Rattle.quick.specs.declared.Took.{Took}
 use Rattle.quick.proofs.Onward.{took-advance, took-jump, took-linked, pcc-words}
+use Rattle.quick.proofs.Reach.{reached}
 use Rattle.quick.proofs.Steady.{steady-written}
 
 -- what stores nothing may store anywhere
@@ -74,7 +75,8 @@ module _ (regs after mem tags : List ℕ) (start size to m a n : ℕ) (p : pccOf
   went-turned w = go (t .done) (w .0)
     where
       go : (b : Bool) → WentIf b start size to regs after → Done b start n e (state regs mem tags) (state after mem tags) (t .at) (t .width)
-      go true (h, k, r) =
+      go true (h, k, g) =
+          let r = g (pcc-words regs m a p .2) in
           rw (f r k, h) (
             took-jump regs mem tags start m a n to p rd (mstatusOf regs) link (moveOf (pccOf regs) to) z
                 (moved-is (pccOf regs) start size to r ∙ ap (λ (c : Capability). pccAt (c .metadata) to) p) refl,
@@ -136,13 +138,14 @@ module _ (regs after mem tags : List ℕ) (start m a n next to at rd edition mst
 
 -- CJAL to what PCC reaches
 pub link-turned : (regs after : List ℕ) (start size edition rd offset next to at : ℕ) (t : Took) → length regs ≡ registerWords → t ≡ doneTurn
-    → to ≡ wrap (getD regs 48 0 + offset) → to % 2 ≡ 0 → Reached EX start size (heldAt 48 regs) to 2 → at ≡ rd % 16 * 3
+    → to ≡ wrap (getD regs 48 0 + offset) → to % 2 ≡ 0 → (heldAt 48 regs .tag ≡ 1 → Reached EX start size (heldAt 48 regs) to 2) → at ≡ rd % 16 * 3
     → after ≡ wentOn to (writtenAt at (linkAt edition next (getD regs 49 0) (getD regs 63 0)) regs)
     → LinkTurns start edition rd offset next regs after t × SteadyIf (t .done) regs after
 unfolding jumpEffect capabilityAt
-link-turned regs after start size edition rd offset next to at t long u e z r w h =
+link-turned regs after start size edition rd offset next to at t long u e z g w h =
     rw u (
       λ m a n mem tags s q.
+          let r = g (pcc-words regs m a (s .pcc-is) .2) in
           linked-turned regs after mem tags start m a n next to at rd edition (mstatusOf regs) s q (jumpEffect n edition (Jal rd offset) regs)
           (moveOf (pccOf regs) to) (ap (λ (x : ℕ). jalEffect n edition rd x regs) (sym e) ∙ jal-inside regs start size to r z n edition rd)
           (moved-is (pccOf regs) start size to r ∙ ap (λ (c : Capability). pccAt (c .metadata) to) (s .pcc-is)) refl w h,
@@ -222,3 +225,18 @@ accepted-not-shut edition rd rs1 offset c z h = rw (z, h) (go (sealed c))
     go : (b : Bool) → (b && false) ≡ false
     go true = refl
     go false = refl
+
+-- ---- where PCC lands
+
+pub landed : (start size : ℕ) (rows regs : List ℕ) (c : Capability) (to : ℕ) → Good start size rows → c ≡ heldAt 48 regs → to < 2 ^ 32 → Lands rows c to
+    → heldAt 48 regs .tag ≡ 1 → Reached EX start size (heldAt 48 regs) to 2
+landed start size rows regs c to good e fits l tag =
+    let i = rw e at (l .in-row) in
+    reached start size rows 96 to 2 (heldAt 48 regs) good (omega arith) refl tag (rw e at (l .own-fits)) fits i
+
+pub went : (start size : ℕ) (rows regs after : List ℕ) (c : Capability) (to : ℕ) (t : Took) → Good start size rows → c ≡ heldAt 48 regs → to < 2 ^ 32
+    → Lands rows c to → after ≡ wentOn to regs → t ≡ doneTurn → Went start size to regs after t
+went start size rows regs after c to t good e fits l h u = rw u ((h, l .is-even, landed start size rows regs c to good e fits l), refl)
+
+pub stayed : (start size to : ℕ) (regs : List ℕ) (t : Took) → t ≡ leftTurn → Went start size to regs regs t
+stayed start size to regs t u = rw u (refl, refl)

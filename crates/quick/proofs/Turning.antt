@@ -56,15 +56,15 @@ module _ (board : Board) (revoked : List ℕ) (n : ℕ) (s₀ : State) (w₀ : W
   unfolding stepOf
   file-long = rw stepped (applied-long _ _ _ s .same-registers)
 
-  pub running-on : (trapped' : ℕ) (watch' : Watch) (lens' rows' : List ℕ) (base' limit' : ℕ)
+  pub running-on : (trapped' : ℕ) (watch' : Watch) (keys' rows' : List ℕ) (base' limit' : ℕ)
       → kept trapped' watch' ≡ keptAfter (board .start) (effectAt board revoked s) (kept trapped watch)
-      → Entries (board .start) (after .mem) low high lens' keys code → Good (board .start) (length (s .mem)) rows' → Calm base' (k + 1) limit' (after .regs)
-      → Running board revoked n s₀ w₀ after code keys lens' rows' low high base' limit' watch' trapped' (k + 1)
-  running-on trapped' watch' lens' rows' base' limit' counted e g c = record {
+      → Entries (board .start) (after .mem) low high lens keys' code → Good (board .start) (length (s .mem)) rows' → Calm base' (k + 1) limit' (after .regs)
+      → Running board revoked n s₀ w₀ after code keys' lens rows' low high base' limit' watch' trapped' (k + 1)
+  running-on trapped' watch' keys' rows' base' limit' counted e g c = record {
     in-run = omega (arith, more);
     few-trapped = machine.turn-few board n k revoked s after (kept trapped watch) (kept trapped' watch') more (r .few-trapped) fits stepped counted;
     whole-file = file-long ∙ r .whole-file;
-    keys-long = r .keys-long;
+    lens-long = r .lens-long;
     code-long = r .code-long;
     entries-hold = e;
     reach-holds = rw memory-long g;
@@ -173,39 +173,40 @@ module _ (board : Board) (revoked : List ℕ) (n : ℕ) (s₀ : State) (w₀ : W
   memory-is after h = ap (λ (x : State). x .mem) h
 
   kept-entries : (after : State) (at width : ℕ) → after ≡ stepOf board revoked s → MayStore (storedBy does) at width
-      → Entries (board .start) (after .mem) low high (forgotten low high (board .start) at width lens) keys code
+      → Entries (board .start) (after .mem) low high lens (forgotten low high (board .start) at width keys) code
   kept-entries after at width h m =
       rw (memory-is after h) (entries-after (board .start) (s .mem) low high lens keys code (storedBy does) at width aligned within m (r .entries-hold))
 
   -- at an entry
   module _ (i pc : ℕ) (slot : i < entries) (pc-is : pc ≡ getD (s .regs) 48 0) (pc-fits : pc < 2 ^ 32)
-      (ready : (k < limit) × (getD lens i 0 ≡ 0 → ⊥) × (getD keys i 0 ≡ base + pc)) where
-    pub here : Entry (board .start) (s .mem) low high i (getD keys i 0) (getD lens i 0) (getD code i Plain)
-    here = r .entries-hold i slot (ready .1)
-
-    abbrev quiet : (getD (s .regs) 50 0 ≡ 1) × Quiet (limit - k) (s .regs)
+      (ready : (k < limit) × (getD keys i 0 ≡ base + pc)) where
+    abbrev quiet : (getD (s .regs) 50 0 ≡ 1) × (getD (s .regs) 49 0 ≡ 0 → ⊥) × Quiet (limit - k) (s .regs)
     quiet = r .calm-holds .1 (ready .0)
+
+    -- a key that is 0 is of the word 0
+    pub here : Entry (board .start) (s .mem) low high i (getD keys i 0) (getD lens i 0) (getD code i Plain)
+    here = r .entries-hold i slot (λ z. quiet .1 (omega (arith, z, ready .1, r .calm-holds .0)))
 
     pcc-here : pccOf (s .regs) ≡ pccAt (here .word) (here .address)
     pcc-here =
         let key : keyOf (here .word) (here .address) ≡ getD (s .regs) 49 0 * 2 ^ 32 + pc =
-        sym (here .key-is) ∙ ready .2 ∙ ap (λ (b : ℕ). b + pc) (r .calm-holds .0) in
+        sym (here .key-is) ∙ ready .1 ∙ ap (λ (b : ℕ). b + pc) (r .calm-holds .0) in
         let two = key-splits (here .word) (here .address) (getD (s .regs) 49 0) pc (here .decoded .address-fits) pc-fits key in
         pcc-of-words (s .regs) (here .word) (here .address) (sym pc-is ∙ sym (two .1)) (sym (two .0)) (quiet .0)
 
     due-here : interrupted (s .regs) ≡ false
-    due-here = not-due (s .regs) (limit - k) (omega (arith, ready .0)) (quiet .1)
+    due-here = not-due (s .regs) (limit - k) (omega (arith, ready .0)) (quiet .2)
 
     module _ (after : State) (t : Took) (turned : TurnedBy board revoked (getD code i Plain) (getD lens i 0) s after t) (rows' : List ℕ)
         (good : Good (board .start) (length (s .mem)) rows') where
       pub way-done : t .done ≡ true → compareOf (s .regs) < 2 ^ 64 → (watch' : Watch) → watch' ≡ notedAt watch (board .start) (t .at) (t .width)
-          → (lens' : List ℕ) → lens' ≡ forgotten low high (board .start) (t .at) (t .width) lens
-          → Running board revoked n s₀ w₀ after code keys lens' rows' low high base limit watch' trapped (k + 1)
-      way-done h far watch' w lens' f =
+          → (keys' : List ℕ) → keys' ≡ forgotten low high (board .start) (t .at) (t .width) keys
+          → Running board revoked n s₀ w₀ after code keys' lens rows' low high base limit watch' trapped (k + 1)
+      way-done h far watch' w keys' f =
           let d =
           turn-done board revoked s after low high i (getD keys i 0) (getD lens i 0) (getD code i Plain) t here (r .whole-file) pcc-here due-here turned h in
           rw f (running-on board revoked n s₀ w₀ s after code keys lens rows low high base limit watch trapped k r more fits (d .0) trapped watch'
-          (forgotten low high (board .start) (t .at) (t .width) lens) rows' base limit
+          (forgotten low high (board .start) (t .at) (t .width) keys) rows' base limit
           (ap (λ (x : Watch). kept trapped x) w ∙ done-counts (board .start) (t .at) (t .width) trapped (length (s .mem)) watch does (d .1) within (d .2))
           (kept-entries after (t .at) (t .width) (d .0)
           (turn-may board revoked s after low high i (getD keys i 0) (getD lens i 0) (getD code i Plain) t here (r .whole-file) pcc-here due-here turned h))
@@ -214,31 +215,31 @@ module _ (board : Board) (revoked : List ℕ) (n : ℕ) (s₀ : State) (w₀ : W
       -- a turn that is done and stored nothing: the entries and the record stay
       pub way-silent : (t .done ≡ true) × (t .width ≡ 0) → compareOf (s .regs) < 2 ^ 64
           → Running board revoked n s₀ w₀ after code keys lens rows' low high base limit watch trapped (k + 1)
-      way-silent (h, z) far = way-done h far watch (rw z refl) lens (rw z refl)
+      way-silent (h, z) far = way-done h far watch (rw z refl) keys (rw z refl)
 
       pub way-left : t .done ≡ false → (last : State) (a b : ℕ) (watch' : Watch) (base' limit' : ℕ) → ran last a b ≡ iterate 1 board revoked (ran after 0 0)
           → watch' ≡ watchedBy 1 board revoked after watch → Calm base' (k + 1) limit' (last .regs)
-          → (lens' : List ℕ) → lens' ≡ forgotten low high (board .start) (t .at) (t .width) lens
-          → Running board revoked n s₀ w₀ last code keys lens' rows' low high base' limit' watch' (trapped + b) (k + 1)
-      way-left h last a b watch' base' limit' g w c lens' f =
+          → (keys' : List ℕ) → keys' ≡ forgotten low high (board .start) (t .at) (t .width) keys
+          → Running board revoked n s₀ w₀ last code keys' lens rows' low high base' limit' watch' (trapped + b) (k + 1)
+      way-left h last a b watch' base' limit' g w c keys' f =
           let d =
           turn-left board revoked s after low high i (getD keys i 0) (getD lens i 0) (getD code i Plain) t here (r .whole-file) pcc-here due-here turned h in
           let p = plain-step board revoked s last a b (g ∙ ap (λ (x : State). iterate 1 board revoked (ran x 0 0)) (d .0)) in
           rw f (running-on board revoked n s₀ w₀ s last code keys lens rows low high base limit watch trapped k r more fits (p .0) (trapped + b) watch'
-          (forgotten low high (board .start) (t .at) (t .width) lens) rows' base' limit'
+          (forgotten low high (board .start) (t .at) (t .width) keys) rows' base' limit'
           (plain-counts board revoked s trapped b watch watch' (omega (arith, r .few-trapped, more, fits)) (p .1)
           (w ∙ ap (λ (x : State). watchedBy 1 board revoked x watch) (d .0)))
           (kept-entries last (t .at) (t .width) (p .0) (d .1)) good c)
 
   -- with no entry: a plain step of which nothing is known
-  pub way-plain : (last : State) (a b : ℕ) (watch' : Watch) (lens' : List ℕ) (base' limit' : ℕ) → ran last a b ≡ iterate 1 board revoked (ran s 0 0)
-      → watch' ≡ watchedBy 1 board revoked s watch → ClearedUnless b lens lens' → Calm base' (k + 1) limit' (last .regs)
-      → Running board revoked n s₀ w₀ last code keys lens' rows low high base' limit' watch' (trapped + b) (k + 1)
-  way-plain last a b watch' lens' base' limit' g w cleared c =
+  pub way-plain : (last : State) (a b : ℕ) (watch' : Watch) (keys' : List ℕ) (base' limit' : ℕ) → ran last a b ≡ iterate 1 board revoked (ran s 0 0)
+      → watch' ≡ watchedBy 1 board revoked s watch → ClearedUnless b keys keys' → Calm base' (k + 1) limit' (last .regs)
+      → Running board revoked n s₀ w₀ last code keys' lens rows low high base' limit' watch' (trapped + b) (k + 1)
+  way-plain last a b watch' keys' base' limit' g w cleared c =
       let p = plain-step board revoked s last a b g in
       running-on board revoked n s₀ w₀ s last code keys lens rows low high base limit watch trapped k r more fits (p .0) (trapped + b) watch'
-      lens' rows base' limit' (plain-counts board revoked s trapped b watch watch' (omega (arith, r .few-trapped, more, fits)) (p .1) w)
-      (entries-cleared (board .start) (s .mem) low high lens keys code b (last .mem) lens' cleared
+      keys' rows base' limit' (plain-counts board revoked s trapped b watch watch' (omega (arith, r .few-trapped, more, fits)) (p .1) w)
+      (entries-cleared (board .start) (s .mem) low high lens keys code b (last .mem) keys' cleared
       (λ z. memory-is last (p .0) ∙ trap-stores does (s .mem) (λ t. z (rw t at (p .1)))) (r .entries-hold))
       (r .reach-holds) c
 
@@ -254,10 +255,10 @@ way-found board revoked n s₀ w₀ s code keys lens rows low high base limit wa
       in-run = r .in-run;
       few-trapped = r .few-trapped;
       whole-file = r .whole-file;
-      keys-long = length-set keys i key ∙ r .keys-long;
+      lens-long = length-set lens i (f .bytes) ∙ r .lens-long;
       code-long = length-set code i (f .op) ∙ r .code-long;
       entries-hold =
-          entries-put (board .start) (s .mem) low high low' high' lens keys code i key (f .bytes) (f .op) slot (r .keys-long) (r .code-long)
+          entries-put (board .start) (s .mem) low high low' high' lens keys code i key (f .bytes) (f .op) slot (r .lens-long) (r .code-long)
           (record {
             word = pcc .metadata;
             address = pcc .address;

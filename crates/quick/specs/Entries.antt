@@ -83,14 +83,14 @@ pub record Entry (start : ℕ) (mem : List ℕ) (low high j key bytes : ℕ) (op
   pub means : Means op instruction
   pub placed : Placed op
 
--- each entry that has a length is one
+-- each entry that has a key is one
 abbrev pub Entries : (start : ℕ) → (mem : List ℕ) → (low high : ℕ) → (lens keys : List ℕ) → (code : List Operation) → Type 0
 Entries start mem low high lens keys code =
-    (j : ℕ) → j < entries → (getD lens j 0 ≡ 0 → ⊥) → Entry start mem low high j (getD keys j 0) (getD lens j 0) (getD code j Plain)
+    (j : ℕ) → j < entries → (getD keys j 0 ≡ 0 → ⊥) → Entry start mem low high j (getD keys j 0) (getD lens j 0) (getD code j Plain)
 
 -- the entry i that a step stands at for a key, where it is one
-abbrev pub ReadyAt : (i k limit : ℕ) → (lens keys : List ℕ) → (key : ℕ) → Type 0
-ReadyAt i k limit lens keys key = i < entries → (k < limit) × (getD lens i 0 ≡ 0 → ⊥) × (getD keys i 0 ≡ key)
+abbrev pub ReadyAt : (i k limit : ℕ) → (keys : List ℕ) → (key : ℕ) → Type 0
+ReadyAt i k limit keys key = i < entries → (k < limit) × (getD keys i 0 ≡ key)
 
 -- ---- how one is made
 
@@ -124,21 +124,21 @@ FirstLook missed f = (f .bytes ≡ 0 → ⊥) → missed ≡ 0
 -- ---- what a store leaves of them
 
 -- no entry at the slot of a half's number
-abbrev pub clearedSlot : (half : ℕ) → (lens : List ℕ) → List ℕ
-clearedSlot half lens = set (set lens (half % slots) 0) (half % slots + slots) 0
+abbrev pub clearedSlot : (half : ℕ) → (keys : List ℕ) → List ℕ
+clearedSlot half keys = set (set keys (half % slots) 0) (half % slots + slots) 0
 
 -- nor at the five slots around an address
-abbrev pub clearedNear : (address : ℕ) → (lens : List ℕ) → List ℕ
-clearedNear address lens =
+abbrev pub clearedNear : (address : ℕ) → (keys : List ℕ) → List ℕ
+clearedNear address keys =
     let first = address / 2 + slots - 1 in
-    clearedSlot (first + 4) (clearedSlot (first + 3) (clearedSlot (first + 2) (clearedSlot (first + 1) (clearedSlot first lens))))
+    clearedSlot (first + 4) (clearedSlot (first + 3) (clearedSlot (first + 2) (clearedSlot (first + 1) (clearedSlot first keys))))
 
 -- width bytes at a place touch the hull
 abbrev pub touchesHull : (low high at width : ℕ) → Bool
 touchesHull low high at width = ltb low (at + width) && ltb at high
 
-abbrev pub forgotten : (low high start at width : ℕ) → (lens : List ℕ) → List ℕ
-forgotten low high start at width lens = cond (eqb width 0) lens (cond (touchesHull low high at width) (clearedNear (start + at) lens) lens)
+abbrev pub forgotten : (low high start at width : ℕ) → (keys : List ℕ) → List ℕ
+forgotten low high start at width keys = cond (eqb width 0) keys (cond (touchesHull low high at width) (clearedNear (start + at) keys) keys)
 
 -- no entry, unless a step trapped
 abbrev pub ClearedUnless : (trapped : ℕ) → (before after : List ℕ) → Type 0
@@ -150,9 +150,10 @@ ClearedUnless trapped before after = ((trapped ≡ 0 → ⊥) × (after ≡ befo
 abbrev pub Quiet : (left : ℕ) → (regs : List ℕ) → Type 0
 Quiet left regs = (left ≡ 0) ⊎ ((bit (mstatusOf regs) MIE ≡ 0) ⊎ (timeOf regs + left ≤ compareOf regs))
 
--- Where steps are left, PCC's tag is set and no interrupt is due in them. In no step at all nothing is asked, so a time past compare has no steps left.
+-- Where steps are left, PCC's tag is set, its word is not 0, so that its key is none that was cleared, and no interrupt is due in them. In no step at all
+-- nothing is asked, so a time past compare has no steps left.
 abbrev pub QuietUntil : (k limit : ℕ) → (regs : List ℕ) → Type 0
-QuietUntil k limit regs = k < limit → (getD regs 50 0 ≡ 1) × Quiet (limit - k) regs
+QuietUntil k limit regs = k < limit → (getD regs 50 0 ≡ 1) × (getD regs 49 0 ≡ 0 → ⊥) × Quiet (limit - k) regs
 
 -- and the key's word is PCC's
 abbrev pub Calm : (base k limit : ℕ) → (regs : List ℕ) → Type 0

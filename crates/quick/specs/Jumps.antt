@@ -2,7 +2,7 @@
 use mathlib.Core.Bool.{Bool, true, false, not, _&&_, _||_}
 use mathlib.Core.List.{List}
 use mathlib.Core.Path.{_≡_}
-use Prim.Native.Nat.{ℕ, _+_, _*_, _%_}
+use Prim.Native.Nat.{ℕ, _+_, _*_, _%_, _^_, _<_}
 use Rattle.words.specs.Words.{wrap}
 use lib.Dec.{eqb}
 use Rattle.metadata.specs.Rights.{EX}
@@ -15,14 +15,21 @@ use Rattle.state.specs.Addresses.{targetBytes, targetAlignment}
 use Rattle.state.specs.Lent.{state}
 use Rattle.jump_instructions.specs.Editions.{accepts, linkType}
 use Rattle.jump_instructions.specs.Jumps.{jumpEffect}
-use Rattle.quick.specs.Rows.{Reached}
+use Rattle.quick.specs.Rows.{rowOfPcc, InRow, Reached}
 use Rattle.quick.specs.Turns.{wentOn, heldAt, pccAt, pccPlace, Stands, Turned}
 use Rattle.quick.specs.declared.Took.{Took}
 
--- PCC goes to an aligned target that it reaches; or nothing is changed
+-- a target is aligned and in PCC's row, and so is PCC's address
+pub record Lands (rows : List ℕ) (pcc : Capability) (to : ℕ) : Type 0 where
+  pub is-even : to % targetAlignment ≡ 0
+  pub own-fits : pcc .address < 2 ^ 32
+  pub in-row : InRow rows rowOfPcc pcc to targetBytes
+
+-- PCC goes to an aligned target, which it reaches where it is tagged; or nothing is changed
 abbrev pub WentIf : Bool → (start size to : ℕ) → (before after : List ℕ) → Type 0
 WentIf true start size to before after =
-    (after ≡ wentOn to before) × (to % targetAlignment ≡ 0) × Reached EX start size (heldAt pccPlace before) to targetBytes
+    (after ≡ wentOn to before) × (to % targetAlignment ≡ 0)
+    × (heldAt pccPlace before .tag ≡ 1 → Reached EX start size (heldAt pccPlace before) to targetBytes)
 WentIf false start size to before after = after ≡ before
 
 -- and nothing is stored

@@ -19,7 +19,7 @@ pub record Running (board : Board) (revoked : List ℕ) (n : ℕ) (s₀ : State)
   pub in-run : k ≤ n
   pub few-trapped : trapped ≤ k
   pub whole-file : length (s .regs) ≡ registerWords
-  pub keys-long : length keys ≡ entries
+  pub lens-long : length lens ≡ entries
   pub code-long : length code ≡ entries
   pub entries-hold : Entries (board .start) (s .mem) low high lens keys code
   pub reach-holds : Good (board .start) (length (s .mem)) rows

@@ -1,4 +1,4 @@
-// Entries: the code that is kept, by slot. Its lengths, keys and operations are three arrays; a length of 0 is no entry.
+// Entries: the code that is kept, by slot. Its keys, lengths and operations are three arrays; a key of 0 is no entry.
 use crate::Found;
 use crate::Took;
 use capability::Capability;
@@ -92,30 +92,30 @@ pub(crate) fn look(missed: u32, pcc: Capability, start: u32, mem: &[u8]) -> Foun
 }
 
 // No entry left at a slot.
-fn clear_slot(lens: &mut [u32; 2048], half: usize)
-    ensures { λ _. ⌜ now (lens .exit) ≡ clearedSlot half (now (lens .entry)) ⌝ }
+fn clear_slot(keys: &mut [u64; 2048], half: usize)
+    ensures { λ _. ⌜ now (keys .exit) ≡ clearedSlot half (now (keys .entry)) ⌝ }
 {
     let slot = half % SLOTS;
-    lens[slot] = 0;
-    lens[slot + SLOTS] = 0;
+    keys[slot] = 0;
+    keys[slot + SLOTS] = 0;
 }
 
 // No entry left at the five slots around an address.
-fn clear_near(lens: &mut [u32; 2048], address: usize)
+fn clear_near(keys: &mut [u64; 2048], address: usize)
     requires { ⌜ address < 2 ^ 33 ⌝ }
-    ensures { λ _. ⌜ now (lens .exit) ≡ clearedNear address (now (lens .entry)) ⌝ }
+    ensures { λ _. ⌜ now (keys .exit) ≡ clearedNear address (now (keys .entry)) ⌝ }
 {
     let first = address / 2 + SLOTS - 1;
-    clear_slot(lens, first);
-    clear_slot(lens, first + 1);
-    clear_slot(lens, first + 2);
-    clear_slot(lens, first + 3);
-    clear_slot(lens, first + 4);
+    clear_slot(keys, first);
+    clear_slot(keys, first + 1);
+    clear_slot(keys, first + 2);
+    clear_slot(keys, first + 3);
+    clear_slot(keys, first + 4);
 }
 
 // The entries after width bytes are stored at a place.
-pub(crate) fn forget(lens: &mut [u32; 2048], low: u64, high: u64, start: u32, at: u32, width: u32)
-    ensures { λ _. ⌜ now (lens .exit) ≡ forgotten low high start at width (now (lens .entry)) ⌝ }
+pub(crate) fn forget(keys: &mut [u64; 2048], low: u64, high: u64, start: u32, at: u32, width: u32)
+    ensures { λ _. ⌜ now (keys .exit) ≡ forgotten low high start at width (now (keys .entry)) ⌝ }
 {
     if width == 0 {
         return;
@@ -126,7 +126,7 @@ pub(crate) fn forget(lens: &mut [u32; 2048], low: u64, high: u64, start: u32, at
     if high <= at as u64 {
         return;
     }
-    clear_near(lens, start as usize + at as usize);
+    clear_near(keys, start as usize + at as usize);
 }
 
 // Whether a turn is done and stored nothing.
@@ -170,55 +170,44 @@ pub(crate) fn key_of(base: u64, address: u32) -> u64
 }
 
 // The entry that step k stands at, for a key of a slot; where there is none, the number of entries.
-pub(crate) fn entry_for(
-    k: u32,
-    limit: u32,
-    lens: &[u32; 2048],
-    keys: &[u64; 2048],
-    slot: usize,
-    key: u64,
-) -> usize
+pub(crate) fn entry_for(k: u32, limit: u32, keys: &[u64; 2048], slot: usize, key: u64) -> usize
     requires { ⌜ slot < slots ⌝ }
-    ensures { λ r. ⌜ ReadyAt r k limit (now (lens .entry)) (now (keys .entry)) key ⌝ }
+    ensures { λ r. ⌜ ReadyAt r k limit (now (keys .entry)) key ⌝ }
 {
     if limit <= k {
         return ENTRIES;
     }
     if keys[slot] == key {
-        if lens[slot] != 0 {
-            return slot;
-        }
+        return slot;
     }
     let other = slot + SLOTS;
     if keys[other] == key {
-        if lens[other] != 0 {
-            return other;
-        }
+        return other;
     }
     ENTRIES
 }
 
 // The entry that new code of a slot takes: the first, unless that is in use.
-pub(crate) fn room_at(lens: &[u32; 2048], slot: usize) -> usize
+pub(crate) fn room_at(keys: &[u64; 2048], slot: usize) -> usize
     requires { ⌜ slot < slots ⌝ }
     ensures { λ r. ⌜ (slotAt r ≡ slot) × (r < entries) ⌝ }
 {
-    if lens[slot] == 0 {
+    if keys[slot] == 0 {
         return slot;
     }
     slot + SLOTS
 }
 
 // No entry left after a step of which nothing is known, unless it trapped and so stored nothing.
-pub(crate) fn clear_unless(lens: &mut [u32; 2048], trapped: u32)
-    ensures { λ _. ⌜ ClearedUnless trapped (now (lens .entry)) (now (lens .exit)) ⌝ }
+pub(crate) fn clear_unless(keys: &mut [u64; 2048], trapped: u32)
+    ensures { λ _. ⌜ ClearedUnless trapped (now (keys .entry)) (now (keys .exit)) ⌝ }
 {
     if trapped != 0 {
         return;
     }
     let mut i = 0;
     while i < ENTRIES {
-        lens[i] = 0;
+        keys[i] = 0;
         i += 1;
     }
 }

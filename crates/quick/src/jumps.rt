@@ -5,7 +5,7 @@ ghost use Prim.Native.Nat.{_≤_};
 ghost use lib.ListN.{length};
 ghost use Rattle.state.specs.Layout.{registerWords};
 ghost use Rattle.quick.specs.Rows.{Good};
-ghost use Rattle.quick.specs.Jumps.{Went, GoTurns, BranchTurns, linkAt, LinkTurns, shut, RegisterTurns};
+ghost use Rattle.quick.specs.Jumps.{Lands, Went, GoTurns, BranchTurns, linkAt, LinkTurns, shut, RegisterTurns};
 ghost use Rattle.quick.specs.Steady.{SteadyIf};
 use crate::Took;
 use crate::pace::STATUS_PLACE;
@@ -21,32 +21,26 @@ use state::TARGET_ALIGNMENT;
 use state::TARGET_BYTES;
 use std::num::wrapping_add_u32;
 
-// PCC at a target that it reaches; else nothing is changed.
+// Whether PCC, where it is tagged, is itself at a target. A turn is of a tagged PCC: nothing is asked of its tag here.
+fn is_landing(rows: &[u64; 99], pcc: Capability, to: u32) -> bool
+    ensures { λ r. ⌜ (r ≡ true → Lands (now (rows .entry)) pcc to) ⌝ }
+{
+    if to % TARGET_ALIGNMENT != 0 {
+        return false;
+    }
+    rows::in_row(rows, ROW_OF_PCC, pcc, to, TARGET_BYTES)
+}
+
+// PCC at a target; else nothing is changed.
 fn go_to(rows: &[u64; 99], regs: &mut [u32], start: u32, size: usize, to: u32) -> Took
     requires { ⌜ (length (now regs) ≡ registerWords) × Good start size (now rows) ⌝ }
     ensures { λ t. ⌜ Went start size to (now (regs .entry)) (now (regs .exit)) t ⌝ }
 {
-    if to % TARGET_ALIGNMENT != 0 {
-        return Took {
-            done: false,
-            at: 0,
-            width: 0,
-        };
-    }
-    let pcc = registers::read_pcc(regs);
-    if rows::has(rows, ROW_OF_PCC, pcc, to, TARGET_BYTES) {
+    if is_landing(rows, registers::read_pcc(regs), to) {
         registers::go_on(regs, to);
-        return Took {
-            done: true,
-            at: 0,
-            width: 0,
-        };
+        return turn::done();
     }
-    Took {
-        done: false,
-        at: 0,
-        width: 0,
-    }
+    turn::left()
 }
 
 // CJAL to c0.
@@ -88,11 +82,7 @@ pub(crate) fn take_branch(
         return go_to(rows, regs, start, size, target);
     }
     registers::go_on(regs, to);
-    Took {
-        done: true,
-        at: 0,
-        width: 0,
-    }
+    turn::done()
 }
 
 // The link of a jump: PCC's word at the address after it, sealed.
@@ -123,11 +113,8 @@ pub(crate) fn take_link(
         × SteadyIf (t .done) (now (regs .entry)) (now (regs .exit)) ⌝ }
 {
     let to = wrapping_add_u32(regs[PCC_PLACE], offset);
-    if to % TARGET_ALIGNMENT != 0 {
-        return turn::left();
-    }
     let pcc = registers::read_pcc(regs);
-    if !rows::has(rows, ROW_OF_PCC, pcc, to, TARGET_BYTES) {
+    if !is_landing(rows, pcc, to) {
         return turn::left();
     }
     let link = link_at(edition, next, pcc.metadata, regs[STATUS_PLACE]);

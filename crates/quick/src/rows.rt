@@ -12,10 +12,10 @@ pub(crate) const ROW_OF_PCC: usize = 96;
 
 pub(crate) const ROW_WORDS: usize = 99;
 
-// Whether a row has width bytes at an address for a capability.
-fn in_row(rows: &[u64; 99], i: usize, c: Capability, address: u32, width: u32) -> bool
+// Whether a row has width bytes at an address for a capability, tagged or not.
+pub(crate) fn in_row(rows: &[u64; 99], i: usize, c: Capability, address: u32, width: u32) -> bool
     requires { ⌜ i ≤ rowOfPcc ⌝ }
-    ensures { λ r. ⌜ (r ≡ true → InRow (now (rows .entry)) i c address width) ⌝ }
+    ensures { λ r. ⌜ (r ≡ true → (c .address < 2 ^ 32) × InRow (now (rows .entry)) i c address width) ⌝ }
 {
     if rows[i] != c.metadata as u64 {
         return false;

@@ -67,7 +67,7 @@ pub(crate) fn take_quick(
     while k < n {
         let pc = regs[PCC_PLACE];
         let slot = entries::slot_of(pc);
-        let i = entries::entry_for(k, limit, &lens, &keys, slot, entries::key_of(base, pc));
+        let i = entries::entry_for(k, limit, &keys, slot, entries::key_of(base, pc));
         if i < ENTRIES {
             let op = code[i];
             let bytes = lens[i];
@@ -77,7 +77,7 @@ pub(crate) fn take_quick(
             if entries::is_silent(t) {
                 continue;
             }
-            entries::forget(&mut lens, low, high, board.start, t.at, t.width);
+            entries::forget(&mut keys, low, high, board.start, t.at, t.width);
             if t.done {
                 watch = noted(watch, board.start, t.at, t.width);
                 continue;
@@ -95,7 +95,7 @@ pub(crate) fn take_quick(
         if f.bytes != 0 {
             let op = f.op;
             let at = entries::place_in(board.start, pc);
-            let j = entries::room_at(&lens, slot);
+            let j = entries::room_at(&keys, slot);
             code[j] = op;
             keys[j] = entries::key_of(base, pc);
             lens[j] = f.bytes;
@@ -107,7 +107,7 @@ pub(crate) fn take_quick(
         let p = machine::take_watched(regs, board, mem, tags, revoked, 1, watch);
         watch = p.watch;
         trapped += p.trapped;
-        entries::clear_unless(&mut lens, p.trapped);
+        entries::clear_unless(&mut keys, p.trapped);
         base = pace::base_of(regs);
         k += 1;
         limit = pace::limit_from(regs, k, n);

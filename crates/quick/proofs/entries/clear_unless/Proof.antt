@@ -28,40 +28,32 @@ put-less l i j p q =
     (λ f. getD-set-other l i j 0 0 (λ e. eqb-false j i f e) ∙ p j (omega (arith, q, eqb-false j i f)))
 
 abbrev Inv-loop : tie.InvT-loop
-Inv-loop lens₀ trapped i₀ lens i = (i ≤ 2048) × ((j : ℕ) → j < i → getD lens j 0 ≡ 0)
+Inv-loop keys₀ trapped i₀ keys i = (i ≤ 2048) × ((j : ℕ) → j < i → getD keys j 0 ≡ 0)
 
 abbrev μ-loop : tie.MeasureT-loop
-μ-loop lens₀ trapped i₀ lens i = 2048 - i
+μ-loop keys₀ trapped i₀ keys i = 2048 - i
 
--- src/entries.rt:128:9
 returns : tie.Need-returns Inv-loop μ-loop
 returns c = inl (c .if1 .taken, refl)
 
--- src/entries.rt:131:5
 loop-holds : tie.Need-loop-holds Inv-loop μ-loop
 loop-holds c = (omega arith, λ j h. absurd (omega (arith, h)))
 
--- src/entries.rt:132:9
-mul-lens : tie.Need-mul-lens Inv-loop μ-loop
-mul-lens c = omega (arith, c .loop-test .taken)
+mul-keys : tie.Need-mul-keys Inv-loop μ-loop
+mul-keys c = omega (arith, c .loop-test .taken)
 
--- src/entries.rt:132:9
-element-write-lens : tie.Need-element-write-lens Inv-loop μ-loop
-element-write-lens c = omega (arith, c .loop-test .taken)
+element-write-keys : tie.Need-element-write-keys Inv-loop μ-loop
+element-write-keys c = omega (arith, c .loop-test .taken)
 
--- src/entries.rt:133:9
 add-i : tie.Need-add-i Inv-loop μ-loop
 add-i c = omega (arith, c .loop-test .taken)
 
--- src/entries.rt:131:5
 loop-less : tie.Need-loop-less Inv-loop μ-loop
 loop-less c = omega (arith, c .loop-test .taken)
 
--- src/entries.rt:131:5
 loop-again : tie.Need-loop-again Inv-loop μ-loop
-loop-again c = let l = c .before .loop in (omega (arith, c .loop-test .taken), λ j h. put-less (l .lens) (l .i) j (l .inv .1) h)
+loop-again c = let l = c .before .loop in (omega (arith, c .loop-test .taken), λ j h. put-less (l .keys) (l .i) j (l .inv .1) h)
 
--- src/entries.rt:124:1
 returns-2 : tie.Need-returns-2 Inv-loop μ-loop
 returns-2 c = inr (c .before .before .if1 .left, λ j h. c .before .loop .inv .1 j (omega (arith, h, c .loop-test .left)))
 
@@ -73,8 +65,8 @@ clear-unless-spec =
     μ-loop
     returns
     loop-holds
-    mul-lens
-    element-write-lens
+    mul-keys
+    element-write-keys
     add-i
     loop-less
     loop-again

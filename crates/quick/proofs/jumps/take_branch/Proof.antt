@@ -7,30 +7,24 @@ use Rattle.quick.proofs.jumps.take_branch.Tie as tie
 
 returns : tie.Need-returns
 returns c =
-    let call = c .before .before in
-    let sum = call .before .before in
-    let test = sum .before .before in
-    let reads = test .before in
-    let start = reads .before .before .before .before .before .before in
-    let takes = rw (reads .is-taken .ensures, reads .before .read2 .ensures, reads .before .before .before .read .ensures) at (test .if1 .taken) in (
-      branch-turned (start .args .regs .now) (call .go-to .last .1 .0) (start .args .start) (start .args .size) (start .args .offset)
-          (sum .wrapping-add-u32 .result) (call .go-to .result) (sum .wrapping-add-u32 .ensures)
-          (call .go-to .ensures) (start .args .kind) (start .args .from) (start .args .other) (start .args .to) takes,
-      went-steady (start .args .regs .now) (call .go-to .last .1 .0) (start .args .start) (start .args .size) (sum .wrapping-add-u32 .result)
-          (call .go-to .result) (start .pre .0) (call .go-to .ensures),
+    let c8 = c .before .before .before .before .before .before .before .before in
+    let a = c8 .before .before .before .before .before .args in
+    let to = c .before .before .before .before .wrapping-add-u32 in
+    let call = c .before .before .go-to in
+    let takes = rw (c .before .before .before .before .before .before .before .is-taken .ensures, c8 .read2 .ensures, c8 .before .before .read .ensures) at (c .before .before .before .before .before .before .if1 .taken) in (
+      branch-turned (a .regs .now) (call .last .1 .0) (a .start) (a .size) (a .offset) (to .result) (call .result) (to .ensures) (call .ensures) (a .kind)
+          (a .from) (a .other) (a .to) takes,
+      went-steady (a .regs .now) (call .last .1 .0) (a .start) (a .size) (to .result) (call .result) (c8 .before .before .before .before .before .pre .0) (call .ensures),
     )
 
 returns-2 : tie.Need-returns-2
 returns-2 c =
-    let call = c .before .before in
-    let test = call .before .before in
-    let reads = test .before in
-    let start = reads .before .before .before .before .before .before in
-    let passes = rw (reads .is-taken .ensures, reads .before .read2 .ensures, reads .before .before .before .read .ensures) at (test .if1 .left) in (
-      rw (call .go-on .ensures)
-          (branch-passed (start .args .regs .now) (start .args .start) (start .args .offset) (start .args .to) (start .args .kind) (start .args .from)
-          (start .args .other) passes),
-      steady-on (start .args .regs .now) _ (start .args .to) (start .pre .0) (call .go-on .ensures),
+    let c8 = c .before .before .before .before .before .before .before .before in
+    let a = c8 .before .before .before .before .args in
+    let passes = rw (c .before .before .before .before .before .before .is-taken .ensures, c .before .before .before .before .before .before .before .read2 .ensures, c8 .before .read .ensures) at (c .before .before .before .before .before .if1 .left) in (
+      rw (c .before .before .before .go-on .ensures, c .done .ensures)
+          (branch-passed (a .regs .now) (a .start) (a .offset) (a .to) (a .kind) (a .from) (a .other) passes),
+      rw (c .done .ensures) (steady-on (a .regs .now) _ (a .to) (c8 .before .before .before .before .pre .0) (c .before .before .before .go-on .ensures)),
     )
 
 pub take-branch-spec : {M : Type 1} → statement M
@@ -45,6 +39,7 @@ take-branch-spec =
     (λ c κs. search needs)
     (λ c. search needs)
     returns
+    (λ c κs. search needs)
     (λ c κs. search needs)
     (λ c. search needs)
     returns-2)

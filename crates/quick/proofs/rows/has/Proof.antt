@@ -1,5 +1,4 @@
 -- The tag, and what the row says.
-use native.Mathlib.Omega.{arith}
 use mathlib.Core.Bool.{true≢false}
 use mathlib.Core.Path.{sym}
 use borrow.Author.Needs.{needs}
@@ -10,7 +9,7 @@ returns : tie.Need-returns
 returns c = λ h. absurd (true≢false (sym h))
 
 returns-2 : tie.Need-returns-2
-returns-2 c = λ h. (c .before .if1 .left, omega (arith, c .before .before .struct-known .given), c .in-row .ensures h)
+returns-2 c = λ h. let r = c .in-row .ensures h in (c .before .if1 .left, r .0, r .1)
 
 pub has-spec : {M : Type 1} → statement M
 has-spec =

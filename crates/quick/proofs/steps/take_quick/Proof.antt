@@ -52,7 +52,7 @@ loop-holds c =
         in-run = omega arith;
         few-trapped = omega arith;
         whole-file = c8 .pre .0;
-        keys-long = length-replicate {A = ℕ} 2048 0;
+        lens-long = length-replicate {A = ℕ} 2048 0;
         code-long = length-replicate {A = Operation} 2048 Plain;
         entries-hold = entries-none (a .board .start) (a .mem .now) _ _ none none (replicate 2048 Plain) zs;
         reach-holds = good-empty (a .board .start) (length (a .mem .now)) (replicate 99 0) (length-replicate {A = ℕ} 99 0) (λ i. zeros 99 i);
@@ -73,10 +73,10 @@ slot-of-requires c κs = search needs
 
 key-of-requires : tie.Need-key-of-requires Inv-loop μ-loop
 key-of-requires c κs =
-    omega (arith, c .before .before .before .before .before .loop .inv .0 .calm-holds .0, c .before .before .before .slice-known4 .given 49)
+    omega (arith, c .before .before .before .before .loop .inv .0 .calm-holds .0, c .before .before .slice-known4 .given 49)
 
 entry-for-requires : tie.Need-entry-for-requires Inv-loop μ-loop
-entry-for-requires c κs = c .before .before .before .slot-of .ensures .1
+entry-for-requires c κs = c .before .before .slot-of .ensures .1
 
 mul-op : tie.Need-mul-op Inv-loop μ-loop
 mul-op c = omega (arith, c .if1 .taken)
@@ -94,16 +94,16 @@ turn-requires : tie.Need-turn-requires Inv-loop μ-loop
 turn-requires c κs =
     let c8 = c .before .before .before .before .before .before .before .before in
     let c16 = c8 .before .before .before .before .before .before .before .before in
-    let r = c8 .before .before .before .before .before .loop .inv .0 in
-    let more = c8 .before .before .before .before .loop-test .taken in
+    let r = c8 .before .before .before .before .loop .inv .0 in
+    let more = c8 .before .before .before .loop-test .taken in
     let y = c .before .before .before .before .before .before .entry-for .ensures (c .before .before .before .before .before .if1 .taken) in
     let key = c .before .before .before .before .before .before .before .key-of .ensures in
-    let given = c8 .before .before .before .slice-known4 .given in (
+    let given = c8 .before .before .slice-known4 .given in (
       r .whole-file,
       laws.here _ _ _ _ _ _ _ _ _ _ _ _ _ _ _ _ _ r more
-          (omega (arith, c16 .before .before .before .before .before .before .fits))
-          (c16 .before .before .before .before .before .before .pre .1) _ _
-          (c .before .before .before .before .before .if1 .taken) refl (omega (arith, given 48)) (y .0, y .1, y .2 ∙ key) .placed,
+          (omega (arith, c16 .before .before .before .before .before .fits))
+          (c16 .before .before .before .before .before .pre .1) _ _
+          (c .before .before .before .before .before .if1 .taken) refl (omega (arith, given 48)) (y .0, y .1 ∙ key) .placed,
       r .reach-holds,
     )
 
@@ -112,8 +112,8 @@ add-k c =
     let c8 = c .before .before .before .before .before .before .before .before in
     let c16 = c8 .before .before .before .before .before .before .before .before in
     let c24 = c16 .before .before .before .before .before .before .before .before in
-    let more = c16 .before .before .before .loop-test .taken in
-    omega (arith, more, c24 .before .before .before .before .before .fits)
+    let more = c16 .before .before .loop-test .taken in
+    omega (arith, more, c24 .before .before .before .before .fits)
 
 is-silent-requires : tie.Need-is-silent-requires Inv-loop μ-loop
 is-silent-requires c κs = search needs
@@ -122,24 +122,24 @@ loop-less : tie.Need-loop-less Inv-loop μ-loop
 loop-less c =
     let c8 = c .before .before .before .before .before .before .before .before in
     let c16 = c8 .before .before .before .before .before .before .before .before in
-    omega (arith, c16 .before .before .before .before .before .loop-test .taken)
+    omega (arith, c16 .before .before .before .before .loop-test .taken)
 
 loop-again : tie.Need-loop-again Inv-loop μ-loop
 loop-again c =
     let c8 = c .before .before .before .before .before .before .before .before in
     let c16 = c8 .before .before .before .before .before .before .before .before in
     let c24 = c16 .before .before .before .before .before .before .before .before in
-    let l = c16 .before .before .before .before .before .before .loop .inv in
-    let more = c16 .before .before .before .before .before .loop-test .taken in
+    let l = c16 .before .before .before .before .before .loop .inv in
+    let more = c16 .before .before .before .before .loop-test .taken in
     let y = c8 .before .before .before .before .before .before .before .entry-for .ensures (c8 .before .before .before .before .before .before .if1 .taken) in
     let key = c16 .key-of .ensures in
     let turned = c8 .turn .ensures in
-    let given = c16 .before .before .before .before .slice-known4 .given in
+    let given = c16 .before .before .before .slice-known4 .given in
     let silent = c .before .is-silent .ensures (c .if2 .taken) in (
       laws.way-silent _ _ _ _ _ _ _ _ _ _ _ _ _ _ _ _ _ (l .0) more
-          (omega (arith, c24 .before .before .before .before .before .before .before .fits))
-          (c24 .before .before .before .before .before .before .before .pre .1) _ _
-          (c8 .before .before .before .before .before .before .if1 .taken) refl (omega (arith, given 48)) (y .0, y .1, y .2 ∙ key) _ _ (turned .1) _ (turned .0)
+          (omega (arith, c24 .before .before .before .before .before .before .fits))
+          (c24 .before .before .before .before .before .before .pre .1) _ _
+          (c8 .before .before .before .before .before .before .if1 .taken) refl (omega (arith, given 48)) (y .0, y .1 ∙ key) _ _ (turned .1) _ (turned .0)
           silent (laws.compare-fits _ (omega (arith, given compareIndex)) (omega (arith, given (compareIndex + 1)))),
       omega (arith, l .1, c .before .before .before .before .before .before .before .regs .given),
       omega (arith, l .2, c .before .before .before .before .before .mem .given),
@@ -157,7 +157,7 @@ loop-less-2 c =
     let c8 = c .before .before .before .before .before .before .before .before in
     let c16 = c8 .before .before .before .before .before .before .before .before in
     let c24 = c16 .before .before .before .before .before .before .before .before in
-    omega (arith, c24 .before .loop-test .taken)
+    omega (arith, c24 .loop-test .taken)
 
 loop-again-2 : tie.Need-loop-again-2 Inv-loop μ-loop
 loop-again-2 c =
@@ -165,16 +165,16 @@ loop-again-2 c =
     let c16 = c8 .before .before .before .before .before .before .before .before in
     let c24 = c16 .before .before .before .before .before .before .before .before in
     let c32 = c24 .before .before .before .before .before .before .before .before in
-    let l = c24 .before .before .loop .inv in
-    let more = c24 .before .loop-test .taken in
+    let l = c24 .before .loop .inv in
+    let more = c24 .loop-test .taken in
     let y = c16 .before .before .before .entry-for .ensures (c16 .before .before .if1 .taken) in
     let key = c16 .before .before .before .before .key-of .ensures in
     let turned = c8 .before .before .before .before .turn .ensures in
-    let given = c24 .slice-known4 .given in (
+    let given = c16 .before .before .before .before .before .before .before .slice-known4 .given in (
       laws.way-done _ _ _ _ _ _ _ _ _ _ _ _ _ _ _ _ _ (l .0) more
-          (omega (arith, c32 .before .before .before .fits))
-          (c32 .before .before .before .pre .1) _ _
-          (c16 .before .before .if1 .taken) refl (omega (arith, given 48)) (y .0, y .1, y .2 ∙ key) _ _ (turned .1) _ (turned .0)
+          (omega (arith, c32 .before .before .fits))
+          (c32 .before .before .pre .1) _ _
+          (c16 .before .before .if1 .taken) refl (omega (arith, given 48)) (y .0, y .1 ∙ key) _ _ (turned .1) _ (turned .0)
           (c .before .if3 .taken) (laws.compare-fits _ (omega (arith, given compareIndex)) (omega (arith, given (compareIndex + 1))))
           _ (c .noted .ensures) _ (c .before .before .forget .ensures),
       omega (arith, l .1, c8 .before .before .before .regs .given),
@@ -187,7 +187,7 @@ read-pcc-requires c κs =
     let c8 = c .before .before .before .before .before .before .before .before in
     let c16 = c8 .before .before .before .before .before .before .before .before in
     let c24 = c16 .before .before .before .before .before .before .before .before in
-    let long = c24 .before .before .before .loop .inv .0 .whole-file in
+    let long = c24 .before .before .loop .inv .0 .whole-file in
     omega (arith, long, c8 .before .before .before .before .regs .given)
 
 learn-requires : tie.Need-learn-requires Inv-loop μ-loop
@@ -206,14 +206,14 @@ add-trapped c =
     let c32 = c24 .before .before .before .before .before .before .before .before in
     let c40 = c32 .before .before .before .before .before .before .before .before in
     let c48 = c40 .before .before .before .before .before .before .before .before in
-    let r = c40 .before .loop .inv .0 in
+    let r = c40 .loop .inv .0 in
     let step = c8 .take-watched .ensures .0 in
     omega (
       arith,
       r .few-trapped,
-      c40 .loop-test .taken,
+      c32 .before .before .before .before .before .before .before .loop-test .taken,
       laws.at-most-one _ _ _ _ _ _ step,
-      c48 .before .before .fits,
+      c48 .before .fits,
     )
 
 base-of-requires-2 : tie.Need-base-of-requires-2 Inv-loop μ-loop
@@ -223,7 +223,7 @@ base-of-requires-2 c κs =
     let c24 = c16 .before .before .before .before .before .before .before .before in
     let c32 = c24 .before .before .before .before .before .before .before .before in
     let c40 = c32 .before .before .before .before .before .before .before .before in
-    let long = c40 .before .before .loop .inv .0 .whole-file in
+    let long = c40 .before .loop .inv .0 .whole-file in
     omega (arith, long, c24 .before .before .before .regs .given, c8 .regs2 .given)
 
 limit-from-requires-2 : tie.Need-limit-from-requires-2 Inv-loop μ-loop
@@ -233,9 +233,9 @@ limit-from-requires-2 c κs =
     let c24 = c16 .before .before .before .before .before .before .before .before in
     let c32 = c24 .before .before .before .before .before .before .before .before in
     let c40 = c32 .before .before .before .before .before .before .before .before in
-    let long = c40 .before .before .before .before .loop .inv .0 .whole-file in (
+    let long = c40 .before .before .before .loop .inv .0 .whole-file in (
       omega (arith, long, c24 .before .before .before .before .before .regs .given, c8 .before .before .regs2 .given),
-      omega (arith, c40 .before .before .before .loop-test .taken),
+      omega (arith, c40 .before .before .loop-test .taken),
     )
 
 loop-less-3 : tie.Need-loop-less-3 Inv-loop μ-loop
@@ -245,7 +245,7 @@ loop-less-3 c =
     let c24 = c16 .before .before .before .before .before .before .before .before in
     let c32 = c24 .before .before .before .before .before .before .before .before in
     let c40 = c32 .before .before .before .before .before .before .before .before in
-    omega (arith, c40 .before .before .before .before .loop-test .taken)
+    omega (arith, c40 .before .before .before .loop-test .taken)
 
 loop-again-3 : tie.Need-loop-again-3 Inv-loop μ-loop
 loop-again-3 c =
@@ -255,19 +255,19 @@ loop-again-3 c =
     let c32 = c24 .before .before .before .before .before .before .before .before in
     let c40 = c32 .before .before .before .before .before .before .before .before in
     let c48 = c40 .before .before .before .before .before .before .before .before in
-    let l = c40 .before .before .before .before .before .loop .inv in
-    let more = c40 .before .before .before .before .loop-test .taken in
+    let l = c40 .before .before .before .before .loop .inv in
+    let more = c40 .before .before .before .loop-test .taken in
     let y = c32 .before .before .before .before .before .before .entry-for .ensures (c32 .before .before .before .before .before .if1 .taken) in
     let key = c32 .before .before .before .before .before .before .before .key-of .ensures in
     let turned = c24 .before .before .before .before .before .before .before .turn .ensures in
-    let given = c40 .before .before .before .slice-known4 .given in
+    let given = c40 .before .before .slice-known4 .given in
     let learnt = c16 .learn .ensures in
     let step = c8 .before .before .before .before .take-watched .ensures in
     let mem = c24 .before .before .before .before .mem .given in (
       laws.way-left _ _ _ _ _ _ _ _ _ _ _ _ _ _ _ _ _ (l .0) more
-          (omega (arith, c48 .before .before .before .before .before .before .fits))
-          (c48 .before .before .before .before .before .before .pre .1) _ _
-          (c32 .before .before .before .before .before .if1 .taken) refl (omega (arith, given 48)) (y .0, y .1, y .2 ∙ key) _ _ (turned .1) _ (rw mem at learnt)
+          (omega (arith, c48 .before .before .before .before .before .fits))
+          (c48 .before .before .before .before .before .pre .1) _ _
+          (c32 .before .before .before .before .before .if1 .taken) refl (omega (arith, given 48)) (y .0, y .1 ∙ key) _ _ (turned .1) _ (rw mem at learnt)
           (c16 .before .before .before .before .if3 .left) _ _ _ _ _ _
           (step .0) (step .1) (c .before .before .base-of2 .ensures, c .limit-from2 .ensures) _
           (c16 .before .before .before .before .before .forget .ensures),
@@ -279,7 +279,7 @@ loop-again-3 c =
 read-pcc-requires-2 : tie.Need-read-pcc-requires-2 Inv-loop μ-loop
 read-pcc-requires-2 c κs =
     let c8 = c .before .before .before .before .before .before .before .before in
-    c8 .before .loop .inv .0 .whole-file
+    c8 .loop .inv .0 .whole-file
 
 look-requires : tie.Need-look-requires Inv-loop μ-loop
 look-requires c κs = search needs
@@ -287,7 +287,7 @@ look-requires c κs = search needs
 base-of-requires-3 : tie.Need-base-of-requires-3 Inv-loop μ-loop
 base-of-requires-3 c κs =
     let c8 = c .before .before .before .before .before .before .before .before in
-    c8 .before .before .before .before .before .loop .inv .0 .whole-file
+    c8 .before .before .before .before .loop .inv .0 .whole-file
 
 place-in-requires : tie.Need-place-in-requires Inv-loop μ-loop
 place-in-requires c κs = search needs
@@ -295,7 +295,7 @@ place-in-requires c κs = search needs
 room-at-requires : tie.Need-room-at-requires Inv-loop μ-loop
 room-at-requires c κs =
     let c8 = c .before .before .before .before .before .before .before .before in
-    c8 .before .before .before .before .before .before .before .slot-of .ensures .1
+    c8 .before .before .before .before .before .before .slot-of .ensures .1
 
 mul-code : tie.Need-mul-code Inv-loop μ-loop
 mul-code c =
@@ -309,7 +309,7 @@ key-of-requires-2 : tie.Need-key-of-requires-2 Inv-loop μ-loop
 key-of-requires-2 c κs =
     let c8 = c .before .before .before .before .before .before .before .before in
     let c16 = c8 .before .before .before .before .before .before .before .before in
-    omega (arith, c .before .before .before .before .before .base-of3 .ensures, c16 .before .slice-known4 .given 49)
+    omega (arith, c .before .before .before .before .before .base-of3 .ensures, c16 .slice-known4 .given 49)
 
 mul-keys : tie.Need-mul-keys Inv-loop μ-loop
 mul-keys c =
@@ -334,7 +334,7 @@ add-larger : tie.Need-add-larger Inv-loop μ-loop
 add-larger c =
     let c8 = c .before .before .before .before .before .before .before .before in
     let c16 = c8 .before .before .before .before .before .before .before .before in
-    omega (arith, c .before .before .before .before .place-in .ensures, c16 .before .before .before .slice-known4 .given 48)
+    omega (arith, c .before .before .before .before .place-in .ensures, c16 .before .before .slice-known4 .given 48)
 
 larger-requires : tie.Need-larger-requires Inv-loop μ-loop
 larger-requires c κs = search needs
@@ -344,15 +344,15 @@ loop-less-4 c =
     let c8 = c .before .before .before .before .before .before .before .before in
     let c16 = c8 .before .before .before .before .before .before .before .before in
     let first = c8 .before .before .look .ensures .1 (c .before .before .before .before .before .before .if4 .taken) in
-    omega (arith, c16 .before .before .before .before .before .loop-test .taken, first)
+    omega (arith, c16 .before .before .before .before .loop-test .taken, first)
 
 loop-again-4 : tie.Need-loop-again-4 Inv-loop μ-loop
 loop-again-4 c =
     let c8 = c .before .before .before .before .before .before .before .before in
     let c16 = c8 .before .before .before .before .before .before .before .before in
-    let l = c16 .before .before .before .before .before .before .loop in
-    let given = c16 .before .before .before .before .slice-known4 .given in
-    let slot = c16 .before .before .before .slot-of .ensures in
+    let l = c16 .before .before .before .before .before .loop in
+    let given = c16 .before .before .before .slice-known4 .given in
+    let slot = c16 .before .before .slot-of .ensures in
     let room = c .before .before .before .room-at .ensures in
     let base = c8 .base-of3 .ensures in
     let at = c .before .before .before .before .before .place-in .ensures in
@@ -379,14 +379,14 @@ add-trapped-2 c =
     let c16 = c8 .before .before .before .before .before .before .before .before in
     let c24 = c16 .before .before .before .before .before .before .before .before in
     let c32 = c24 .before .before .before .before .before .before .before .before in
-    let r = c24 .before .before .before .before .loop .inv .0 in
+    let r = c24 .before .before .before .loop .inv .0 in
     let step = c8 .take-watched2 .ensures .0 in
     omega (
       arith,
       r .few-trapped,
-      c24 .before .before .before .loop-test .taken,
+      c24 .before .before .loop-test .taken,
       laws.at-most-one _ _ _ _ _ _ step,
-      c32 .before .before .before .before .before .fits,
+      c32 .before .before .before .before .fits,
     )
 
 clear-unless-requires : tie.Need-clear-unless-requires Inv-loop μ-loop
@@ -397,7 +397,7 @@ base-of-requires-4 c κs =
     let c8 = c .before .before .before .before .before .before .before .before in
     let c16 = c8 .before .before .before .before .before .before .before .before in
     let c24 = c16 .before .before .before .before .before .before .before .before in
-    omega (arith, c24 .before .before .before .before .before .before .before .loop .inv .0 .whole-file, c8 .before .before .regs3 .given)
+    omega (arith, c24 .before .before .before .before .before .before .loop .inv .0 .whole-file, c8 .before .before .regs3 .given)
 
 add-k-2 : tie.Need-add-k-2 Inv-loop μ-loop
 add-k-2 c =
@@ -406,8 +406,8 @@ add-k-2 c =
     let c24 = c16 .before .before .before .before .before .before .before .before in
     let c32 = c24 .before .before .before .before .before .before .before .before in
     let c40 = c32 .before .before .before .before .before .before .before .before in
-    let more = c24 .before .before .before .before .before .before .before .loop-test .taken in
-    omega (arith, more, c40 .before .fits)
+    let more = c24 .before .before .before .before .before .before .loop-test .taken in
+    omega (arith, more, c40 .fits)
 
 limit-from-requires-3 : tie.Need-limit-from-requires-3 Inv-loop μ-loop
 limit-from-requires-3 c κs =
@@ -415,8 +415,8 @@ limit-from-requires-3 c κs =
     let c16 = c8 .before .before .before .before .before .before .before .before in
     let c24 = c16 .before .before .before .before .before .before .before .before in
     let c32 = c24 .before .before .before .before .before .before .before .before in
-    let long = c32 .before .loop .inv .0 .whole-file in
-    (omega (arith, long, c8 .before .before .before .before .regs3 .given), omega (arith, c32 .loop-test .taken))
+    let long = c32 .loop .inv .0 .whole-file in
+    (omega (arith, long, c8 .before .before .before .before .regs3 .given), omega (arith, c24 .before .before .before .before .before .before .before .loop-test .taken))
 
 loop-less-5 : tie.Need-loop-less-5 Inv-loop μ-loop
 loop-less-5 c =
@@ -424,7 +424,7 @@ loop-less-5 c =
     let c16 = c8 .before .before .before .before .before .before .before .before in
     let c24 = c16 .before .before .before .before .before .before .before .before in
     let c32 = c24 .before .before .before .before .before .before .before .before in
-    omega (arith, c32 .before .loop-test .taken)
+    omega (arith, c32 .loop-test .taken)
 
 loop-again-5 : tie.Need-loop-again-5 Inv-loop μ-loop
 loop-again-5 c =
@@ -433,10 +433,10 @@ loop-again-5 c =
     let c24 = c16 .before .before .before .before .before .before .before .before in
     let c32 = c24 .before .before .before .before .before .before .before .before in
     let c40 = c32 .before .before .before .before .before .before .before .before in
-    let l = c32 .before .before .loop .inv in
+    let l = c32 .before .loop .inv in
     let step = c8 .before .before .before .before .before .before .take-watched2 .ensures in (
-      laws.way-plain _ _ _ _ _ _ _ _ _ _ _ _ _ _ _ _ _ (l .0) (c32 .before .loop-test .taken)
-          (omega (arith, c40 .before .before .before .fits)) (c40 .before .before .before .pre .1) _ _ _ _ _ _ _
+      laws.way-plain _ _ _ _ _ _ _ _ _ _ _ _ _ _ _ _ _ (l .0) (c32 .loop-test .taken)
+          (omega (arith, c40 .before .before .fits)) (c40 .before .before .pre .1) _ _ _ _ _ _ _
           (step .0) (step .1) (c .before .before .before .before .clear-unless .ensures)
           (c .before .before .base-of4 .ensures, c .limit-from3 .ensures),
       omega (arith, l .1, c8 .before .before .before .before .before .regs3 .given),
@@ -444,8 +444,8 @@ loop-again-5 c =
       omega (arith, l .3, c8 .before .tags3 .given),
     )
 
-sub-t103 : tie.Need-sub-t103 Inv-loop μ-loop
-sub-t103 c =
+sub-t102 : tie.Need-sub-t102 Inv-loop μ-loop
+sub-t102 c =
     let r = c .before .loop .inv .0 in
     omega (arith, r .few-trapped, r .in-run)
 
@@ -529,7 +529,7 @@ take-quick-spec =
     limit-from-requires-3
     loop-less-5
     loop-again-5
-    sub-t103
+    sub-t102
     same-length
     same-length-2
     same-length-3
