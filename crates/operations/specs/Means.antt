@@ -4,7 +4,7 @@ use Prim.Native.Nat.{ℕ, _*_, _%_, _≤_}
 use Rattle.instructions.specs.declared.Alu.{Alu}
 use Rattle.instructions.specs.declared.Alu.the-variants.{Add}
 use Rattle.instructions.specs.declared.LoadKind.{LoadKind}
-use Rattle.instructions.specs.declared.LoadKind.the-variants.{Lw}
+use Rattle.instructions.specs.declared.LoadKind.the-variants.{Lb, Lh, Lw, Lbu, Lhu}
 use Rattle.instructions.specs.declared.StoreKind.{StoreKind}
 use Rattle.instructions.specs.declared.StoreKind.the-variants.{Sw}
 use Rattle.instructions.specs.declared.IntegerInstruction.the-variants.{Lui, OpImm, Op, Multiply, Divide}
@@ -84,19 +84,33 @@ Means (Operation.IncrementBy at from other) x =
     (rd : ℕ) × (rs1 : ℕ) × (rs2 : ℕ) × (x ≡ Capability (Combine IncAddr rd rs1 rs2)) × (at ≡ placeOf rd) × (from ≡ placeOf rs1) × (other ≡ placeOf rs2)
 Means (Operation.Address at from) x =
     (rd : ℕ) × (rs1 : ℕ) × (x ≡ Capability (Inspect GetAddr rd rs1)) × (at ≡ placeOf rd) × (from ≡ placeOf rs1)
+Means (Operation.LoadByte kind at from offset) x =
+    (rd : ℕ) × (rs1 : ℕ) × (x ≡ Memory (Load kind rd rs1 offset)) × (at ≡ placeOf rd) × (from ≡ placeOf rs1)
 
 -- the places are those of registers
 abbrev pub Place : ℕ → Type 0
 Place p = (p ≤ 45) × (p % 3 ≡ 0)
 
+-- that of a register which is written is not c0's
+abbrev pub Written : ℕ → Type 0
+Written p = (p ≤ 45) × (p % 3 ≡ 0) × (p ≡ 0 → ⊥)
+
+-- a load of one byte
+abbrev pub OneByte : LoadKind → Type 0
+OneByte Lb = Unit {0}
+OneByte Lbu = Unit {0}
+OneByte Lh = ⊥
+OneByte Lhu = ⊥
+OneByte Lw = ⊥
+
 abbrev pub Placed : Operation → Type 0
 Placed Operation.Plain = Unit {0}
-Placed (Operation.Put at value) = Place at
+Placed (Operation.Put at value) = Written at
 Placed (Operation.AddImmediate at from value) = Place at × Place from
-Placed (Operation.Immediate op at from value) = Place at × Place from
-Placed (Operation.Two op at from other) = Place at × Place from × Place other
-Placed (Operation.Multiply kind at from other) = Place at × Place from × Place other
-Placed (Operation.Divide kind at from other) = Place at × Place from × Place other
+Placed (Operation.Immediate op at from value) = Written at × Place from
+Placed (Operation.Two op at from other) = Written at × Place from × Place other
+Placed (Operation.Multiply kind at from other) = Written at × Place from × Place other
+Placed (Operation.Divide kind at from other) = Written at × Place from × Place other
 Placed (Operation.Go offset) = Unit {0}
 Placed (Operation.JumpLink rd offset) = Unit {0}
 Placed (Operation.JumpRegister rd rs1 offset) = Unit {0}
@@ -113,3 +127,4 @@ Placed (Operation.Copy at from) = Place at × Place from
 Placed (Operation.SetAddress at from other) = Place at × Place from × Place other
 Placed (Operation.IncrementBy at from other) = Place at × Place from × Place other
 Placed (Operation.Address at from) = Place at × Place from
+Placed (Operation.LoadByte kind at from offset) = Place at × Place from × OneByte kind

@@ -130,6 +130,12 @@ pub enum Operation {
         at: u32,
         from: u32,
     },
+    LoadByte {
+        kind: LoadKind,
+        at: u32,
+        from: u32,
+        offset: u32,
+    },
 }
 
 // The words of a capability in the register file, and the general registers.
@@ -149,6 +155,62 @@ pub fn place_of(r: u32) -> u32
     r % REGISTERS * WORDS
 }
 
+// An integer instruction that writes c0 is left to the plain step, so that the others need not ask; but for ADDI, which NOP is.
+fn put(rd: u32, value: u32) -> Operation
+    ensures { λ r. ⌜ Means r (Instruction.Integer (IntegerInstruction.Lui rd value)) × Placed r ⌝ }
+{
+    let at = place_of(rd);
+    if at == 0 {
+        return Operation::Plain;
+    }
+    Operation::Put { at, value }
+}
+
+fn two(op: Alu, rd: u32, rs1: u32, rs2: u32) -> Operation
+    ensures { λ r. ⌜ Means r (Instruction.Integer (IntegerInstruction.Op op rd rs1 rs2)) × Placed r ⌝ }
+{
+    let at = place_of(rd);
+    if at == 0 {
+        return Operation::Plain;
+    }
+    Operation::Two {
+        op,
+        at,
+        from: place_of(rs1),
+        other: place_of(rs2),
+    }
+}
+
+fn multiply(kind: MultiplyKind, rd: u32, rs1: u32, rs2: u32) -> Operation
+    ensures { λ r. ⌜ Means r (Instruction.Integer (IntegerInstruction.Multiply kind rd rs1 rs2)) × Placed r ⌝ }
+{
+    let at = place_of(rd);
+    if at == 0 {
+        return Operation::Plain;
+    }
+    Operation::Multiply {
+        kind,
+        at,
+        from: place_of(rs1),
+        other: place_of(rs2),
+    }
+}
+
+fn divide(kind: DivideKind, rd: u32, rs1: u32, rs2: u32) -> Operation
+    ensures { λ r. ⌜ Means r (Instruction.Integer (IntegerInstruction.Divide kind rd rs1 rs2)) × Placed r ⌝ }
+{
+    let at = place_of(rd);
+    if at == 0 {
+        return Operation::Plain;
+    }
+    Operation::Divide {
+        kind,
+        at,
+        from: place_of(rs1),
+        other: place_of(rs2),
+    }
+}
+
 fn immediate(op: Alu, rd: u32, rs1: u32, value: u32) -> Operation
     ensures { λ r. ⌜ Means r (Instruction.Integer (IntegerInstruction.OpImm op rd rs1 value)) × Placed r ⌝ }
 {
@@ -156,12 +218,17 @@ fn immediate(op: Alu, rd: u32, rs1: u32, value: u32) -> Operation
     let from = place_of(rs1);
     match op {
         Alu::Add => return Operation::AddImmediate { at, from, value },
-        _ => return Operation::Immediate {
-            op,
-            at,
-            from,
-            value,
-        },
+        _ => {
+            if at == 0 {
+                return Operation::Plain;
+            }
+            Operation::Immediate {
+                op,
+                at,
+                from,
+                value,
+            }
+        }
     }
 }
 
@@ -169,29 +236,11 @@ fn of_integer(i: IntegerInstruction) -> Operation
     ensures { λ r. ⌜ Means r (Instruction.Integer i) × Placed r ⌝ }
 {
     match i {
-        IntegerInstruction::Lui { rd, value } => return Operation::Put {
-            at: place_of(rd),
-            value,
-        },
+        IntegerInstruction::Lui { rd, value } => return put(rd, value),
         IntegerInstruction::OpImm { op, rd, rs1, value } => return immediate(op, rd, rs1, value),
-        IntegerInstruction::Op { op, rd, rs1, rs2 } => return Operation::Two {
-            op,
-            at: place_of(rd),
-            from: place_of(rs1),
-            other: place_of(rs2),
-        },
-        IntegerInstruction::Multiply { kind, rd, rs1, rs2 } => return Operation::Multiply {
-            kind,
-            at: place_of(rd),
-            from: place_of(rs1),
-            other: place_of(rs2),
-        },
-        IntegerInstruction::Divide { kind, rd, rs1, rs2 } => return Operation::Divide {
-            kind,
-            at: place_of(rd),
-            from: place_of(rs1),
-            other: place_of(rs2),
-        },
+        IntegerInstruction::Op { op, rd, rs1, rs2 } => return two(op, rd, rs1, rs2),
+        IntegerInstruction::Multiply { kind, rd, rs1, rs2 } => return multiply(kind, rd, rs1, rs2),
+        IntegerInstruction::Divide { kind, rd, rs1, rs2 } => return divide(kind, rd, rs1, rs2),
     }
 }
 
@@ -234,6 +283,18 @@ fn load(kind: LoadKind, rd: u32, rs1: u32, offset: u32) -> Operation
     let at = place_of(rd);
     let from = place_of(rs1);
     match kind {
+        LoadKind::Lb => return Operation::LoadByte {
+            kind,
+            at,
+            from,
+            offset,
+        },
+        LoadKind::Lbu => return Operation::LoadByte {
+            kind,
+            at,
+            from,
+            offset,
+        },
         LoadKind::Lw => return Operation::LoadWord { at, from, offset },
         _ => return Operation::LoadSmall {
             kind,

@@ -17,6 +17,8 @@ use Rattle.capability.specs.Capability.{integer, keepTagIf, tagged, grants}
 use Rattle.capability.specs.Loading.{loadedOf}
 use Rattle.capability.specs.declared.Capability.{Capability}
 use Rattle.instructions.specs.declared.LoadKind.{LoadKind}
+use Rattle.instructions.specs.declared.LoadKind.the-variants.{Lb, Lh, Lw, Lbu, Lhu}
+use Rattle.operations.specs.Means.{OneByte}
 use Rattle.instructions.specs.declared.StoreKind.{StoreKind}
 use Rattle.state.specs.Registers.{capabilityAt, registerAt, integerAt}
 use Rattle.state.specs.Marks.{marked}
@@ -196,6 +198,18 @@ address-is regs from r offset address c e f p =
 integer-held : (regs : List ℕ) (other r v : ℕ) → v ≡ getD regs other 0 → other ≡ r % 16 * 3 → integerAt regs r ≡ v
 unfolding integerAt
 integer-held regs other r v e p = sym (e ∙ ap (λ (x : ℕ). getD regs x 0) p)
+
+-- ---- loads of one byte
+
+pub byte-width : (kind : LoadKind) → OneByte kind → loadWidth kind ≡ 1
+byte-width Lb h = refl
+byte-width Lbu h = refl
+byte-width Lh h = absurd h
+byte-width Lhu h = absurd h
+byte-width Lw h = absurd h
+
+pub byte-aligned : (kind : LoadKind) (address : ℕ) → OneByte kind → Aligned address (loadWidth kind)
+byte-aligned kind address h = rw (byte-width kind h) (omega arith)
 
 -- ---- turns
 

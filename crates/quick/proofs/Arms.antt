@@ -192,6 +192,10 @@ module _ (board : Board) (revoked regs mem tags : List ℕ) (n to : ℕ) (e : to
   by-load after kind at from offset t h x word m a (rd, rs1, i, p, f) s =
       by-memory x word m a (Access.Load kind rd rs1 offset) i s (state after mem tags) t (h .turned rd rs1 m a n s (next m a s) p f tags)
 
+  pub by-load-byte : (after : List ℕ) (kind : LoadKind) (at from offset : ℕ) (t : Took) → Loads kind at from offset to (board .start) mem regs after t
+      → TurnedBy board revoked (Operation.LoadByte kind at from offset) n (state regs mem tags) (state after mem tags) t
+  by-load-byte after kind at from offset t h x word m a i s = by-load after kind at from offset t h x word m a i s
+
   pub by-load-word : (after : List ℕ) (at from offset : ℕ) (t : Took) → Loads Lw at from offset to (board .start) mem regs after t
       → TurnedBy board revoked (Operation.LoadWord at from offset) n (state regs mem tags) (state after mem tags) t
   by-load-word after at from offset t h x word m a i s = by-load after Lw at from offset t h x word m a i s

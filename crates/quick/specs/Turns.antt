@@ -2,7 +2,7 @@
 use mathlib.Core.Bool.{Bool, true, false, cond}
 use mathlib.Core.List.{List}
 use mathlib.Core.Path.{_≡_}
-use Prim.Native.Nat.{ℕ, _+_}
+use Prim.Native.Nat.{ℕ, _+_, _≤_}
 use lib.Dec.{eqb}
 use lib.ListN.{getD, set, length}
 use Rattle.words.specs.Words.{wrap}
@@ -25,6 +25,10 @@ pccPlace = 48
 -- PCC's address as one word, and time one on
 abbrev pub wentOn : (to : ℕ) → (regs : List ℕ) → List ℕ
 wentOn to regs = ticked (set regs pccPlace to)
+
+-- the place of a register that is not c0
+abbrev pub Writable : (at : ℕ) → Type 0
+Writable at = (at ≤ 45) × (at ≡ 0 → ⊥)
 
 -- a register written by its place; c0 stays
 abbrev pub writtenAt : (at : ℕ) → Capability → (regs : List ℕ) → List ℕ

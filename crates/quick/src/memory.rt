@@ -9,6 +9,7 @@ ghost use Rattle.capability.specs.Capability.{keepTagIf};
 ghost use Rattle.state.specs.Memory.{loadWidth, storeWidth};
 ghost use Rattle.state.specs.Lent.{state, lent};
 ghost use Rattle.memory_instructions.specs.Access.{loadedValue, revokedValue};
+ghost use Rattle.operations.specs.Means.{OneByte};
 ghost use Rattle.quick.specs.Rows.{Good};
 ghost use Rattle.quick.specs.Memory.{Place, Loads, Stores, LoadsCapability, StoresCapability, Aligned, MayHold, took, storedBytes};
 use crate::Took;
@@ -86,7 +87,47 @@ fn small_value(kind: LoadKind, mem: &[u8], at: usize) -> u32
     }
 }
 
-// LB, LH, LBU, LHU.
+fn byte_value(kind: LoadKind, mem: &[u8], at: usize) -> u32
+    requires { ⌜ OneByte kind ⌝ }
+    ensures { λ r. ⌜ r ≡ loadedValue kind (now (mem .entry)) at ⌝ }
+{
+    let v = words::load8(mem, at);
+    match kind {
+        LoadKind::Lb => words::sign_extend(v, 8),
+        LoadKind::Lbu => v,
+        LoadKind::Lh => v,
+        LoadKind::Lhu => v,
+        LoadKind::Lw => v,
+    }
+}
+
+// LB, LBU.
+pub(crate) fn take_byte(
+    kind: LoadKind,
+    at: u32,
+    from: u32,
+    offset: u32,
+    rows: &mut [u64; 99],
+    regs: &mut [u32],
+    start: u32,
+    mem: &[u8],
+    to: u32,
+) -> Took
+    requires { ⌜ (length (now regs) ≡ registerWords) × (at ≤ 45) × Place from × Good start (length (now mem)) (now rows) × OneByte kind ⌝ }
+    ensures { λ r. ⌜ Good start (length (now (mem .entry))) (now (rows .exit))
+        × Loads kind at from offset to start (now (mem .entry)) (now (regs .entry)) (now (regs .exit)) r ⌝ }
+{
+    let c = read_capability(regs, from);
+    let address = wrapping_add_u32(c.address, offset);
+    if !reaches(rows, from as usize, c, LD, address, 1, start, mem.len()) {
+        return not_done();
+    }
+    let v = byte_value(kind, mem, (address - start) as usize);
+    write(regs, at, capability::integer(v), to);
+    done(0, 0)
+}
+
+// LH, LHU.
 pub(crate) fn take_small(
     kind: LoadKind,
     at: u32,

@@ -4,7 +4,7 @@ ghost use Prim.Native.Nat.{_≤_};
 ghost use lib.ListN.{getD, length};
 ghost use Rattle.state.specs.Layout.{registerWords};
 ghost use Rattle.state.specs.Marks.{marked};
-ghost use Rattle.quick.specs.Turns.{pccPlace, wentOn, writtenAt, heldAt};
+ghost use Rattle.quick.specs.Turns.{pccPlace, Writable, wentOn, writtenAt, heldAt};
 use capability::Capability;
 use state::CONTROL_START;
 use state::TIME_INDEX;
@@ -41,6 +41,18 @@ pub(crate) fn write(regs: &mut [u32], at: u32, c: Capability, to: u32)
         regs[i + 1] = c.metadata;
         regs[i + 2] = c.tag;
     }
+    go_on(regs, to);
+}
+
+// A register that is not c0 written, and on.
+pub(crate) fn write_some(regs: &mut [u32], at: u32, c: Capability, to: u32)
+    requires { ⌜ (length (now regs) ≡ registerWords) × Writable at ⌝ }
+    ensures { λ _. ⌜ now (regs .exit) ≡ wentOn to (writtenAt at c (now (regs .entry))) ⌝ }
+{
+    let i = at as usize;
+    regs[i] = c.address;
+    regs[i + 1] = c.metadata;
+    regs[i + 2] = c.tag;
     go_on(regs, to);
 }
 

@@ -189,8 +189,14 @@ pub(crate) fn turn(
             done()
         }
         Operation::Address { at, from } => {
-            integers::put(at, registers::read(regs, from), regs, to);
+            integers::put_any(at, registers::read(regs, from), regs, to);
             done()
         }
+        Operation::LoadByte {
+            kind,
+            at,
+            from,
+            offset,
+        } => { memory::take_byte(kind, at, from, offset, rows, regs, start, mem, to) }
     }
 }

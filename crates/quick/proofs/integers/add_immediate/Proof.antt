@@ -9,7 +9,7 @@ returns : tie.Need-returns
 unfolding aluOf
 returns c =
     let sum = c .before .before .before .before in
-    rw (c .before .before .put .ensures, sum .wrapping-add-u32 .ensures, sum .before .read .ensures) refl
+    rw (c .before .before .put-any .ensures, sum .wrapping-add-u32 .ensures, sum .before .read .ensures) refl
 
 pub add-immediate-spec : {M : Type 1} → statement M
 add-immediate-spec =
