@@ -87,7 +87,7 @@ Means (Operation.Address at from) x =
 Means (Operation.LoadByte kind at from offset) x =
     (rd : ℕ) × (rs1 : ℕ) × (x ≡ Memory (Load kind rd rs1 offset)) × (at ≡ placeOf rd) × (from ≡ placeOf rs1)
 
--- the places are those of registers
+-- the places are those of registers, and offsets from PCC are even
 abbrev pub Place : ℕ → Type 0
 Place p = (p ≤ 45) × (p % 3 ≡ 0)
 
@@ -111,10 +111,10 @@ Placed (Operation.Immediate op at from value) = Written at × Place from
 Placed (Operation.Two op at from other) = Written at × Place from × Place other
 Placed (Operation.Multiply kind at from other) = Written at × Place from × Place other
 Placed (Operation.Divide kind at from other) = Written at × Place from × Place other
-Placed (Operation.Go offset) = Unit {0}
+Placed (Operation.Go offset) = offset % 2 ≡ 0
 Placed (Operation.JumpLink rd offset) = Unit {0}
 Placed (Operation.JumpRegister rd rs1 offset) = Unit {0}
-Placed (Operation.Branch kind from other offset) = Place from × Place other
+Placed (Operation.Branch kind from other offset) = Place from × Place other × (offset % 2 ≡ 0)
 Placed (Operation.LoadWord at from offset) = Place at × Place from
 Placed (Operation.LoadSmall kind at from offset) = Place at × Place from
 Placed (Operation.StoreWord from other offset) = Place from × Place other

@@ -244,13 +244,30 @@ fn of_integer(i: IntegerInstruction) -> Operation
     }
 }
 
-// A jump that links no register is the shorter.
+// A jump that links no register is the shorter. An odd offset, which no word has, is left to the longer.
 fn go(rd: u32, offset: u32) -> Operation
     ensures { λ r. ⌜ Means r (Instruction.Jump (JumpInstruction.Jal rd offset)) × Placed r ⌝ }
 {
+    if offset % 2 != 0 {
+        return Operation::JumpLink { rd, offset };
+    }
     match place_of(rd) {
         0 => return Operation::Go { offset },
         _ => return Operation::JumpLink { rd, offset },
+    }
+}
+
+fn branch(kind: BranchKind, rs1: u32, rs2: u32, offset: u32) -> Operation
+    ensures { λ r. ⌜ Means r (Instruction.Jump (JumpInstruction.Branch kind rs1 rs2 offset)) × Placed r ⌝ }
+{
+    if offset % 2 != 0 {
+        return Operation::Plain;
+    }
+    Operation::Branch {
+        kind,
+        from: place_of(rs1),
+        other: place_of(rs2),
+        offset,
     }
 }
 
@@ -267,12 +284,7 @@ fn of_jump(i: JumpInstruction) -> Operation
             rs1,
             rs2,
             offset,
-        } => return Operation::Branch {
-            kind,
-            from: place_of(rs1),
-            other: place_of(rs2),
-            offset,
-        },
+        } => return branch(kind, rs1, rs2, offset),
         _ => return Operation::Plain,
     }
 }

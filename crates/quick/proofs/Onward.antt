@@ -75,7 +75,8 @@ pub ticked-low : (l : List ℕ) → getD l timeIndex 0 < 4294967295 → getD l (
 unfolding ticked timeOf
 ticked-low l e h =
     let w = uncarried (getD l timeIndex 0) (getD l (timeIndex + 1) 0) e h in
-    rw (w .0, w .1) (set-same (set l timeIndex (getD l timeIndex 0 + 1)) (timeIndex + 1) (getD l (timeIndex + 1) 0) (getD-set-other l timeIndex (timeIndex + 1) (getD l timeIndex 0 + 1) 0 (λ q. omega arith)))
+    rw (w .0, w .1) (set-same (set l timeIndex (getD l timeIndex 0 + 1)) (timeIndex + 1) (getD l (timeIndex + 1) 0)
+    (getD-set-other l timeIndex (timeIndex + 1) (getD l timeIndex 0 + 1) 0 (λ q. omega arith)))
 
 -- ---- what stays
 

@@ -37,11 +37,13 @@ same-time : (l r : List ℕ) → Same l r → timeOf r ≡ timeOf l
 unfolding timeOf
 same-time l r h = rw (h timeIndex (omega arith) (λ q. omega arith), h (timeIndex + 1) (omega arith) (λ q. omega arith)) refl
 
-same-compare : (l r : List ℕ) → getD r compareIndex 0 ≡ getD l compareIndex 0 → getD r (compareIndex + 1) 0 ≡ getD l (compareIndex + 1) 0 → compareOf r ≡ compareOf l
+same-compare : (l r : List ℕ) → getD r compareIndex 0 ≡ getD l compareIndex 0 → getD r (compareIndex + 1) 0 ≡ getD l (compareIndex + 1) 0
+    → compareOf r ≡ compareOf l
 unfolding compareOf
 same-compare l r p q = rw (p, q) refl
 
-kept-on : (l r : List ℕ) (to : ℕ) → Same l r → (j : ℕ) → 49 ≤ j → (j ≡ 66 → ⊥) → (j ≡ timeIndex → ⊥) → (j ≡ timeIndex + 1 → ⊥) → getD (wentOn to r) j 0 ≡ getD l j 0
+kept-on : (l r : List ℕ) (to : ℕ) → Same l r → (j : ℕ) → 49 ≤ j → (j ≡ 66 → ⊥) → (j ≡ timeIndex → ⊥) → (j ≡ timeIndex + 1 → ⊥)
+    → getD (wentOn to r) j 0 ≡ getD l j 0
 kept-on l r to h j k a b c = stays-on r to j (λ q. omega arith) b c ∙ h j (omega arith) a
 
 steady-over : (l r : List ℕ) (to : ℕ) → length l ≡ registerWords → length r ≡ length l → Same l r → Steady l (wentOn to r)
@@ -59,7 +61,8 @@ steady-over l r to long e h =
 pub steady-on : (l after : List ℕ) (to : ℕ) → length l ≡ registerWords → after ≡ wentOn to l → Steady l after
 steady-on l after to long e = rw e (steady-over l l to long refl (λ j k n. refl))
 
-pub steady-written : (l after : List ℕ) (to at : ℕ) (c : Capability) → length l ≡ registerWords → at ≤ 45 → after ≡ wentOn to (writtenAt at c l) → Steady l after
+pub steady-written : (l after : List ℕ) (to at : ℕ) (c : Capability) → length l ≡ registerWords → at ≤ 45
+    → after ≡ wentOn to (writtenAt at c l) → Steady l after
 steady-written l after to at c long h e =
     rw e (steady-over l (writtenAt at c l) to long (long-written l at c) (λ j k n. stays-written l at j c h k))
 
@@ -69,11 +72,12 @@ steady-marked l after to address long e =
 
 -- ---- jumps
 
-pub went-steady : (regs after : List ℕ) (start size to : ℕ) (t : Took) → length regs ≡ registerWords → Went start size to regs after t → SteadyIf (t .done) regs after
+pub went-steady : (regs after : List ℕ) (start size to : ℕ) (t : Took) → length regs ≡ registerWords → Went start size to regs after t
+    → SteadyIf (t .done) regs after
 went-steady regs after start size to t long w = go (t .done) (w .0)
   where
     go : (b : Bool) → WentIf b start size to regs after → SteadyIf b regs after
-    go true (h, k, r) = steady-on regs after to long h
+    go true (h, r) = steady-on regs after to long h
     go false h = tt
 
 -- ---- loads and stores

@@ -28,9 +28,9 @@ use Rattle.jump_instructions.specs.Editions.{accepts, linkType, jumpStatus}
 use Rattle.jump_instructions.specs.Jumps.{linkOf, aligned, targetCause, jalEffect, jalrCause, jalrEffect, taken, takenEffect, branchEffect, jumpEffect}
 use Rattle.jump_instructions.proofs.Laws.{jump-storeless}
 use Rattle.commit.specs.Commit.{retires}
-use Rattle.quick.specs.Rows.{Good, Reached}
+use Rattle.quick.specs.Rows.{Good, InRow, Reached}
 use Rattle.quick.specs.Turns.{wentOn, writtenAt, heldAt, pccAt, Stands, MayStore, Done, Turned, doneTurn, leftTurn}
-use Rattle.quick.specs.Jumps.{Lands, WentIf, Went, GoTurns, BranchTurns, linkAt, LinkTurns, shut, RegisterTurns}
+use Rattle.quick.specs.Jumps.{WentIf, Went, GoTurns, BranchTurns, linkAt, LinkTurns, shut, RegisterTurns}
 use Rattle.quick.specs.Steady.{SteadyIf}
 use Rattle.quick.specs.declared.Took.{Took}
 use Rattle.quick.proofs.Onward.{took-advance, took-jump, took-linked, pcc-words}
@@ -70,12 +70,12 @@ module _ (regs : List ℕ) (start size to : ℕ) (r : Reached EX start size (pcc
 module _ (regs after mem tags : List ℕ) (start size to m a n : ℕ) (p : pccOf regs ≡ pccAt m a) (e : Effect) (still : Storeless e)
     (rd : ℕ) (link : Capability) (z : rd % 16 ≡ 0)
     (f : Reached EX start size (pccOf regs) to 2 → to % 2 ≡ 0 → e ≡ Jump rd link (moveOf (pccOf regs) to) (mstatusOf regs)) (t : Took) where
-  went-turned : Went start size to regs after t → Turned start n e (state regs mem tags) (state after mem tags) t
+  went-turned : to % 2 ≡ 0 → Went start size to regs after t → Turned start n e (state regs mem tags) (state after mem tags) t
   unfolding capabilityAt retires
-  went-turned w = go (t .done) (w .0)
+  went-turned k w = go (t .done) (w .0)
     where
       go : (b : Bool) → WentIf b start size to regs after → Done b start n e (state regs mem tags) (state after mem tags) (t .at) (t .width)
-      go true (h, k, g) =
+      go true (h, g) =
           let r = g (pcc-words regs m a p .2) in
           rw (f r k, h) (
             took-jump regs mem tags start m a n to p rd (mstatusOf regs) link (moveOf (pccOf regs) to) z
@@ -85,23 +85,27 @@ module _ (regs after mem tags : List ℕ) (start size to m a n : ℕ) (p : pccOf
           )
       go false h = (ap (λ (l : List ℕ). state l mem tags) h, may-nothing (storedBy e) (t .at) (t .width) still)
 
-module _ (regs after : List ℕ) (start size offset to : ℕ) (t : Took) (e : to ≡ wrap (getD regs 48 0 + offset)) (w : Went start size to regs after t) where
+module _ (regs after : List ℕ) (start size offset to : ℕ) (t : Took) (e : to ≡ wrap (getD regs 48 0 + offset)) (o : offset % 2 ≡ 0)
+    (w : Went start size to regs after t) where
+  even-target : (m a n : ℕ) → Stands regs m a n → to % 2 ≡ 0
+  even-target m a n s = omega (arith, e, o, s .even, pcc-words regs m a (s .pcc-is) .0)
+
   pub go-turned : GoTurns start offset regs after t
   unfolding jumpEffect capabilityAt
   go-turned rd m a n edition mem tags s z =
       went-turned regs after mem tags start size to m a n (s .pcc-is) (jumpEffect n edition (Jal rd offset) regs)
       (jump-storeless n edition (Jal rd offset) regs) rd
       (linkOf n edition (pccOf regs) (mstatusOf regs)) z
-      (λ r k. ap (λ (x : ℕ). jalEffect n edition rd x regs) (sym e) ∙ jal-inside regs start size to r k n edition rd) t w
+      (λ r k. ap (λ (x : ℕ). jalEffect n edition rd x regs) (sym e) ∙ jal-inside regs start size to r k n edition rd) t (even-target m a n s) w
 
   pub branch-turned : (kind : BranchKind) (from other next : ℕ) → taken kind (getD regs from 0) (getD regs other 0) ≡ true
       → BranchTurns start kind from other offset next regs after t
   unfolding jumpEffect branchEffect capabilityAt integerAt
-  branch-turned kind from other next b rs1 rs2 m a n edition mem tags s q f o =
-      let c : taken kind (integerAt regs rs1) (integerAt regs rs2) ≡ true = rw (f, o) at b in
+  branch-turned kind from other next b rs1 rs2 m a n edition mem tags s q f g =
+      let c : taken kind (integerAt regs rs1) (integerAt regs rs2) ≡ true = rw (f, g) at b in
       went-turned regs after mem tags start size to m a n (s .pcc-is) (jumpEffect n edition (Branch kind rs1 rs2 offset) regs)
       (jump-storeless n edition (Branch kind rs1 rs2 offset) regs) 0 (integer 0) refl
-      (λ r k. rw c (ap (λ (x : ℕ). takenEffect x regs) (sym e) ∙ taken-inside regs start size to r k)) t w
+      (λ r k. rw c (ap (λ (x : ℕ). takenEffect x regs) (sym e) ∙ taken-inside regs start size to r k)) t (even-target m a n s) w
 
 -- a branch that is not taken goes on
 pub branch-passed : (regs : List ℕ) (start offset next : ℕ) (kind : BranchKind) (from other : ℕ) → taken kind (getD regs from 0) (getD regs other 0) ≡ false
@@ -199,7 +203,10 @@ register-turned regs after start size edition rd rs1 offset next to at from c t 
 pub link-left : (regs : List ℕ) (start edition rd offset next : ℕ) (t : Took) → t ≡ leftTurn
     → LinkTurns start edition rd offset next regs regs t × SteadyIf (t .done) regs regs
 link-left regs start edition rd offset next t u =
-    rw u (λ m a n mem tags s q. (refl, may-nothing (storedBy (jumpEffect n edition (Jal rd offset) regs)) 0 0 (jump-storeless n edition (Jal rd offset) regs)), tt)
+    rw u (
+      λ m a n mem tags s q. (refl, may-nothing (storedBy (jumpEffect n edition (Jal rd offset) regs)) 0 0 (jump-storeless n edition (Jal rd offset) regs)),
+      tt,
+    )
 
 pub register-left : (regs : List ℕ) (start edition rd rs1 offset next : ℕ) (t : Took) → t ≡ leftTurn
     → RegisterTurns start edition rd rs1 offset next regs regs t × SteadyIf (t .done) regs regs
@@ -228,15 +235,14 @@ accepted-not-shut edition rd rs1 offset c z h = rw (z, h) (go (sealed c))
 
 -- ---- where PCC lands
 
-pub landed : (start size : ℕ) (rows regs : List ℕ) (c : Capability) (to : ℕ) → Good start size rows → c ≡ heldAt 48 regs → to < 2 ^ 32 → Lands rows c to
-    → heldAt 48 regs .tag ≡ 1 → Reached EX start size (heldAt 48 regs) to 2
+pub landed : (start size : ℕ) (rows regs : List ℕ) (c : Capability) (to : ℕ) → Good start size rows → c ≡ heldAt 48 regs → to < 2 ^ 32
+    → (c .address < 2 ^ 32) × InRow rows 96 c to 2 → heldAt 48 regs .tag ≡ 1 → Reached EX start size (heldAt 48 regs) to 2
 landed start size rows regs c to good e fits l tag =
-    let i = rw e at (l .in-row) in
-    reached start size rows 96 to 2 (heldAt 48 regs) good (omega arith) refl tag (rw e at (l .own-fits)) fits i
+    reached start size rows 96 to 2 (heldAt 48 regs) good (omega arith) refl tag (rw e at (l .0)) fits (rw e at (l .1))
 
 pub went : (start size : ℕ) (rows regs after : List ℕ) (c : Capability) (to : ℕ) (t : Took) → Good start size rows → c ≡ heldAt 48 regs → to < 2 ^ 32
-    → Lands rows c to → after ≡ wentOn to regs → t ≡ doneTurn → Went start size to regs after t
-went start size rows regs after c to t good e fits l h u = rw u ((h, l .is-even, landed start size rows regs c to good e fits l), refl)
+    → (c .address < 2 ^ 32) × InRow rows 96 c to 2 → after ≡ wentOn to regs → t ≡ doneTurn → Went start size to regs after t
+went start size rows regs after c to t good e fits l h u = rw u ((h, landed start size rows regs c to good e fits l), refl)
 
 pub stayed : (start size to : ℕ) (regs : List ℕ) (t : Took) → t ≡ leftTurn → Went start size to regs regs t
 stayed start size to regs t u = rw u (refl, refl)

@@ -98,7 +98,7 @@ module _ (board : Board) (revoked : List ℕ) (s after : State) (low high j key 
     (pcc : pccOf (s .regs) ≡ pccAt (entry .word) (entry .address)) (due : interrupted (s .regs) ≡ false)
     (turned : TurnedBy board revoked op n s after t) where
   stands : Stands (s .regs) (entry .word) (entry .address) n
-  stands = record { long = long; pcc-is = pcc; goes-on = entry .decoded .goes-on }
+  stands = record { long = long; pcc-is = pcc; even = entry .decoded .is-open .is-even; goes-on = entry .decoded .goes-on }
 
   abbrev e : Effect
   e = effectAt board revoked s

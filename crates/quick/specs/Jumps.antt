@@ -25,11 +25,10 @@ pub record Lands (rows : List ℕ) (pcc : Capability) (to : ℕ) : Type 0 where
   pub own-fits : pcc .address < 2 ^ 32
   pub in-row : InRow rows rowOfPcc pcc to targetBytes
 
--- PCC goes to an aligned target, which it reaches where it is tagged; or nothing is changed
+-- PCC goes to a target, which it reaches where it is tagged; or nothing is changed
 abbrev pub WentIf : Bool → (start size to : ℕ) → (before after : List ℕ) → Type 0
 WentIf true start size to before after =
-    (after ≡ wentOn to before) × (to % targetAlignment ≡ 0)
-    × (heldAt pccPlace before .tag ≡ 1 → Reached EX start size (heldAt pccPlace before) to targetBytes)
+    (after ≡ wentOn to before) × (heldAt pccPlace before .tag ≡ 1 → Reached EX start size (heldAt pccPlace before) to targetBytes)
 WentIf false start size to before after = after ≡ before
 
 -- and nothing is stored

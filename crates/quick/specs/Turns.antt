@@ -2,7 +2,7 @@
 use mathlib.Core.Bool.{Bool, true, false, cond}
 use mathlib.Core.List.{List}
 use mathlib.Core.Path.{_≡_}
-use Prim.Native.Nat.{ℕ, _+_, _≤_}
+use Prim.Native.Nat.{ℕ, _+_, _%_, _≤_}
 use lib.Dec.{eqb}
 use lib.ListN.{getD, set, length}
 use Rattle.words.specs.Words.{wrap}
@@ -42,10 +42,11 @@ heldAt from regs = capability (getD regs from 0) (getD regs (from + 1) 0) (getD 
 abbrev pub pccAt : (m a : ℕ) → Capability
 pccAt m a = capability a m 1
 
--- where a turn stands: the register file is whole, PCC is a tagged word at an address, and it is itself after some bytes
+-- where a turn stands: the register file is whole, PCC is a tagged word at an even address, and it is itself after some bytes
 pub record Stands (regs : List ℕ) (m a bytes : ℕ) : Type 0 where
   pub long : length regs ≡ registerWords
   pub pcc-is : pccOf regs ≡ pccAt m a
+  pub even : a % 2 ≡ 0
   pub goes-on : moveOf (pccAt m a) (wrap (a + bytes)) ≡ pccAt m (wrap (a + bytes))
 
 -- what an effect stores is where a turn says; no width is no store

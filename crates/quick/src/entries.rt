@@ -13,7 +13,8 @@ use std::num::wrapping_add_u32;
 ghost use mathlib.Core.Path.{_≡_};
 ghost use mathlib.Core.Bool.{true};
 ghost use Prim.Native.Nat.{_+_, _-_, _^_, _≤_, _<_};
-ghost use Rattle.quick.specs.Entries.{slots, entries, slotOf, slotAt, OpenIf, FoundIf, FirstLook, FoundAs, ReadyAt, ClearedUnless, clearedSlot, clearedNear, forgotten};
+ghost use Rattle.quick.specs.Entries.{slots, entries, slotOf, slotAt, ReadyAt};
+ghost use Rattle.quick.specs.Entries.{OpenIf, FoundIf, FirstLook, FoundAs, ClearedUnless, clearedSlot, clearedNear, forgotten};
 
 // How many slots there are, and entries: each slot has two, so that two pieces of code at any distance are both kept.
 const SLOTS: usize = 1024;

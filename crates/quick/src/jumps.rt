@@ -1,7 +1,7 @@
 // Jumps to a target in PCC's remembered row, after which PCC is itself at the target: one word of it changes.
 ghost use mathlib.Core.Path.{_≡_};
 ghost use mathlib.Core.Bool.{true, false};
-ghost use Prim.Native.Nat.{_≤_};
+ghost use Prim.Native.Nat.{_%_, _≤_};
 ghost use lib.ListN.{length};
 ghost use Rattle.state.specs.Layout.{registerWords};
 ghost use Rattle.quick.specs.Rows.{Good};
@@ -31,12 +31,18 @@ fn is_landing(rows: &[u64; 99], pcc: Capability, to: u32) -> bool
     rows::in_row(rows, ROW_OF_PCC, pcc, to, TARGET_BYTES)
 }
 
-// PCC at a target; else nothing is changed.
+// PCC at a target by an even offset; else nothing is changed. Alignment is not asked: PCC of a turn is even.
 fn go_to(rows: &[u64; 99], regs: &mut [u32], start: u32, size: usize, to: u32) -> Took
     requires { ⌜ (length (now regs) ≡ registerWords) × Good start size (now rows) ⌝ }
     ensures { λ t. ⌜ Went start size to (now (regs .entry)) (now (regs .exit)) t ⌝ }
 {
-    if is_landing(rows, registers::read_pcc(regs), to) {
+    if rows::in_row(
+        rows,
+        ROW_OF_PCC,
+        registers::read_pcc(regs),
+        to,
+        TARGET_BYTES,
+    ) {
         registers::go_on(regs, to);
         return turn::done();
     }
@@ -51,7 +57,7 @@ pub(crate) fn take_go(
     start: u32,
     size: usize,
 ) -> Took
-    requires { ⌜ (length (now regs) ≡ registerWords) × Good start size (now rows) ⌝ }
+    requires { ⌜ (length (now regs) ≡ registerWords) × Good start size (now rows) × (offset % 2 ≡ 0) ⌝ }
     ensures { λ t. ⌜ GoTurns start offset (now (regs .entry)) (now (regs .exit)) t
         × SteadyIf (t .done) (now (regs .entry)) (now (regs .exit)) ⌝ }
 {
@@ -71,7 +77,7 @@ pub(crate) fn take_branch(
     size: usize,
     to: u32,
 ) -> Took
-    requires { ⌜ (length (now regs) ≡ registerWords) × (from ≤ 45) × (other ≤ 45) × Good start size (now rows) ⌝ }
+    requires { ⌜ (length (now regs) ≡ registerWords) × (from ≤ 45) × (other ≤ 45) × Good start size (now rows) × (offset % 2 ≡ 0) ⌝ }
     ensures { λ t. ⌜ BranchTurns start kind from other offset to (now (regs .entry)) (now (regs .exit)) t
         × SteadyIf (t .done) (now (regs .entry)) (now (regs .exit)) ⌝ }
 {

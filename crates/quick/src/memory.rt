@@ -1,10 +1,10 @@
 // Loads and stores of a turn: done where the authority's reach is remembered and has the bytes; else nothing is changed, and the plain step does it.
 ghost use mathlib.Core.Path.{_≡_};
 ghost use mathlib.Core.Bool.{true, false, not};
-ghost use Prim.Native.Nat.{_≤_};
+ghost use Prim.Native.Nat.{_+_, _≤_, _<_};
 ghost use lib.ListN.{length};
 ghost use Rattle.state.specs.Layout.{registerWords};
-ghost use Rattle.words.specs.Words.{putBit};
+ghost use Rattle.words.specs.Words.{le32, putBit};
 ghost use Rattle.capability.specs.Capability.{keepTagIf};
 ghost use Rattle.state.specs.Memory.{loadWidth, storeWidth};
 ghost use Rattle.state.specs.Lent.{state, lent};
@@ -34,6 +34,30 @@ use state::GRANULE_BYTES;
 use std::num::wrapping_add_u32;
 use std::num::wrapping_sub_u32;
 
+// What the second, third and fourth byte of a word count.
+const SECOND: u32 = 1 << 8;
+
+const THIRD: u32 = 1 << 16;
+
+const FOURTH: u32 = 1 << 24;
+
+fn wide(x: u8) -> u32
+    ensures { λ r. ⌜ (r ≡ x) × (r < 256) ⌝ }
+{
+    x as u32
+}
+
+// The word at a place whose four bytes are in memory: no test.
+fn word_at(mem: &[u8], at: usize) -> u32
+    requires { ⌜ at + 4 ≤ length (now mem) ⌝ }
+    ensures { λ r. ⌜ r ≡ le32 (now (mem .entry)) at ⌝ }
+{
+    wide(mem[at])
+        + wide(mem[at + 1]) * SECOND
+        + wide(mem[at + 2]) * THIRD
+        + wide(mem[at + 3]) * FOURTH
+}
+
 // LW.
 pub(crate) fn take_word(
     at: u32,
@@ -57,7 +81,7 @@ pub(crate) fn take_word(
     if !reaches(rows, from as usize, c, LD, address, 4, start, mem.len()) {
         return not_done();
     }
-    let v = words::load32(mem, (address - start) as usize);
+    let v = word_at(mem, (address - start) as usize);
     write(regs, at, capability::integer(v), to);
     done(0, 0)
 }

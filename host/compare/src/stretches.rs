@@ -1,5 +1,5 @@
 //! Long programs for an engine that keeps decoded code: a few straight stretches that run again and again, of words of both
-//! lengths, that call and jump to one another, near and 4,096 bytes apart, under PCCs with several bounds, and store over
+//! lengths, that call and jump to one another, near and 2,048 bytes apart, under PCCs with several bounds, and store over
 //! each other's words, or their own, from a pool of words. A handler steps over what traps, and after an interrupt goes on
 //! with interrupts off.
 
@@ -15,8 +15,9 @@ use lent::{instruction_bytes, State, MEPCC, MIE, MOST_MEMORY, MSTATUS, MTCC, PCC
 use second::capability::move_address;
 use second::Capability;
 
-/// Addresses so far apart have one slot in an engine of 2,048 slots of two bytes.
-const SLOT_DISTANCE: u32 = 4096;
+/// Addresses so far apart have one slot in an engine of 1,024 slots of two bytes. A slot has two entries: three blocks
+/// so far apart take them from one another.
+const SLOT_DISTANCE: u32 = 2048;
 /// How far a store reaches from its register, to both sides.
 const STORE_REACH: u32 = 2048;
 /// The sizes of the pool and of the room for the handler, at memory's end.

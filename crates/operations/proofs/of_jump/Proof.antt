@@ -6,6 +6,9 @@ use Rattle.operations.proofs.of_jump.Tie as tie
 returns : tie.Need-returns
 returns c = rw (c .before .before .i .given .1) (c .go .ensures)
 
+returns-3 : tie.Need-returns-3
+returns-3 c = rw (c .before .before .i3 .given .1) (c .branch .ensures)
+
 pub of-jump-spec : {M : Type 1} → statement M
 of-jump-spec =
     tie.close
@@ -17,7 +20,6 @@ of-jump-spec =
     (λ c. search needs)
     (λ c. search needs)
     (λ c κs. search needs)
-    (λ c κs. search needs)
-    (λ c. search needs)
+    returns-3
     (λ c. search needs)
     (λ c. search needs))

@@ -9,9 +9,17 @@ use Rattle.quick.proofs.jumps.go_to.Tie as tie
 returns : tie.Need-returns
 returns c =
     let c8 = c .before .before .before .before .before .before .before .before in
-    let a = c8 .before .before .args in
-    went (a .start) (a .size) (a .rows .now) (a .regs .now) _ (c .before .before .before .before .before .before .before .read-pcc .result) (a .to) (c .done .result) (c8 .before .before .pre .1) (c .before .before .before .before .before .before .before .read-pcc .ensures)
-    (omega (arith, c8 .before .before .fits .to)) (c .before .before .before .before .before .before .is-landing .ensures (c .before .before .before .before .before .if1 .taken)) (c .before .before .before .go-on .ensures) (c .done .ensures)
+    let args = c8 .before .before .args in
+    let read-pcc = c .before .before .before .before .before .before .before .read-pcc in
+    let done = c .done in
+    let pre = c8 .before .before .pre in
+    let fits = c8 .before .before .fits in
+    let in-row = c .before .before .before .before .before .before .in-row in
+    let if1 = c .before .before .before .before .before .if1 in
+    let go-on = c .before .before .before .go-on in
+    let a = args in
+    went (a .start) (a .size) (a .rows .now) (a .regs .now) _ (read-pcc .result) (a .to) (done .result) (pre .1) (read-pcc .ensures)
+    (omega (arith, fits .to)) (in-row .ensures (if1 .taken)) (go-on .ensures) (done .ensures)
 
 returns-2 : tie.Need-returns-2
 returns-2 c =

@@ -7,13 +7,15 @@ use Rattle.quick.proofs.jumps.take_go.Tie as tie
 
 returns : tie.Need-returns
 returns c =
-    let call = c .before .before in
-    let sum = call .before .before in
-    let start = sum .before .before .before in (
-      go-turned (start .args .regs .now) (call .go-to .last .1 .0) (start .args .start) (start .args .size) (start .args .offset)
-          (sum .wrapping-add-u32 .result) (call .go-to .result) (sum .wrapping-add-u32 .ensures) (call .go-to .ensures),
-      went-steady (start .args .regs .now) (call .go-to .last .1 .0) (start .args .start) (start .args .size) (sum .wrapping-add-u32 .result)
-          (call .go-to .result) (start .pre .0) (call .go-to .ensures),
+    let args = c .before .before .before .before .before .before .before .args in
+    let wrapping-add-u32 = c .before .before .before .before .wrapping-add-u32 in
+    let go-to = c .before .before .go-to in
+    let pre = c .before .before .before .before .before .before .before .pre in
+    let a = args in
+    let to = wrapping-add-u32 in
+    let call = go-to in (
+      go-turned (a .regs .now) (call .last .1 .0) (a .start) (a .size) (a .offset) (to .result) (call .result) (to .ensures) (pre .2) (call .ensures),
+      went-steady (a .regs .now) (call .last .1 .0) (a .start) (a .size) (to .result) (call .result) (pre .0) (call .ensures),
     )
 
 pub take-go-spec : {M : Type 1} → statement M

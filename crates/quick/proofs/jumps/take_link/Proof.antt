@@ -15,13 +15,23 @@ returns c =
 returns-2 : tie.Need-returns-2
 returns-2 c =
     let c8 = c .before .before .before .before .before .before .before .before in
-    let a = c8 .before .before .before .before .before .before .before .args in
-    let to = c8 .before .before .before .before .wrapping-add-u32 in
-    let lands = c8 .before .is-landing .ensures (passed _ (c8 .if1 .left)) in
-    link-turned (a .regs .now) _ (a .start) (a .size) (a .edition) (a .rd) (a .offset) (a .next) (to .result) _ (c .done .result) (c8 .before .before .before .before .before .before .before .pre .0)
-    (c .done .ensures) (to .ensures) (lands .is-even)
-    (landed (a .start) (a .size) (a .rows .now) (a .regs .now) (c8 .before .before .read-pcc .result) (to .result) (c8 .before .before .before .before .before .before .before .pre .1) (c8 .before .before .read-pcc .ensures) (omega (arith, to .ensures)) lands)
-    (c .before .before .before .before .place-of .ensures) (rw (c .before .before .before .before .before .before .link-at .ensures, c8 .before .before .read-pcc .ensures) at (c .before .before .before .write .ensures))
+    let args = c8 .before .before .before .before .before .before .before .args in
+    let wrapping-add-u32 = c8 .before .before .before .before .wrapping-add-u32 in
+    let is-landing = c8 .before .is-landing in
+    let if1 = c8 .if1 in
+    let done = c .done in
+    let pre = c8 .before .before .before .before .before .before .before .pre in
+    let read-pcc = c8 .before .before .read-pcc in
+    let place-of = c .before .before .before .before .place-of in
+    let link-at = c .before .before .before .before .before .before .link-at in
+    let write = c .before .before .before .write in
+    let a = args in
+    let to = wrapping-add-u32 in
+    let lands = is-landing .ensures (passed _ (if1 .left)) in
+    link-turned (a .regs .now) _ (a .start) (a .size) (a .edition) (a .rd) (a .offset) (a .next) (to .result) _ (done .result) (pre .0)
+    (done .ensures) (to .ensures) (lands .is-even)
+    (landed (a .start) (a .size) (a .rows .now) (a .regs .now) (read-pcc .result) (to .result) (pre .1) (read-pcc .ensures) (omega (arith, to .ensures)) (lands .own-fits, lands .in-row))
+    (place-of .ensures) (rw (link-at .ensures, read-pcc .ensures) at (write .ensures))
 
 pub take-link-spec : {M : Type 1} → statement M
 take-link-spec =

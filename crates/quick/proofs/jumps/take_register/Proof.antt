@@ -38,16 +38,34 @@ returns-5 c =
     let c8 = c .before .before .before .before .before .before .before .before in
     let c16 = c8 .before .before .before .before .before .before .before .before in
     let c24 = c16 .before .before .before .before .before .before .before .before in
-    let a = c24 .args in
-    let held = c16 .before .before .before .before .read-capability in
-    let sum = c16 .before .before .before .wrapping-add-u32 .ensures in
-    let bare = c16 .before .before .with-object-type .ensures in
-    let there = rw bare at (c8 .before .before .before .before .before .has .ensures (passed _ (c8 .before .before .before .before .if2 .left))) in
-    let reach = reached _ _ _ 96 _ _ _ (c24 .pre .1) (omega arith) refl (there .0) (there .1) (omega (arith, sum)) (there .2) in
-    register-turned (a .regs .now) _ (a .start) (a .size) (a .edition) (a .rd) (a .rs1) (a .offset) (a .next) _ _ _ (held .result) (c .done .result)
-    (c24 .pre .0) (c .done .ensures) (held .ensures) (c16 .before .before .before .before .before .place-of .ensures) (ap (λ (x : ℕ). x / 2 * 2) sum) (rw bare at (c8 .before .before .before .before .before .before .if1 .left)) reach
-    (c8 .before .before .before .is-entered .ensures (passed _ (c8 .before .before .if3 .left))) (rw (c8 .before .otype .ensures .0) at (sym (c8 .jump-status .ensures) ∙ c .before .before .before .before .before .before .before .if4 .left)) (c .before .before .before .before .before .place-of2 .ensures)
-    (rw (c .before .before .before .before .link-at .ensures) at (c .before .before .before .write .ensures))
+    let args = c24 .args in
+    let read-capability = c16 .before .before .before .before .read-capability in
+    let wrapping-add-u32 = c16 .before .before .before .wrapping-add-u32 in
+    let with-object-type = c16 .before .before .with-object-type in
+    let has = c8 .before .before .before .before .before .has in
+    let if2 = c8 .before .before .before .before .if2 in
+    let pre = c24 .pre in
+    let done = c .done in
+    let place-of = c16 .before .before .before .before .before .place-of in
+    let if1 = c8 .before .before .before .before .before .before .if1 in
+    let is-entered = c8 .before .before .before .is-entered in
+    let if3 = c8 .before .before .if3 in
+    let otype = c8 .before .otype in
+    let jump-status = c8 .jump-status in
+    let if4 = c .before .before .before .before .before .before .before .if4 in
+    let place-of2 = c .before .before .before .before .before .place-of2 in
+    let link-at = c .before .before .before .before .link-at in
+    let write = c .before .before .before .write in
+    let a = args in
+    let held = read-capability in
+    let sum = wrapping-add-u32 .ensures in
+    let bare = with-object-type .ensures in
+    let there = rw bare at (has .ensures (passed _ (if2 .left))) in
+    let reach = reached _ _ _ 96 _ _ _ (pre .1) (omega arith) refl (there .0) (there .1) (omega (arith, sum)) (there .2) in
+    register-turned (a .regs .now) _ (a .start) (a .size) (a .edition) (a .rd) (a .rs1) (a .offset) (a .next) _ _ _ (held .result) (done .result)
+    (pre .0) (done .ensures) (held .ensures) (place-of .ensures) (ap (λ (x : ℕ). x / 2 * 2) sum) (rw bare at (if1 .left)) reach
+    (is-entered .ensures (passed _ (if3 .left))) (rw (otype .ensures .0) at (sym (jump-status .ensures) ∙ if4 .left)) (place-of2 .ensures)
+    (rw (link-at .ensures) at (write .ensures))
 
 write-requires : tie.Need-write-requires
 write-requires c κs =

@@ -23,12 +23,22 @@ sub-byte-value c =
 returns-2 : tie.Need-returns-2
 returns-2 c =
     let c8 = c .before .before .before .before .before .before .before .before in
-    let kind = c8 .before .before .before .before .before .before .before .args .kind in
-    let one = c8 .before .before .before .before .before .before .before .pre .4 in (
-      c8 .reaches .ensures .0,
-      load-done _ _ _ _ _ _ _ _ _ _ _ _ _ _ _ (c8 .before .before .before .read-capability .ensures) (c8 .before .before .wrapping-add-u32 .ensures) (sym (byte-width kind one))
-          (byte-aligned kind _ one) (c8 .reaches .ensures .1 (passed _ (c .before .before .before .before .before .before .before .if1 .left))) (c .before .before .before .before .before .before .byte-value .ensures) (c .before .before .before .before .integer .ensures)
-          (c .before .before .before .write .ensures) (c .done .ensures),
+    let args = c8 .before .before .before .before .before .before .before .args in
+    let pre = c8 .before .before .before .before .before .before .before .pre in
+    let reaches = c8 .reaches in
+    let read-capability = c8 .before .before .before .read-capability in
+    let wrapping-add-u32 = c8 .before .before .wrapping-add-u32 in
+    let if1 = c .before .before .before .before .before .before .before .if1 in
+    let byte-value = c .before .before .before .before .before .before .byte-value in
+    let integer = c .before .before .before .before .integer in
+    let write = c .before .before .before .write in
+    let done = c .done in
+    let kind = args .kind in
+    let one = pre .4 in (
+      reaches .ensures .0,
+      load-done _ _ _ _ _ _ _ _ _ _ _ _ _ _ _ (read-capability .ensures) (wrapping-add-u32 .ensures) (sym (byte-width kind one))
+          (byte-aligned kind _ one) (reaches .ensures .1 (passed _ (if1 .left))) (byte-value .ensures) (integer .ensures)
+          (write .ensures) (done .ensures),
     )
 
 pub take-byte-spec : {M : Type 1} → statement M

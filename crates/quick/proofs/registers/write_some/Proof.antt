@@ -23,7 +23,11 @@ same-length c =
     rw (c .before .before .go-on .ensures) (long-on l (a .to) ∙ simp length-set)
 
 returns : tie.Need-returns
-returns c = rw (c .before .before .go-on .ensures, ne-eqb (c .before .before .before .before .before .args .at) 0 (c .before .before .before .before .before .pre .1 .1)) refl
+returns c =
+    let go-on = c .before .before .go-on in
+    let args = c .before .before .before .before .before .args in
+    let pre = c .before .before .before .before .before .pre in
+    rw (go-on .ensures, ne-eqb (args .at) 0 (pre .1 .1)) refl
 
 pub write-some-spec : {M : Type 1} → statement M
 write-some-spec =

@@ -350,20 +350,32 @@ loop-again-4 : tie.Need-loop-again-4 Inv-loop μ-loop
 loop-again-4 c =
     let c8 = c .before .before .before .before .before .before .before .before in
     let c16 = c8 .before .before .before .before .before .before .before .before in
-    let l = c16 .before .before .before .before .before .loop in
-    let given = c16 .before .before .before .slice-known4 .given in
-    let slot = c16 .before .before .slot-of .ensures in
-    let room = c .before .before .before .room-at .ensures in
-    let base = c8 .base-of3 .ensures in
-    let at = c .before .before .before .before .before .place-in .ensures in
-    let low = c .before .smaller .ensures in
-    let high = c .larger .ensures in
-    let look = c8 .before .before .look in
+    let loop = c16 .before .before .before .before .before .loop in
+    let slice-known4 = c16 .before .before .before .slice-known4 in
+    let slot-of = c16 .before .before .slot-of in
+    let room-at = c .before .before .before .room-at in
+    let base-of3 = c8 .base-of3 in
+    let place-in = c .before .before .before .before .before .place-in in
+    let smaller = c .before .smaller in
+    let larger = c .larger in
+    let the-look = c8 .before .before .look in
+    let read-pcc2 = c8 .before .before .before .before .read-pcc2 in
+    let if4 = c .before .before .before .before .before .before .if4 in
+    let key-of2 = c .before .before .key-of2 in
+    let l = loop in
+    let given = slice-known4 .given in
+    let slot = slot-of .ensures in
+    let room = room-at .ensures in
+    let base = base-of3 .ensures in
+    let at = place-in .ensures in
+    let low = smaller .ensures in
+    let high = larger .ensures in
+    let look = the-look in
     let pcc : Capability = heldAt 48 (l .regs) in
-    let read = c8 .before .before .before .before .read-pcc2 .ensures in
-    let found = rw read at (look .ensures .0 (c .before .before .before .before .before .before .if4 .taken)) (omega (arith, given 49)) (omega (arith, given 48)) in (
+    let read = read-pcc2 .ensures in
+    let found = rw read at (look .ensures .0 (if4 .taken)) (omega (arith, given 49)) (omega (arith, given 48)) in (
       laws.way-found _ _ _ _ _ _ _ _ _ _ _ _ _ _ _ _ _ (l .inv .0) _ _ pcc (room .1) (sym (slot .0) ∙ sym (room .0))
-          (c .before .before .key-of2 .ensures ∙ ap (λ (b : ℕ). b + getD (l .regs) 48 0) base) (look .result) found
+          (key-of2 .ensures ∙ ap (λ (b : ℕ). b + getD (l .regs) 48 0) base) (look .result) found
           _ _ _ (low .0) (high .0) (omega (arith, low .1, at)) (omega (arith, high .1, at)) base,
       l .inv .1,
       l .inv .2,
@@ -415,8 +427,11 @@ limit-from-requires-3 c κs =
     let c16 = c8 .before .before .before .before .before .before .before .before in
     let c24 = c16 .before .before .before .before .before .before .before .before in
     let c32 = c24 .before .before .before .before .before .before .before .before in
-    let long = c32 .loop .inv .0 .whole-file in
-    (omega (arith, long, c8 .before .before .before .before .regs3 .given), omega (arith, c24 .before .before .before .before .before .before .before .loop-test .taken))
+    let loop = c32 .loop in
+    let regs3 = c8 .before .before .before .before .regs3 in
+    let loop-test = c24 .before .before .before .before .before .before .before .loop-test in
+    let long = loop .inv .0 .whole-file in
+    (omega (arith, long, regs3 .given), omega (arith, loop-test .taken))
 
 loop-less-5 : tie.Need-loop-less-5 Inv-loop μ-loop
 loop-less-5 c =

@@ -45,11 +45,18 @@ divide-requires c κs =
     let pl = placed-as _ _ (c .before .before .op6 .given .1) (c8 .before .before .pre .1) in
     (c8 .before .before .pre .0, (pl .0 .0, pl .0 .2), pl .1 .0, pl .2 .0)
 
+take-go-requires : tie.Need-take-go-requires
+take-go-requires c κs =
+    let c8 = c .before .before .before .before .before .before .before .before in
+    let pre = c8 .before .before .before .pre in
+    let op7 = c .before .before .before .op7 in
+    (pre .0, pre .2, placed-as _ _ (op7 .given .1) (pre .1))
+
 take-branch-requires : tie.Need-take-branch-requires
 take-branch-requires c κs =
     let c8 = c .before .before .before .before .before .before .before .before in
     let pl = placed-as _ _ (c .before .before .before .op10 .given .1) (c8 .before .before .before .pre .1) in
-    (c8 .before .before .before .pre .0, pl .0 .0, pl .1 .0, c8 .before .before .before .pre .2)
+    (c8 .before .before .before .pre .0, pl .0 .0, pl .1 .0, c8 .before .before .before .pre .2, pl .2)
 
 take-word-requires : tie.Need-take-word-requires
 take-word-requires c κs =
@@ -147,174 +154,238 @@ returns c =
 returns-2 : tie.Need-returns-2
 returns-2 c =
     let c8 = c .before .before .before .before .before .before .before .before in
-    let sum = c8 .wrapping-add-u32 in
-    let is-op = c .before .before .before .before .before .before .op .given .1 in
-    let call = c .before .before .before .put in
-    let pl = placed-as _ _ is-op (c8 .before .before .before .before .before .before .pre .1) in (
-      c8 .before .before .before .before .before .before .pre .2,
-      told (c8 .before .before .before .before .before .before .args .board) _ _ _ _ _ _ _ _ is-op (c .done .ensures)
-          (by-put (c8 .before .before .before .before .before .before .args .board) (c8 .before .before .before .before .before .before .args .revoked .now) (c8 .before .before .before .before .before .before .args .regs .now) (c8 .before .before .before .before .before .before .args .mem .now) (c8 .before .before .before .before .before .before .args .tags .now)
-          (c8 .before .before .before .before .before .before .args .bytes) (sum .result) (sum .ensures)
+    let wrapping-add-u32 = c8 .wrapping-add-u32 in
+    let op = c .before .before .before .before .before .before .op in
+    let put = c .before .before .before .put in
+    let pre = c8 .before .before .before .before .before .before .pre in
+    let args = c8 .before .before .before .before .before .before .args in
+    let done = c .done in
+    let sum = wrapping-add-u32 in
+    let is-op = op .given .1 in
+    let call = put in
+    let pl = placed-as _ _ is-op (pre .1) in (
+      pre .2,
+      told (args .board) _ _ _ _ _ _ _ _ is-op (done .ensures)
+          (by-put (args .board) (args .revoked .now) (args .regs .now) (args .mem .now) (args .tags .now)
+          (args .bytes) (sum .result) (sum .ensures)
           _ _ (pl .0) _ (call .ensures)),
     )
 
 returns-3 : tie.Need-returns-3
 returns-3 c =
     let c8 = c .before .before .before .before .before .before .before .before in
-    let sum = c8 .wrapping-add-u32 in
-    let is-op = c .before .before .before .before .before .before .op2 .given .1 in
-    let call = c .before .before .before .add-immediate in
-    let pl = placed-as _ _ is-op (c8 .before .before .before .before .before .before .pre .1) in (
-      c8 .before .before .before .before .before .before .pre .2,
-      told (c8 .before .before .before .before .before .before .args .board) _ _ _ _ _ _ _ _ is-op (c .done2 .ensures)
-          (by-add (c8 .before .before .before .before .before .before .args .board) (c8 .before .before .before .before .before .before .args .revoked .now) (c8 .before .before .before .before .before .before .args .regs .now) (c8 .before .before .before .before .before .before .args .mem .now) (c8 .before .before .before .before .before .before .args .tags .now)
-          (c8 .before .before .before .before .before .before .args .bytes) (sum .result) (sum .ensures)
+    let wrapping-add-u32 = c8 .wrapping-add-u32 in
+    let op2 = c .before .before .before .before .before .before .op2 in
+    let add-immediate = c .before .before .before .add-immediate in
+    let pre = c8 .before .before .before .before .before .before .pre in
+    let args = c8 .before .before .before .before .before .before .args in
+    let done2 = c .done2 in
+    let sum = wrapping-add-u32 in
+    let is-op = op2 .given .1 in
+    let call = add-immediate in
+    let pl = placed-as _ _ is-op (pre .1) in (
+      pre .2,
+      told (args .board) _ _ _ _ _ _ _ _ is-op (done2 .ensures)
+          (by-add (args .board) (args .revoked .now) (args .regs .now) (args .mem .now) (args .tags .now)
+          (args .bytes) (sum .result) (sum .ensures)
           _ _ (pl .0 .0) _ _ (call .ensures)),
     )
 
 returns-4 : tie.Need-returns-4
 returns-4 c =
     let c8 = c .before .before .before .before .before .before .before .before in
-    let sum = c8 .wrapping-add-u32 in
-    let is-op = c .before .before .before .before .before .before .op3 .given .1 in
-    let call = c .before .before .before .immediate in
-    let pl = placed-as _ _ is-op (c8 .before .before .before .before .before .before .pre .1) in (
-      c8 .before .before .before .before .before .before .pre .2,
-      told (c8 .before .before .before .before .before .before .args .board) _ _ _ _ _ _ _ _ is-op (c .done3 .ensures)
-          (by-immediate (c8 .before .before .before .before .before .before .args .board) (c8 .before .before .before .before .before .before .args .revoked .now) (c8 .before .before .before .before .before .before .args .regs .now) (c8 .before .before .before .before .before .before .args .mem .now) (c8 .before .before .before .before .before .before .args .tags .now)
-          (c8 .before .before .before .before .before .before .args .bytes) (sum .result) (sum .ensures)
+    let wrapping-add-u32 = c8 .wrapping-add-u32 in
+    let op3 = c .before .before .before .before .before .before .op3 in
+    let immediate = c .before .before .before .immediate in
+    let pre = c8 .before .before .before .before .before .before .pre in
+    let args = c8 .before .before .before .before .before .before .args in
+    let done3 = c .done3 in
+    let sum = wrapping-add-u32 in
+    let is-op = op3 .given .1 in
+    let call = immediate in
+    let pl = placed-as _ _ is-op (pre .1) in (
+      pre .2,
+      told (args .board) _ _ _ _ _ _ _ _ is-op (done3 .ensures)
+          (by-immediate (args .board) (args .revoked .now) (args .regs .now) (args .mem .now) (args .tags .now)
+          (args .bytes) (sum .result) (sum .ensures)
           _ _ (pl .0 .0) _ _ _ (call .ensures)),
     )
 
 returns-5 : tie.Need-returns-5
 returns-5 c =
     let c8 = c .before .before .before .before .before .before .before .before in
-    let sum = c8 .wrapping-add-u32 in
-    let is-op = c .before .before .before .before .before .before .op4 .given .1 in
-    let call = c .before .before .before .two in
-    let pl = placed-as _ _ is-op (c8 .before .before .before .before .before .before .pre .1) in (
-      c8 .before .before .before .before .before .before .pre .2,
-      told (c8 .before .before .before .before .before .before .args .board) _ _ _ _ _ _ _ _ is-op (c .done4 .ensures)
-          (by-two (c8 .before .before .before .before .before .before .args .board) (c8 .before .before .before .before .before .before .args .revoked .now) (c8 .before .before .before .before .before .before .args .regs .now) (c8 .before .before .before .before .before .before .args .mem .now) (c8 .before .before .before .before .before .before .args .tags .now)
-          (c8 .before .before .before .before .before .before .args .bytes) (sum .result) (sum .ensures)
+    let wrapping-add-u32 = c8 .wrapping-add-u32 in
+    let op4 = c .before .before .before .before .before .before .op4 in
+    let two = c .before .before .before .two in
+    let pre = c8 .before .before .before .before .before .before .pre in
+    let args = c8 .before .before .before .before .before .before .args in
+    let done4 = c .done4 in
+    let sum = wrapping-add-u32 in
+    let is-op = op4 .given .1 in
+    let call = two in
+    let pl = placed-as _ _ is-op (pre .1) in (
+      pre .2,
+      told (args .board) _ _ _ _ _ _ _ _ is-op (done4 .ensures)
+          (by-two (args .board) (args .revoked .now) (args .regs .now) (args .mem .now) (args .tags .now)
+          (args .bytes) (sum .result) (sum .ensures)
           _ _ (pl .0 .0) _ _ _ (call .ensures)),
     )
 
 returns-6 : tie.Need-returns-6
 returns-6 c =
     let c8 = c .before .before .before .before .before .before .before .before in
-    let sum = c8 .wrapping-add-u32 in
-    let is-op = c .before .before .before .before .before .before .op5 .given .1 in
-    let call = c .before .before .before .multiply in
-    let pl = placed-as _ _ is-op (c8 .before .before .before .before .before .before .pre .1) in (
-      c8 .before .before .before .before .before .before .pre .2,
-      told (c8 .before .before .before .before .before .before .args .board) _ _ _ _ _ _ _ _ is-op (c .done5 .ensures)
-          (by-multiply (c8 .before .before .before .before .before .before .args .board) (c8 .before .before .before .before .before .before .args .revoked .now) (c8 .before .before .before .before .before .before .args .regs .now) (c8 .before .before .before .before .before .before .args .mem .now) (c8 .before .before .before .before .before .before .args .tags .now)
-          (c8 .before .before .before .before .before .before .args .bytes) (sum .result) (sum .ensures)
+    let wrapping-add-u32 = c8 .wrapping-add-u32 in
+    let op5 = c .before .before .before .before .before .before .op5 in
+    let multiply = c .before .before .before .multiply in
+    let pre = c8 .before .before .before .before .before .before .pre in
+    let args = c8 .before .before .before .before .before .before .args in
+    let done5 = c .done5 in
+    let sum = wrapping-add-u32 in
+    let is-op = op5 .given .1 in
+    let call = multiply in
+    let pl = placed-as _ _ is-op (pre .1) in (
+      pre .2,
+      told (args .board) _ _ _ _ _ _ _ _ is-op (done5 .ensures)
+          (by-multiply (args .board) (args .revoked .now) (args .regs .now) (args .mem .now) (args .tags .now)
+          (args .bytes) (sum .result) (sum .ensures)
           _ _ (pl .0 .0) _ _ _ (call .ensures)),
     )
 
 returns-7 : tie.Need-returns-7
 returns-7 c =
     let c8 = c .before .before .before .before .before .before .before .before in
-    let sum = c8 .wrapping-add-u32 in
-    let is-op = c .before .before .before .before .before .before .op6 .given .1 in
-    let call = c .before .before .before .divide in
-    let pl = placed-as _ _ is-op (c8 .before .before .before .before .before .before .pre .1) in (
-      c8 .before .before .before .before .before .before .pre .2,
-      told (c8 .before .before .before .before .before .before .args .board) _ _ _ _ _ _ _ _ is-op (c .done6 .ensures)
-          (by-divide (c8 .before .before .before .before .before .before .args .board) (c8 .before .before .before .before .before .before .args .revoked .now) (c8 .before .before .before .before .before .before .args .regs .now) (c8 .before .before .before .before .before .before .args .mem .now) (c8 .before .before .before .before .before .before .args .tags .now)
-          (c8 .before .before .before .before .before .before .args .bytes) (sum .result) (sum .ensures)
+    let wrapping-add-u32 = c8 .wrapping-add-u32 in
+    let op6 = c .before .before .before .before .before .before .op6 in
+    let divide = c .before .before .before .divide in
+    let pre = c8 .before .before .before .before .before .before .pre in
+    let args = c8 .before .before .before .before .before .before .args in
+    let done6 = c .done6 in
+    let sum = wrapping-add-u32 in
+    let is-op = op6 .given .1 in
+    let call = divide in
+    let pl = placed-as _ _ is-op (pre .1) in (
+      pre .2,
+      told (args .board) _ _ _ _ _ _ _ _ is-op (done6 .ensures)
+          (by-divide (args .board) (args .revoked .now) (args .regs .now) (args .mem .now) (args .tags .now)
+          (args .bytes) (sum .result) (sum .ensures)
           _ _ (pl .0 .0) _ _ _ (call .ensures)),
     )
 
 returns-8 : tie.Need-returns-8
 returns-8 c =
     let c8 = c .before .before .before .before .before .before .before .before in
-    let sum = c8 .wrapping-add-u32 in
-    let is-op = c .before .before .before .before .before .before .op7 .given .1 in
-    let call = c .before .before .take-go in
-    let before = state (c8 .before .before .before .before .before .before .args .regs .now) (c8 .before .before .before .before .before .before .args .mem .now) (c8 .before .before .before .before .before .before .args .tags .now) in
-    let after = (state (call .last .1 .1 .0) (c8 .before .before .before .before .before .before .args .mem .now) (c8 .before .before .before .before .before .before .args .tags .now)) in (
-      c8 .before .before .before .before .before .before .pre .2,
-      told-op (c8 .before .before .before .before .before .before .args .board) (c8 .before .before .before .before .before .before .args .revoked .now) _ _ (c8 .before .before .before .before .before .before .args .bytes) before after (call .result) is-op
-          (by-go (c8 .before .before .before .before .before .before .args .board) (c8 .before .before .before .before .before .before .args .revoked .now) (c8 .before .before .before .before .before .before .args .regs .now) (c8 .before .before .before .before .before .before .args .mem .now) (c8 .before .before .before .before .before .before .args .tags .now)
-          (c8 .before .before .before .before .before .before .args .bytes) (sum .result) (sum .ensures)
+    let wrapping-add-u32 = c8 .wrapping-add-u32 in
+    let op7 = c .before .before .before .before .before .before .op7 in
+    let take-go = c .before .before .take-go in
+    let args = c8 .before .before .before .before .before .before .args in
+    let pre = c8 .before .before .before .before .before .before .pre in
+    let sum = wrapping-add-u32 in
+    let is-op = op7 .given .1 in
+    let call = take-go in
+    let before = state (args .regs .now) (args .mem .now) (args .tags .now) in
+    let after = (state (call .last .1 .1 .0) (args .mem .now) (args .tags .now)) in (
+      pre .2,
+      told-op (args .board) (args .revoked .now) _ _ (args .bytes) before after (call .result) is-op
+          (by-go (args .board) (args .revoked .now) (args .regs .now) (args .mem .now) (args .tags .now)
+          (args .bytes) (sum .result) (sum .ensures)
           (call .last .1 .1 .0) _ (call .result) (call .ensures .0) (call .ensures .1)),
     )
 
 returns-9 : tie.Need-returns-9
 returns-9 c =
     let c8 = c .before .before .before .before .before .before .before .before in
-    let sum = c8 .wrapping-add-u32 in
-    let is-op = c .before .before .before .before .before .before .op8 .given .1 in
-    let call = c .before .before .take-link in
-    let before = state (c8 .before .before .before .before .before .before .args .regs .now) (c8 .before .before .before .before .before .before .args .mem .now) (c8 .before .before .before .before .before .before .args .tags .now) in
-    let after = (state (call .last .1 .1 .1 .1 .0) (c8 .before .before .before .before .before .before .args .mem .now) (c8 .before .before .before .before .before .before .args .tags .now)) in (
-      c8 .before .before .before .before .before .before .pre .2,
-      told-op (c8 .before .before .before .before .before .before .args .board) (c8 .before .before .before .before .before .before .args .revoked .now) _ _ (c8 .before .before .before .before .before .before .args .bytes) before after (call .result) is-op
-          (by-jump-link (c8 .before .before .before .before .before .before .args .board) (c8 .before .before .before .before .before .before .args .revoked .now) (c8 .before .before .before .before .before .before .args .regs .now) (c8 .before .before .before .before .before .before .args .mem .now) (c8 .before .before .before .before .before .before .args .tags .now)
-          (c8 .before .before .before .before .before .before .args .bytes) (sum .result) (sum .ensures)
+    let wrapping-add-u32 = c8 .wrapping-add-u32 in
+    let op8 = c .before .before .before .before .before .before .op8 in
+    let take-link = c .before .before .take-link in
+    let args = c8 .before .before .before .before .before .before .args in
+    let pre = c8 .before .before .before .before .before .before .pre in
+    let sum = wrapping-add-u32 in
+    let is-op = op8 .given .1 in
+    let call = take-link in
+    let before = state (args .regs .now) (args .mem .now) (args .tags .now) in
+    let after = (state (call .last .1 .1 .1 .1 .0) (args .mem .now) (args .tags .now)) in (
+      pre .2,
+      told-op (args .board) (args .revoked .now) _ _ (args .bytes) before after (call .result) is-op
+          (by-jump-link (args .board) (args .revoked .now) (args .regs .now) (args .mem .now) (args .tags .now)
+          (args .bytes) (sum .result) (sum .ensures)
           (call .last .1 .1 .1 .1 .0) _ _ (call .result) (call .ensures .0) (call .ensures .1)),
     )
 
 returns-10 : tie.Need-returns-10
 returns-10 c =
     let c8 = c .before .before .before .before .before .before .before .before in
-    let sum = c8 .wrapping-add-u32 in
-    let is-op = c .before .before .before .before .before .before .op9 .given .1 in
-    let call = c .before .before .take-register in
-    let before = state (c8 .before .before .before .before .before .before .args .regs .now) (c8 .before .before .before .before .before .before .args .mem .now) (c8 .before .before .before .before .before .before .args .tags .now) in
-    let after = (state (call .last .1 .1 .1 .1 .1 .0) (c8 .before .before .before .before .before .before .args .mem .now) (c8 .before .before .before .before .before .before .args .tags .now)) in (
-      c8 .before .before .before .before .before .before .pre .2,
-      told-op (c8 .before .before .before .before .before .before .args .board) (c8 .before .before .before .before .before .before .args .revoked .now) _ _ (c8 .before .before .before .before .before .before .args .bytes) before after (call .result) is-op
-          (by-jump-register (c8 .before .before .before .before .before .before .args .board) (c8 .before .before .before .before .before .before .args .revoked .now) (c8 .before .before .before .before .before .before .args .regs .now) (c8 .before .before .before .before .before .before .args .mem .now) (c8 .before .before .before .before .before .before .args .tags .now)
-          (c8 .before .before .before .before .before .before .args .bytes) (sum .result) (sum .ensures)
+    let wrapping-add-u32 = c8 .wrapping-add-u32 in
+    let op9 = c .before .before .before .before .before .before .op9 in
+    let take-register = c .before .before .take-register in
+    let args = c8 .before .before .before .before .before .before .args in
+    let pre = c8 .before .before .before .before .before .before .pre in
+    let sum = wrapping-add-u32 in
+    let is-op = op9 .given .1 in
+    let call = take-register in
+    let before = state (args .regs .now) (args .mem .now) (args .tags .now) in
+    let after = (state (call .last .1 .1 .1 .1 .1 .0) (args .mem .now) (args .tags .now)) in (
+      pre .2,
+      told-op (args .board) (args .revoked .now) _ _ (args .bytes) before after (call .result) is-op
+          (by-jump-register (args .board) (args .revoked .now) (args .regs .now) (args .mem .now) (args .tags .now)
+          (args .bytes) (sum .result) (sum .ensures)
           (call .last .1 .1 .1 .1 .1 .0) _ _ _ (call .result) (call .ensures .0) (call .ensures .1)),
     )
 
 returns-11 : tie.Need-returns-11
 returns-11 c =
     let c8 = c .before .before .before .before .before .before .before .before in
-    let sum = c8 .wrapping-add-u32 in
-    let is-op = c .before .before .before .before .before .before .op10 .given .1 in
-    let call = c .before .before .take-branch in
-    let before = state (c8 .before .before .before .before .before .before .args .regs .now) (c8 .before .before .before .before .before .before .args .mem .now) (c8 .before .before .before .before .before .before .args .tags .now) in
-    let after = (state (call .last .1 .1 .1 .1 .1 .0) (c8 .before .before .before .before .before .before .args .mem .now) (c8 .before .before .before .before .before .before .args .tags .now)) in (
-      c8 .before .before .before .before .before .before .pre .2,
-      told-op (c8 .before .before .before .before .before .before .args .board) (c8 .before .before .before .before .before .before .args .revoked .now) _ _ (c8 .before .before .before .before .before .before .args .bytes) before after (call .result) is-op
-          (by-branch (c8 .before .before .before .before .before .before .args .board) (c8 .before .before .before .before .before .before .args .revoked .now) (c8 .before .before .before .before .before .before .args .regs .now) (c8 .before .before .before .before .before .before .args .mem .now) (c8 .before .before .before .before .before .before .args .tags .now)
-          (c8 .before .before .before .before .before .before .args .bytes) (sum .result) (sum .ensures)
+    let wrapping-add-u32 = c8 .wrapping-add-u32 in
+    let op10 = c .before .before .before .before .before .before .op10 in
+    let take-branch = c .before .before .take-branch in
+    let args = c8 .before .before .before .before .before .before .args in
+    let pre = c8 .before .before .before .before .before .before .pre in
+    let sum = wrapping-add-u32 in
+    let is-op = op10 .given .1 in
+    let call = take-branch in
+    let before = state (args .regs .now) (args .mem .now) (args .tags .now) in
+    let after = (state (call .last .1 .1 .1 .1 .1 .0) (args .mem .now) (args .tags .now)) in (
+      pre .2,
+      told-op (args .board) (args .revoked .now) _ _ (args .bytes) before after (call .result) is-op
+          (by-branch (args .board) (args .revoked .now) (args .regs .now) (args .mem .now) (args .tags .now)
+          (args .bytes) (sum .result) (sum .ensures)
           (call .last .1 .1 .1 .1 .1 .0) _ _ _ _ (call .result) (call .ensures .0) (call .ensures .1)),
     )
 
 returns-12 : tie.Need-returns-12
 returns-12 c =
     let c8 = c .before .before .before .before .before .before .before .before in
-    let sum = c8 .before .wrapping-add-u32 in
-    let is-op = c .before .before .before .before .before .before .before .op11 .given .1 in
-    let call = c .before .before .take-word in
-    let before = state (c8 .before .before .before .before .before .before .before .args .regs .now) (c8 .before .before .before .before .before .before .before .args .mem .now) (c8 .before .before .before .before .before .before .before .args .tags .now) in
-    let after = (state (call .last .1 .1 .1 .1 .0) (c8 .before .before .before .before .before .before .before .args .mem .now) (c8 .before .before .before .before .before .before .before .args .tags .now)) in (
+    let wrapping-add-u32 = c8 .before .wrapping-add-u32 in
+    let op11 = c .before .before .before .before .before .before .before .op11 in
+    let take-word = c .before .before .take-word in
+    let args = c8 .before .before .before .before .before .before .before .args in
+    let sum = wrapping-add-u32 in
+    let is-op = op11 .given .1 in
+    let call = take-word in
+    let before = state (args .regs .now) (args .mem .now) (args .tags .now) in
+    let after = (state (call .last .1 .1 .1 .1 .0) (args .mem .now) (args .tags .now)) in (
       call .ensures .0,
-      told-op (c8 .before .before .before .before .before .before .before .args .board) (c8 .before .before .before .before .before .before .before .args .revoked .now) _ _ (c8 .before .before .before .before .before .before .before .args .bytes) before after (call .result) is-op
-          (by-load-word (c8 .before .before .before .before .before .before .before .args .board) (c8 .before .before .before .before .before .before .before .args .revoked .now) (c8 .before .before .before .before .before .before .before .args .regs .now) (c8 .before .before .before .before .before .before .before .args .mem .now) (c8 .before .before .before .before .before .before .before .args .tags .now)
-          (c8 .before .before .before .before .before .before .before .args .bytes) (sum .result) (sum .ensures)
+      told-op (args .board) (args .revoked .now) _ _ (args .bytes) before after (call .result) is-op
+          (by-load-word (args .board) (args .revoked .now) (args .regs .now) (args .mem .now) (args .tags .now)
+          (args .bytes) (sum .result) (sum .ensures)
           (call .last .1 .1 .1 .1 .0) _ _ _ (call .result) (call .ensures .1)),
     )
 
 returns-13 : tie.Need-returns-13
 returns-13 c =
     let c8 = c .before .before .before .before .before .before .before .before in
-    let sum = c8 .before .wrapping-add-u32 in
-    let is-op = c .before .before .before .before .before .before .before .op12 .given .1 in
-    let call = c .before .before .take-small in
-    let before = state (c8 .before .before .before .before .before .before .before .args .regs .now) (c8 .before .before .before .before .before .before .before .args .mem .now) (c8 .before .before .before .before .before .before .before .args .tags .now) in
-    let after = (state (call .last .1 .1 .1 .1 .1 .0) (c8 .before .before .before .before .before .before .before .args .mem .now) (c8 .before .before .before .before .before .before .before .args .tags .now)) in (
+    let wrapping-add-u32 = c8 .before .wrapping-add-u32 in
+    let op12 = c .before .before .before .before .before .before .before .op12 in
+    let take-small = c .before .before .take-small in
+    let args = c8 .before .before .before .before .before .before .before .args in
+    let sum = wrapping-add-u32 in
+    let is-op = op12 .given .1 in
+    let call = take-small in
+    let before = state (args .regs .now) (args .mem .now) (args .tags .now) in
+    let after = (state (call .last .1 .1 .1 .1 .1 .0) (args .mem .now) (args .tags .now)) in (
       call .ensures .0,
-      told-op (c8 .before .before .before .before .before .before .before .args .board) (c8 .before .before .before .before .before .before .before .args .revoked .now) _ _ (c8 .before .before .before .before .before .before .before .args .bytes) before after (call .result) is-op
-          (by-load (c8 .before .before .before .before .before .before .before .args .board) (c8 .before .before .before .before .before .before .before .args .revoked .now) (c8 .before .before .before .before .before .before .before .args .regs .now) (c8 .before .before .before .before .before .before .before .args .mem .now) (c8 .before .before .before .before .before .before .before .args .tags .now)
-          (c8 .before .before .before .before .before .before .before .args .bytes) (sum .result) (sum .ensures)
+      told-op (args .board) (args .revoked .now) _ _ (args .bytes) before after (call .result) is-op
+          (by-load (args .board) (args .revoked .now) (args .regs .now) (args .mem .now) (args .tags .now)
+          (args .bytes) (sum .result) (sum .ensures)
           (call .last .1 .1 .1 .1 .1 .0) _ _ _ _ (call .result) (call .ensures .1)),
     )
 
@@ -322,15 +393,19 @@ returns-14 : tie.Need-returns-14
 returns-14 c =
     let c8 = c .before .before .before .before .before .before .before .before in
     let c16 = c8 .before .before .before .before .before .before .before .before in
-    let sum = c8 .before .before .before .before .before .before .wrapping-add-u32 in
-    let is-op = c8 .before .before .before .before .op13 .given .1 in
-    let call = c .before .before .before .before .before .before .take-store-word in
-    let before = state (c16 .before .before .before .before .args .regs .now) (c16 .before .before .before .before .args .mem .now) (c16 .before .before .before .before .args .tags .now) in
+    let wrapping-add-u32 = c8 .before .before .before .before .before .before .wrapping-add-u32 in
+    let op13 = c8 .before .before .before .before .op13 in
+    let take-store-word = c .before .before .before .before .before .before .take-store-word in
+    let args = c16 .before .before .before .before .args in
+    let sum = wrapping-add-u32 in
+    let is-op = op13 .given .1 in
+    let call = take-store-word in
+    let before = state (args .regs .now) (args .mem .now) (args .tags .now) in
     let after = (state (call .last .1 .1 .1 .1 .0) (call .last .1 .1 .1 .1 .1 .1 .0) (call .last .1 .1 .1 .1 .1 .1 .1 .0)) in (
       call .ensures .0,
-      told-op (c16 .before .before .before .before .args .board) (c16 .before .before .before .before .args .revoked .now) _ _ (c16 .before .before .before .before .args .bytes) before after (call .result) is-op
-          (by-store-word (c16 .before .before .before .before .args .board) (c16 .before .before .before .before .args .revoked .now) (c16 .before .before .before .before .args .regs .now) (c16 .before .before .before .before .args .mem .now) (c16 .before .before .before .before .args .tags .now)
-          (c16 .before .before .before .before .args .bytes) (sum .result) (sum .ensures)
+      told-op (args .board) (args .revoked .now) _ _ (args .bytes) before after (call .result) is-op
+          (by-store-word (args .board) (args .revoked .now) (args .regs .now) (args .mem .now) (args .tags .now)
+          (args .bytes) (sum .result) (sum .ensures)
           after _ _ _ (call .result) (call .ensures .1)),
     )
 
@@ -338,15 +413,19 @@ returns-15 : tie.Need-returns-15
 returns-15 c =
     let c8 = c .before .before .before .before .before .before .before .before in
     let c16 = c8 .before .before .before .before .before .before .before .before in
-    let sum = c8 .before .before .before .before .before .before .wrapping-add-u32 in
-    let is-op = c8 .before .before .before .before .op14 .given .1 in
-    let call = c .before .before .before .before .before .before .take-store-small in
-    let before = state (c16 .before .before .before .before .args .regs .now) (c16 .before .before .before .before .args .mem .now) (c16 .before .before .before .before .args .tags .now) in
+    let wrapping-add-u32 = c8 .before .before .before .before .before .before .wrapping-add-u32 in
+    let op14 = c8 .before .before .before .before .op14 in
+    let take-store-small = c .before .before .before .before .before .before .take-store-small in
+    let args = c16 .before .before .before .before .args in
+    let sum = wrapping-add-u32 in
+    let is-op = op14 .given .1 in
+    let call = take-store-small in
+    let before = state (args .regs .now) (args .mem .now) (args .tags .now) in
     let after = (state (call .last .1 .1 .1 .1 .1 .0) (call .last .1 .1 .1 .1 .1 .1 .1 .0) (call .last .1 .1 .1 .1 .1 .1 .1 .1 .0)) in (
       call .ensures .0,
-      told-op (c16 .before .before .before .before .args .board) (c16 .before .before .before .before .args .revoked .now) _ _ (c16 .before .before .before .before .args .bytes) before after (call .result) is-op
-          (by-store (c16 .before .before .before .before .args .board) (c16 .before .before .before .before .args .revoked .now) (c16 .before .before .before .before .args .regs .now) (c16 .before .before .before .before .args .mem .now) (c16 .before .before .before .before .args .tags .now)
-          (c16 .before .before .before .before .args .bytes) (sum .result) (sum .ensures)
+      told-op (args .board) (args .revoked .now) _ _ (args .bytes) before after (call .result) is-op
+          (by-store (args .board) (args .revoked .now) (args .regs .now) (args .mem .now) (args .tags .now)
+          (args .bytes) (sum .result) (sum .ensures)
           after _ _ _ _ (call .result) (call .ensures .1)),
     )
 
@@ -370,85 +449,119 @@ returns-17 : tie.Need-returns-17
 returns-17 c =
     let c8 = c .before .before .before .before .before .before .before .before in
     let c16 = c8 .before .before .before .before .before .before .before .before in
-    let sum = c8 .before .before .before .before .before .before .wrapping-add-u32 in
-    let is-op = c8 .before .before .before .before .op16 .given .1 in
-    let call = c .before .before .before .before .before .before .take-store-capability in
-    let before = state (c16 .before .before .before .before .args .regs .now) (c16 .before .before .before .before .args .mem .now) (c16 .before .before .before .before .args .tags .now) in
+    let wrapping-add-u32 = c8 .before .before .before .before .before .before .wrapping-add-u32 in
+    let op16 = c8 .before .before .before .before .op16 in
+    let take-store-capability = c .before .before .before .before .before .before .take-store-capability in
+    let args = c16 .before .before .before .before .args in
+    let sum = wrapping-add-u32 in
+    let is-op = op16 .given .1 in
+    let call = take-store-capability in
+    let before = state (args .regs .now) (args .mem .now) (args .tags .now) in
     let after = (state (call .last .1 .1 .1 .1 .0) (call .last .1 .1 .1 .1 .1 .1 .0) (call .last .1 .1 .1 .1 .1 .1 .1 .0)) in (
       call .ensures .0,
-      told-op (c16 .before .before .before .before .args .board) (c16 .before .before .before .before .args .revoked .now) _ _ (c16 .before .before .before .before .args .bytes) before after (call .result) is-op
-          (by-store-capability (c16 .before .before .before .before .args .board) (c16 .before .before .before .before .args .revoked .now) (c16 .before .before .before .before .args .regs .now) (c16 .before .before .before .before .args .mem .now) (c16 .before .before .before .before .args .tags .now)
-          (c16 .before .before .before .before .args .bytes) (sum .result) (sum .ensures)
+      told-op (args .board) (args .revoked .now) _ _ (args .bytes) before after (call .result) is-op
+          (by-store-capability (args .board) (args .revoked .now) (args .regs .now) (args .mem .now) (args .tags .now)
+          (args .bytes) (sum .result) (sum .ensures)
           after _ _ _ (call .result) (call .ensures .1)),
     )
 
 returns-18 : tie.Need-returns-18
 returns-18 c =
     let c8 = c .before .before .before .before .before .before .before .before in
-    let sum = c8 .wrapping-add-u32 in
-    let is-op = c .before .before .before .before .before .before .op17 .given .1 in
-    let call = c .before .before .before .increment in
-    let pl = placed-as _ _ is-op (c8 .before .before .before .before .before .before .pre .1) in (
-      c8 .before .before .before .before .before .before .pre .2,
-      told (c8 .before .before .before .before .before .before .args .board) _ _ _ _ _ _ _ _ is-op (c .done7 .ensures)
-          (by-increment (c8 .before .before .before .before .before .before .args .board) (c8 .before .before .before .before .before .before .args .revoked .now) (c8 .before .before .before .before .before .before .args .regs .now) (c8 .before .before .before .before .before .before .args .mem .now) (c8 .before .before .before .before .before .before .args .tags .now)
-          (c8 .before .before .before .before .before .before .args .bytes) (sum .result) (sum .ensures)
+    let wrapping-add-u32 = c8 .wrapping-add-u32 in
+    let op17 = c .before .before .before .before .before .before .op17 in
+    let increment = c .before .before .before .increment in
+    let pre = c8 .before .before .before .before .before .before .pre in
+    let args = c8 .before .before .before .before .before .before .args in
+    let done7 = c .done7 in
+    let sum = wrapping-add-u32 in
+    let is-op = op17 .given .1 in
+    let call = increment in
+    let pl = placed-as _ _ is-op (pre .1) in (
+      pre .2,
+      told (args .board) _ _ _ _ _ _ _ _ is-op (done7 .ensures)
+          (by-increment (args .board) (args .revoked .now) (args .regs .now) (args .mem .now) (args .tags .now)
+          (args .bytes) (sum .result) (sum .ensures)
           _ _ (pl .0 .0) _ _ (call .ensures)),
     )
 
 returns-19 : tie.Need-returns-19
 returns-19 c =
     let c8 = c .before .before .before .before .before .before .before .before in
-    let sum = c8 .wrapping-add-u32 in
-    let is-op = c .before .before .before .before .before .before .op18 .given .1 in
-    let call = c .before .before .before .cut in
-    let pl = placed-as _ _ is-op (c8 .before .before .before .before .before .before .pre .1) in (
-      c8 .before .before .before .before .before .before .pre .2,
-      told (c8 .before .before .before .before .before .before .args .board) _ _ _ _ _ _ _ _ is-op (c .done8 .ensures)
-          (by-cut (c8 .before .before .before .before .before .before .args .board) (c8 .before .before .before .before .before .before .args .revoked .now) (c8 .before .before .before .before .before .before .args .regs .now) (c8 .before .before .before .before .before .before .args .mem .now) (c8 .before .before .before .before .before .before .args .tags .now)
-          (c8 .before .before .before .before .before .before .args .bytes) (sum .result) (sum .ensures)
+    let wrapping-add-u32 = c8 .wrapping-add-u32 in
+    let op18 = c .before .before .before .before .before .before .op18 in
+    let cut = c .before .before .before .cut in
+    let pre = c8 .before .before .before .before .before .before .pre in
+    let args = c8 .before .before .before .before .before .before .args in
+    let done8 = c .done8 in
+    let sum = wrapping-add-u32 in
+    let is-op = op18 .given .1 in
+    let call = cut in
+    let pl = placed-as _ _ is-op (pre .1) in (
+      pre .2,
+      told (args .board) _ _ _ _ _ _ _ _ is-op (done8 .ensures)
+          (by-cut (args .board) (args .revoked .now) (args .regs .now) (args .mem .now) (args .tags .now)
+          (args .bytes) (sum .result) (sum .ensures)
           _ _ (pl .0 .0) _ _ (call .ensures)),
     )
 
 returns-20 : tie.Need-returns-20
 returns-20 c =
     let c8 = c .before .before .before .before .before .before .before .before in
-    let sum = c8 .wrapping-add-u32 in
-    let is-op = c .before .before .before .before .before .before .op19 .given .1 in
-    let call = c .before .before .before .copy in
-    let pl = placed-as _ _ is-op (c8 .before .before .before .before .before .before .pre .1) in (
-      c8 .before .before .before .before .before .before .pre .2,
-      told (c8 .before .before .before .before .before .before .args .board) _ _ _ _ _ _ _ _ is-op (c .done9 .ensures)
-          (by-copy (c8 .before .before .before .before .before .before .args .board) (c8 .before .before .before .before .before .before .args .revoked .now) (c8 .before .before .before .before .before .before .args .regs .now) (c8 .before .before .before .before .before .before .args .mem .now) (c8 .before .before .before .before .before .before .args .tags .now)
-          (c8 .before .before .before .before .before .before .args .bytes) (sum .result) (sum .ensures)
+    let wrapping-add-u32 = c8 .wrapping-add-u32 in
+    let op19 = c .before .before .before .before .before .before .op19 in
+    let copy = c .before .before .before .copy in
+    let pre = c8 .before .before .before .before .before .before .pre in
+    let args = c8 .before .before .before .before .before .before .args in
+    let done9 = c .done9 in
+    let sum = wrapping-add-u32 in
+    let is-op = op19 .given .1 in
+    let call = copy in
+    let pl = placed-as _ _ is-op (pre .1) in (
+      pre .2,
+      told (args .board) _ _ _ _ _ _ _ _ is-op (done9 .ensures)
+          (by-copy (args .board) (args .revoked .now) (args .regs .now) (args .mem .now) (args .tags .now)
+          (args .bytes) (sum .result) (sum .ensures)
           _ _ (pl .0 .0) _ (call .ensures)),
     )
 
 returns-21 : tie.Need-returns-21
 returns-21 c =
     let c8 = c .before .before .before .before .before .before .before .before in
-    let sum = c8 .wrapping-add-u32 in
-    let is-op = c .before .before .before .before .before .before .op20 .given .1 in
-    let call = c .before .before .before .set-address in
-    let pl = placed-as _ _ is-op (c8 .before .before .before .before .before .before .pre .1) in (
-      c8 .before .before .before .before .before .before .pre .2,
-      told (c8 .before .before .before .before .before .before .args .board) _ _ _ _ _ _ _ _ is-op (c .done10 .ensures)
-          (by-set-address (c8 .before .before .before .before .before .before .args .board) (c8 .before .before .before .before .before .before .args .revoked .now) (c8 .before .before .before .before .before .before .args .regs .now) (c8 .before .before .before .before .before .before .args .mem .now) (c8 .before .before .before .before .before .before .args .tags .now)
-          (c8 .before .before .before .before .before .before .args .bytes) (sum .result) (sum .ensures)
+    let wrapping-add-u32 = c8 .wrapping-add-u32 in
+    let op20 = c .before .before .before .before .before .before .op20 in
+    let set-address = c .before .before .before .set-address in
+    let pre = c8 .before .before .before .before .before .before .pre in
+    let args = c8 .before .before .before .before .before .before .args in
+    let done10 = c .done10 in
+    let sum = wrapping-add-u32 in
+    let is-op = op20 .given .1 in
+    let call = set-address in
+    let pl = placed-as _ _ is-op (pre .1) in (
+      pre .2,
+      told (args .board) _ _ _ _ _ _ _ _ is-op (done10 .ensures)
+          (by-set-address (args .board) (args .revoked .now) (args .regs .now) (args .mem .now) (args .tags .now)
+          (args .bytes) (sum .result) (sum .ensures)
           _ _ (pl .0 .0) _ _ (call .ensures)),
     )
 
 returns-22 : tie.Need-returns-22
 returns-22 c =
     let c8 = c .before .before .before .before .before .before .before .before in
-    let sum = c8 .wrapping-add-u32 in
-    let is-op = c .before .before .before .before .before .before .op21 .given .1 in
-    let call = c .before .before .before .increment-by in
-    let pl = placed-as _ _ is-op (c8 .before .before .before .before .before .before .pre .1) in (
-      c8 .before .before .before .before .before .before .pre .2,
-      told (c8 .before .before .before .before .before .before .args .board) _ _ _ _ _ _ _ _ is-op (c .done11 .ensures)
-          (by-increment-by (c8 .before .before .before .before .before .before .args .board) (c8 .before .before .before .before .before .before .args .revoked .now) (c8 .before .before .before .before .before .before .args .regs .now) (c8 .before .before .before .before .before .before .args .mem .now) (c8 .before .before .before .before .before .before .args .tags .now)
-          (c8 .before .before .before .before .before .before .args .bytes) (sum .result) (sum .ensures)
+    let wrapping-add-u32 = c8 .wrapping-add-u32 in
+    let op21 = c .before .before .before .before .before .before .op21 in
+    let increment-by = c .before .before .before .increment-by in
+    let pre = c8 .before .before .before .before .before .before .pre in
+    let args = c8 .before .before .before .before .before .before .args in
+    let done11 = c .done11 in
+    let sum = wrapping-add-u32 in
+    let is-op = op21 .given .1 in
+    let call = increment-by in
+    let pl = placed-as _ _ is-op (pre .1) in (
+      pre .2,
+      told (args .board) _ _ _ _ _ _ _ _ is-op (done11 .ensures)
+          (by-increment-by (args .board) (args .revoked .now) (args .regs .now) (args .mem .now) (args .tags .now)
+          (args .bytes) (sum .result) (sum .ensures)
           _ _ (pl .0 .0) _ _ (call .ensures)),
     )
 
@@ -470,15 +583,19 @@ returns-23 c =
 returns-24 : tie.Need-returns-24
 returns-24 c =
     let c8 = c .before .before .before .before .before .before .before .before in
-    let sum = c8 .before .wrapping-add-u32 in
-    let is-op = c .before .before .before .before .before .before .before .op23 .given .1 in
-    let call = c .before .before .take-byte in
-    let before = state (c8 .before .before .before .before .before .before .before .args .regs .now) (c8 .before .before .before .before .before .before .before .args .mem .now) (c8 .before .before .before .before .before .before .before .args .tags .now) in
-    let after = (state (call .last .1 .1 .1 .1 .1 .0) (c8 .before .before .before .before .before .before .before .args .mem .now) (c8 .before .before .before .before .before .before .before .args .tags .now)) in (
+    let wrapping-add-u32 = c8 .before .wrapping-add-u32 in
+    let op23 = c .before .before .before .before .before .before .before .op23 in
+    let take-byte = c .before .before .take-byte in
+    let args = c8 .before .before .before .before .before .before .before .args in
+    let sum = wrapping-add-u32 in
+    let is-op = op23 .given .1 in
+    let call = take-byte in
+    let before = state (args .regs .now) (args .mem .now) (args .tags .now) in
+    let after = (state (call .last .1 .1 .1 .1 .1 .0) (args .mem .now) (args .tags .now)) in (
       call .ensures .0,
-      told-op (c8 .before .before .before .before .before .before .before .args .board) (c8 .before .before .before .before .before .before .before .args .revoked .now) _ _ (c8 .before .before .before .before .before .before .before .args .bytes) before after (call .result) is-op
-          (by-load-byte (c8 .before .before .before .before .before .before .before .args .board) (c8 .before .before .before .before .before .before .before .args .revoked .now) (c8 .before .before .before .before .before .before .before .args .regs .now) (c8 .before .before .before .before .before .before .before .args .mem .now) (c8 .before .before .before .before .before .before .before .args .tags .now)
-          (c8 .before .before .before .before .before .before .before .args .bytes) (sum .result) (sum .ensures)
+      told-op (args .board) (args .revoked .now) _ _ (args .bytes) before after (call .result) is-op
+          (by-load-byte (args .board) (args .revoked .now) (args .regs .now) (args .mem .now) (args .tags .now)
+          (args .bytes) (sum .result) (sum .ensures)
           (call .last .1 .1 .1 .1 .1 .0) _ _ _ _ (call .result) (call .ensures .1)),
     )
 
@@ -509,7 +626,7 @@ turn-spec =
     divide-requires
     (λ c κs. search needs)
     (λ c. search needs)
-    (λ c κs. search needs)
+    take-go-requires
     (λ c. search needs)
     (λ c κs. search needs)
     (λ c. search needs)
