@@ -3,6 +3,7 @@
 use crate::colour::When;
 use crate::edition::Edition;
 use crate::image::Format;
+use crate::probe::fetch;
 use crate::proved::engine::Engine;
 use clap::{ArgAction, Args, CommandFactory, Parser, Subcommand};
 use std::ops::Deref;
@@ -398,7 +399,7 @@ fn word(text: &str) -> Result<u32, String> {
 /// An address that an instruction may have.
 pub fn even(text: &str) -> Result<u32, String> {
     match word(text)? {
-        address if address % 2 == 0 => Ok(address),
+        address if fetch::is_place(address) => Ok(address),
         _ => Err("odd, and an instruction's address is even".into()),
     }
 }

@@ -1,6 +1,6 @@
 //! A capability in words: its rights as the paper's two letters, its type, its bounds.
 
-use crate::probe;
+use crate::probe::{jump, value};
 use crate::proved::Region;
 use lent::{Capability, Revocation};
 
@@ -9,12 +9,9 @@ const RIGHTS: [&str; 12] = [
     "GL", "LG", "SD", "LM", "SL", "LD", "MC", "SR", "EX", "US", "SE", "U0",
 ];
 
-/// The bit of EX among the rights.
-const EX: u32 = 1 << 8;
-
 /// The names of the rights that a metadata word holds.
 pub fn rights(metadata: u32) -> Vec<&'static str> {
-    let held = probe::rights(metadata);
+    let held = value::rights(metadata);
     let names = RIGHTS.into_iter().enumerate();
     names
         .filter(|(bit, _)| held >> bit & 1 == 1)
@@ -24,7 +21,8 @@ pub fn rights(metadata: u32) -> Vec<&'static str> {
 
 /// The type in words (the CHERIoT report, 7.13.2, and document 02, 8).
 pub fn type_words(metadata: u32) -> String {
-    match (probe::seal_type(metadata), is_sentry(metadata)) {
+    let kind = value::seal_type(metadata);
+    match (kind, jump::is_sentry(kind)) {
         (0, _) => "unsealed".into(),
         (1, true) => "sentry".into(),
         (2, true) => "sentry, interrupts off".into(),
@@ -33,12 +31,6 @@ pub fn type_words(metadata: u32) -> String {
         (5, true) => "return sentry, interrupts on".into(),
         (number, _) => format!("sealed {number}"),
     }
-}
-
-/// Whether a metadata word is a sentry's, or a return sentry's.
-pub fn is_sentry(metadata: u32) -> bool {
-    let executable = probe::rights(metadata) & EX != 0;
-    executable && (1..=5).contains(&probe::seal_type(metadata))
 }
 
 /// What the revocation bits say, in a word.

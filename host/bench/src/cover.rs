@@ -6,21 +6,20 @@ mod tests;
 
 use crate::image::Segment;
 use crate::names::{Name, Names};
-use crate::proved::instruction;
-use lent::{instruction_bytes, State};
+use crate::proved::{first_word, instruction, word_length};
+use lent::State;
 use serde_json::{json, Value};
+use std::collections::BTreeMap;
 use std::fmt::Write;
 use std::ops::Range;
 
-/// The bytes from one place of a word to the next.
-const HALF: usize = 2;
-
-/// The words that retired, by their place in memory.
+/// The words that retired, by their address.
 #[derive(Clone, PartialEq, Eq, Debug)]
 pub struct Cover {
     start: u32,
-    /// For each half of memory the last word that began there, and how often one did.
-    words: Vec<(u32, u64)>,
+    size: usize,
+    /// The bytes from the last word on that began there, as one number, and how often one did.
+    words: BTreeMap<u32, (u32, u64)>,
 }
 
 /// A stretch of the image: its bytes, how many of them were executed, and where the others are.
@@ -38,32 +37,30 @@ impl Cover {
     pub fn new(state: &State) -> Cover {
         Cover {
             start: state.start,
-            words: vec![(0, 0); state.mem.len() / HALF],
+            size: state.mem.len(),
+            words: BTreeMap::new(),
         }
     }
 
-    /// A word that retired.
-    pub fn retired(&mut self, address: u32, word: u32) {
-        let place = address.wrapping_sub(self.start) as usize / HALF;
-        if let Some(here) = self.words.get_mut(place) {
-            *here = (word, here.1 + 1);
+    /// A word that retired, with the bytes after it up to four, as one number.
+    pub fn retired(&mut self, address: u32, bytes: u32) {
+        if (address.wrapping_sub(self.start) as usize) < self.size {
+            let here = self.words.entry(address).or_default();
+            *here = (bytes, here.1 + 1);
         }
     }
 
     /// The words that were executed: address, word, how often.
     fn executed(&self) -> impl Iterator<Item = (u64, u32, u64)> + '_ {
-        let start = u64::from(self.start);
-        let places = self.words.iter().enumerate();
-        let made = places.filter(|(_, (_, times))| *times > 0);
-        made.map(move |(place, (word, times))| (start + (HALF * place) as u64, *word, *times))
+        let words = self.words.iter();
+        words.map(|(address, (bytes, times))| (u64::from(*address), first_word(*bytes), *times))
     }
 
     /// For each byte of memory whether a word that was executed holds it.
     fn bytes(&self) -> Vec<bool> {
-        let mut bytes = vec![false; HALF * self.words.len() + HALF];
+        let mut bytes = vec![false; self.size];
         for (address, word, _) in self.executed() {
-            let place = (address - u64::from(self.start)) as usize;
-            bytes[place..place + instruction_bytes(word) as usize].fill(true);
+            bytes[self.places(address, address + u64::from(word_length(word)))].fill(true);
         }
         bytes
     }
@@ -71,14 +68,14 @@ impl Cover {
     /// The places in memory of the addresses [from, to), as far as memory reaches: a symbol may say that it is longer.
     fn places(&self, from: u64, to: u64) -> Range<usize> {
         let start = u64::from(self.start);
-        let end = start + (HALF * self.words.len()) as u64;
+        let end = start + self.size as u64;
         let place = |address: u64| (address.clamp(start, end) - start) as usize;
         place(from)..place(to)
     }
 
     /// For each byte of memory whether the image has one for it.
     fn image(&self, segments: &[Segment]) -> Vec<bool> {
-        let mut bytes = vec![false; HALF * self.words.len() + HALF];
+        let mut bytes = vec![false; self.size];
         for segment in segments {
             let from = u64::from(segment.address);
             let places = self.places(from, from + segment.bytes.len() as u64);
@@ -170,7 +167,7 @@ impl Cover {
             json!({
                 "address": address,
                 "word": word,
-                "length": instruction_bytes(word),
+                "length": word_length(word),
                 "instruction": instruction(word),
                 "times": times,
             })

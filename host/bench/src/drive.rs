@@ -145,9 +145,9 @@ fn advance(course: &mut Course, pace: Pace, plan: &mut Plan) -> (Counts, Halt) {
     };
     let made = match looks {
         false => by_calls(course, pace, &stops),
-        true => by_steps(course, pace, &stops, &mut |at, word| {
+        true => by_steps(course, pace, &stops, &mut |at, bytes| {
             if let Some(cover) = &mut plan.cover {
-                cover.retired(at, word);
+                cover.retired(at, bytes);
             }
         }),
     };

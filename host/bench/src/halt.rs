@@ -47,7 +47,7 @@ pub struct Pace {
     pub leaves: bool,
 }
 
-/// Makes steps one by one, and shows of each that retired its address and its word. Where each has to be made with many
+/// Makes steps one by one, and shows of each that retired its address and the bytes there, up to four. Where each has to be made with many
 /// before it, fewer are made at once.
 pub fn by_steps(
     course: &mut Course,
@@ -63,7 +63,7 @@ pub fn by_steps(
         if stops.breaks.contains(&at) && !(first && pace.leaves) {
             return (done, Halt::Break);
         }
-        let word = course.state().instruction(at).unwrap_or(0);
+        let bytes = bytes_at(course.state(), at);
         regs.clone_from(&course.state().regs);
         let before = (&regs[..], course.record());
         let made = match course.run(1) {
@@ -79,10 +79,16 @@ pub fn by_steps(
         }
         done += made;
         if made.retired > 0 {
-            see(at, word);
+            see(at, bytes);
         }
     }
     (done, Halt::Steps)
+}
+
+/// Up to four bytes at an address, as one number: no word is longer.
+fn bytes_at(state: &State, address: u32) -> u32 {
+    let half = || state.half(address).map(u32::from);
+    state.word(address).or_else(half).unwrap_or(0)
 }
 
 /// What a step came to, by the registers and the record before it and what it left, with so many steps left after it.

@@ -5,6 +5,7 @@ mod hex;
 pub mod lines;
 
 use crate::names::Name;
+use crate::probe::value::stored;
 use crate::proved::sheets;
 use crate::sheet::Bad;
 use lent::{State, GRANULE};
@@ -179,12 +180,31 @@ fn no_overlap(segments: &[Segment]) -> Result<(), String> {
     Ok(())
 }
 
-/// Writes memory otherwise than by a step: the granules that are touched lose their tags.
+/// Writes memory otherwise than by a step. Of a granule with a tag, what is left is what the machine's stores leave.
 pub fn put(state: &mut State, address: u32, bytes: &[u8]) {
+    let before = tagged_parts(state, address, bytes);
     state.write(address, bytes);
-    let end = u64::from(address) + bytes.len() as u64;
-    let first = u64::from(address) & !(GRANULE as u64 - 1);
-    for granule in (first..end).step_by(GRANULE) {
-        state.set_tag(granule as u32, false);
+    for (granule, left, tag) in before {
+        state.write(granule, &left);
+        state.set_tag(granule, tag);
     }
+}
+
+/// The granules with a tag that bytes at an address go into: where they are, and what the machine's stores leave there.
+fn tagged_parts(state: &State, address: u32, bytes: &[u8]) -> Vec<(u32, [u8; GRANULE], bool)> {
+    let Some(place) = state.offset(address, bytes.len()) else {
+        return Vec::new();
+    };
+    let end = place + bytes.len();
+    let granules = (place / GRANULE..end.div_ceil(GRANULE)).map(|granule| granule * GRANULE);
+    let at = |offset: usize| state.start + offset as u32;
+    let tagged = granules.filter(|offset| state.tagged(at(*offset).into()));
+    tagged
+        .map(|offset| {
+            let held = std::array::from_fn(|byte| state.mem[offset + byte]);
+            let (first, last) = (place.max(offset), end.min(offset + GRANULE));
+            let (left, tag) = stored(held, first - offset, &bytes[first - place..last - place]);
+            (at(offset), left, tag)
+        })
+        .collect()
 }

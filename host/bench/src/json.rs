@@ -11,14 +11,14 @@ use crate::memory_rows::rows;
 use crate::names::Names;
 use crate::probe;
 use crate::proved::sheets::{Record, NEITHER};
-use crate::proved::{bounds, instruction, Refusal, Region, UNSOUND};
+use crate::proved::{bounds, instruction, word_length, Refusal, Region, UNSOUND};
 use crate::sheet::{letters, Bad};
 use crate::stack::{Stack, Used};
 use crate::sweep::{self, Went};
 use crate::trap::{Action, Asked, Authority, Trap};
 use lent::{
-    instruction_bytes, place_name, Capability, Range, State, CAPABILITIES, COMPARE, MCAUSE, MSHWM,
-    MSHWMB, MSTATUS, MTVAL, TIME,
+    place_name, Capability, Range, State, CAPABILITIES, COMPARE, MCAUSE, MSHWM, MSHWMB, MSTATUS,
+    MTVAL, TIME,
 };
 use serde_json::{json, Value};
 use std::path::Path;
@@ -115,7 +115,7 @@ pub fn listing(parts: &[Part]) -> Value {
             json!({
                 "address": line.address,
                 "word": line.word,
-                "length": instruction_bytes(line.word),
+                "length": line.length,
                 "instruction": line.instruction,
             })
         });
@@ -260,7 +260,7 @@ fn trap(trap: &Trap, state: &State, names: &Names) -> Value {
         "at": trap.pcc.address,
         "names": places(trap.pcc.address, names),
         "word": trap.word,
-        "length": trap.word.map(instruction_bytes),
+        "length": trap.word.map(word_length),
         "instruction": trap.word.map(instruction),
         "cause": trap.cause,
         "mcause": trap.mcause,

@@ -5,7 +5,6 @@ mod tests;
 
 use crate::image::Segment;
 use crate::proved::{self, spaced, Refused};
-use lent::instruction_bytes;
 
 /// A part and its listing, the form that assembles.
 pub struct Part<'a> {
@@ -18,6 +17,7 @@ pub struct Part<'a> {
 pub struct Line {
     pub address: u64,
     pub word: u32,
+    pub length: usize,
     pub instruction: String,
 }
 
@@ -33,21 +33,16 @@ impl Part<'_> {
         let (mut address, mut rest) = (u64::from(self.segment.address), &self.segment.bytes[..]);
         let mut lines = Vec::new();
         for line in self.plain.lines() {
-            let (bytes, after) = rest.split_at(length(rest));
-            let low_first = bytes.iter().rev();
+            let length = proved::length(rest).unwrap_or(rest.len());
+            let (bytes, after) = rest.split_at(length);
             lines.push(Line {
                 address,
-                word: low_first.fold(0, |word, byte| word << 8 | u32::from(*byte)),
+                word: proved::number(bytes),
+                length,
                 instruction: spaced(line),
             });
             (address, rest) = (address + bytes.len() as u64, after);
         }
         lines
     }
-}
-
-/// The bytes of the first word of some.
-fn length(bytes: &[u8]) -> usize {
-    let first = bytes.first().copied().unwrap_or(0);
-    (instruction_bytes(first.into()) as usize).min(bytes.len())
 }

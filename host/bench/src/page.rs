@@ -10,12 +10,13 @@ use crate::image::Segment;
 use crate::map::{Map, Shape, Strip};
 use crate::names::{Name, Names};
 use crate::proved::sheets::Record;
+use crate::proved::word_length;
 use crate::report::{self, Held};
 use crate::sheet::{letters, Sheet};
 use crate::stack::Used;
 use crate::trap::Trap;
 use crate::visible::{self, shortened};
-use lent::{instruction_bytes, place_name, State, CAPABILITIES};
+use lent::{place_name, State, CAPABILITIES};
 use serde_json::{json, Value};
 use sha2::{Digest, Sha256};
 use std::path::Path;
@@ -320,7 +321,7 @@ fn stack(account: &Account) -> Vec<Shape> {
 /// Where the trap was, what was asked, and what its authority allows.
 fn trap_shapes(trap: &Trap) -> Vec<Shape> {
     let at = u64::from(trap.pcc.address);
-    let length = trap.word.map_or(1, instruction_bytes);
+    let length = trap.word.map_or(1, word_length);
     let mut shapes = Vec::new();
     if let Some(authority) = &trap.authority {
         let (bounds, name) = (authority.bounds, format!("bounds of {}", authority.name));

@@ -1,135 +1,175 @@
-//! Questions that the proved machine answers by executing one instruction on a scratch state: the
-//! rights and the type of a capability, the address that an access or a jump asks for, what the
-//! revocation bits say of a low bound, whether the timer interrupts, and which registers no start may hold.
+//! Questions that the proved machine answers by executing an instruction on a scratch state. The instructions are those
+//! that the proved assembler makes of their names, so nothing here knows an opcode.
 
+pub mod access;
+pub mod fetch;
+pub mod jump;
 #[cfg(test)]
 mod tests;
+pub mod value;
 
-use crate::proved::{self, UNSOUND};
-use crate::request::Request;
+use crate::proved::{self, number, Counts, UNSOUND};
 use lent::{
-    instruction_bytes, Capability, Revocation, State, CAPABILITIES, EXECUTABLE_ROOT, MCAUSE,
-    MEMORY_ROOT, MSTATUS, MTVAL, PCC, TIME,
+    Capability, Revocation, State, BLOCK, CAPABILITIES, MCAUSE, MEMORY_ROOT, MSHWM, MSHWMB,
+    MSTATUS, MTCC, MTVAL, PCC, TIME,
 };
+use std::cell::RefCell;
+use std::collections::HashMap;
 
-// The field of a long word that a probe puts in place.
-const RS1: u32 = 31 << 15;
-const RS1_IS_C1: u32 = 1 << 15;
-
-// The CHERIoT report, chapter 8: CGetPerm c1, c1 and CGetType c1, c1.
-const CGETPERM: u32 = 0xFE00_80DB;
-const CGETTYPE: u32 = 0xFE10_80DB;
-
-/// CSetAddr c1, c1, c2 (the same chapter).
-const CSETADDR: u32 = 0x2020_80DB;
-
-/// ADDI c0, c0, 0.
-const NOP: u32 = 0x0000_0013;
-/// CLC c1, 8(c1).
-const CLC: u32 = 0x0080_B083;
-/// The metadata, but for B and T, of a capability of exponent 0 with every right to memory.
-const SMALL: u32 = 0x7E00_0000;
-/// The mcause of a capability check.
+/// The mcause of a capability check. Its mtval is 32 times the register's name, plus the cause.
 pub const CAPABILITY_CHECK: u32 = 28;
+pub const NAMES: u32 = 32;
+/// The name of PCC; the names of c0 to c15 are their numbers.
+pub const PCC_NAME: u32 = 32;
 
-/// Where an access is tried, and where its code is: an offset reaches 2,048 bytes, so that there is no
-/// memory where it goes.
-const TRIED: u32 = 0x4000_0000;
-const TRIED_FROM: u32 = 0xC000_0000;
+// Causes of a capability check (the CHERIoT report, Table 7.3).
+pub const BOUNDS: u32 = 1;
+pub const TAG: u32 = 2;
+pub const SEAL: u32 = 3;
+pub const EXECUTE: u32 = 17;
+pub const LOAD: u32 = 18;
+pub const STORE: u32 = 19;
 
-/// A scratch state with one word of code at `start` and one capability in a register.
-fn scratch(start: u32, word: u32, register: usize, value: Capability) -> State {
-    let mut memory = vec![0; 64];
+/// The bytes that the proved assembler makes of a line, its fields parted by spaces here.
+fn code(line: &str) -> Vec<u8> {
+    thread_local!(static LINES: RefCell<HashMap<String, Vec<u8>>> = RefCell::default());
+    let known = LINES.with_borrow(|lines| lines.get(line).cloned());
+    known.unwrap_or_else(|| {
+        let made = assembled(line).unwrap_or_else(|| panic!("no listing: {line}"));
+        LINES.with_borrow_mut(|lines| lines.insert(line.into(), made.clone()));
+        made
+    })
+}
+
+/// The same of a line that may be none.
+fn assembled(line: &str) -> Option<Vec<u8>> {
+    proved::assemble(format!("{}\n", line.replace(' ', "\t")).as_bytes()).ok()
+}
+
+/// The word of a line.
+pub fn word(line: &str) -> u32 {
+    number(&code(line))
+}
+
+/// A machine at reset with one word of code where its memory starts.
+fn scratch(start: u32, word: u32) -> State {
+    let mut memory = vec![0; BLOCK];
     memory[..4].copy_from_slice(&word.to_le_bytes());
-    let mut state = State::reset(start, memory, start);
-    state.set(register, value);
+    State::reset(start, memory, start)
+}
+
+/// The same with a capability in c1.
+fn with(word: u32, value: Capability) -> State {
+    let mut state = scratch(0, word);
+    state.set(1, value);
     state
 }
 
-/// A word and the register that it goes by, which a scratch state can set: in a long word c1, as c0 can
-/// hold nothing.
-fn free(word: u32) -> Option<(u32, usize)> {
-    match instruction_bytes(word) {
-        2 => Some((word, Request::of(word).register()?)),
-        _ => Some((word & !RS1 | RS1_IS_C1, 1)),
+/// The blocks of a memory around an address.
+const AROUND: usize = 4;
+
+/// A machine at reset whose memory holds an address, if it may, and the code somewhere else, with room after it.
+fn around(address: u32, code: &[u32]) -> State {
+    let size = AROUND * BLOCK;
+    let block = address - address % BLOCK as u32;
+    let start = block.min(0u32.wrapping_sub(size as u32));
+    let near = (address - start) as usize >= size / 2;
+    let place = start + if near { 0 } else { (size - BLOCK) as u32 };
+    let mut state = State::reset(start, vec![0; size], place);
+    for (number, word) in (0..).zip(code) {
+        state.write(place + 4 * number, &word.to_le_bytes());
     }
+    state
 }
 
-/// The integer that an instruction from c1 to c1 gives for a metadata word.
-fn query(word: u32, metadata: u32) -> u32 {
-    let asked = Capability {
-        address: 0,
-        metadata,
-        tag: 0,
-    };
-    let mut state = scratch(0, word, 1, asked);
-    match proved::run(&mut state, 1) {
-        Ok(_) => state.capability(1).address,
-        Err(_) => 0,
-    }
+/// The register and the cause of the capability check that a step ends in, if it ends in one.
+fn check(state: &mut State) -> Option<(u32, u32)> {
+    let made = proved::run(state, 1).ok()?;
+    let mtval = state.register(MTVAL);
+    let checked = made.trapped == 1 && state.register(MCAUSE) == CAPABILITY_CHECK;
+    checked.then_some((mtval / NAMES, mtval % NAMES))
 }
 
-/// The rights of a capability, bits as in document 01, "Capability word".
-pub fn rights(metadata: u32) -> u32 {
-    query(CGETPERM, metadata)
+/// Whether one step retires.
+fn retires(state: &mut State) -> bool {
+    proved::run(state, 1) == Ok(ONE)
 }
 
-/// The four-bit type of a capability, 0 if it is unsealed.
-pub fn seal_type(metadata: u32) -> u32 {
-    query(CGETTYPE, metadata)
-}
-
-/// A capability moved to an address as CSetAddr moves it; without a tag where the machine does not take it.
-pub fn moved(value: Capability, address: u32) -> Capability {
-    let mut state = scratch(0, CSETADDR, 1, value);
-    state.set(2, Capability::integer(address));
-    match proved::run(&mut state, 1) {
-        Ok(made) if made.retired == 1 => state.capability(1),
-        _ => Capability {
-            address,
-            tag: 0,
-            ..value
-        },
-    }
-}
-
-/// The address that a load or store asks for, its authority at `address`. The same word is tried
-/// through a root at another address, where there is no memory: that traps with the address in mtval,
-/// misaligned or outside memory.
-pub fn access(word: u32, address: u32) -> Option<u32> {
-    let (word, register) = free(word)?;
-    let authority = Capability::tagged(TRIED, MEMORY_ROOT);
-    let mut state = scratch(TRIED_FROM, word, register, authority);
-    proved::run(&mut state, 1).ok()?;
-    let offset = state.register(MTVAL).wrapping_sub(TRIED);
-    matches!(state.register(MCAUSE), 4..=7).then(|| address.wrapping_add(offset))
-}
+const ONE: Counts = Counts {
+    retired: 1,
+    trapped: 0,
+};
 
 /// Whether the timer interrupts one of the next so many steps, if nothing but time changes: a step is made with a state's
-/// control words, at the time of the last of them. Once it is time, the timer interrupts at every later time too.
+/// control words, at the time of the last of them. Once it is time, the timer interrupts at every later time too, up to
+/// the last before time begins anew (law `unreached-run`); so that one is asked for as well, where they go past it.
 pub fn interrupts_within(state: &State, steps: u64) -> bool {
     let Some(more) = steps.checked_sub(1) else {
         return false;
     };
-    let mut scratch = scratch(0, NOP, 1, Capability::integer(0));
+    let time = state.long(TIME);
+    let anew = time.checked_add(more).is_none();
+    interrupts_at(state, time.wrapping_add(more)) || anew && interrupts_at(state, u64::MAX)
+}
+
+/// Whether the timer interrupts the step at a time.
+fn interrupts_at(state: &State, time: u64) -> bool {
+    let mut scratch = scratch(0, word("addi 0 0 0"));
     for place in MSTATUS..scratch.regs.len() {
         scratch.regs[place] = state.register(place);
     }
-    scratch.set_long(TIME, state.long(TIME).saturating_add(more));
+    scratch.set_long(TIME, time);
     proved::run(&mut scratch, 1).is_ok_and(|made| made.trapped == 1)
+}
+
+/// How many steps are made before the timer interrupts, if nothing but time changes; none if it never does.
+pub fn steps_to_interrupt(state: &State) -> Option<u64> {
+    let (mut least, mut most) = (0, u64::MAX - 1);
+    if !interrupts_within(state, most + 1) {
+        return None;
+    }
+    while least < most {
+        let middle = least + (most - least) / 2;
+        match interrupts_within(state, middle + 1) {
+            true => most = middle,
+            false => least = middle + 1,
+        }
+    }
+    Some(least)
+}
+
+/// Where a trap goes by a state's MTCC. One that no start may hold is asked for without its tag.
+pub fn handler(state: &State) -> u32 {
+    let mut scratch = scratch(0, word("ebreak"));
+    let mut asked = state.capability(MTCC);
+    scratch.set(MTCC, asked);
+    if proved::run(&mut scratch, 1).is_err() {
+        asked.tag = 0;
+        scratch.set(MTCC, asked);
+        let _ = proved::run(&mut scratch, 1);
+    }
+    scratch.capability(PCC).address
+}
+
+/// Where a store of the byte at a stack's start leaves a mark.
+pub fn marked(start: u32, mark: u32) -> u32 {
+    let mut state = around(start, &[word("csb 1 0 0")]);
+    state.set(1, Capability::tagged(start, MEMORY_ROOT));
+    (state.regs[MSHWM], state.regs[MSHWMB]) = (mark, start);
+    let _ = proved::run(&mut state, 1);
+    state.register(MSHWM)
 }
 
 /// What a state's revocation bits say of the granule that holds a low bound. An empty capability
 /// there is loaded in a memory as large, with the bits as they are and with all of them set.
 pub fn revocation(state: &State, low: u32) -> Revocation {
-    let base = low & 0x1FF;
-    let value = Capability::tagged(low, SMALL | base << 9 | base);
+    let value = value::empty(low);
     let kept = |revoked: Vec<u8>| {
         let memory = vec![0; state.mem.len()];
         let mut scratch = State::reset(state.start, memory, state.start);
         scratch.window = state.window;
         scratch.revoked = revoked;
-        scratch.write(state.start, &CLC.to_le_bytes());
+        scratch.write(state.start, &word("clc 1 1 8").to_le_bytes());
         scratch.write_capability(state.start.wrapping_add(8), value);
         scratch.set(1, Capability::tagged(state.start, MEMORY_ROOT));
         proved::run(&mut scratch, 1).is_ok() && scratch.capability(1).tag == 1
@@ -156,27 +196,4 @@ fn untag_others(state: &mut State, place: usize) {
     for other in (0..CAPABILITIES).filter(|&other| other != place) {
         state.regs[3 * other + 2] = 0;
     }
-}
-
-/// The target of a jump by a register whose authority is at `address`.
-pub fn register_jump(word: u32, address: u32) -> Option<u32> {
-    let (word, register) = free(word)?;
-    let authority = Capability::tagged(address, EXECUTABLE_ROOT);
-    target(scratch(0, word, register, authority))
-}
-
-/// The target of the branch or CJAL that `state` is at, with PCC widened to the root, and without interrupts. It goes
-/// by no other tag, and one that no start may hold would be refused.
-pub fn relative_jump(state: &State, pcc: Capability) -> Option<u32> {
-    let mut state = state.clone();
-    state.regs[MSTATUS] = 0;
-    untag_others(&mut state, PCC);
-    state.set(PCC, Capability::tagged(pcc.address, EXECUTABLE_ROOT));
-    target(state)
-}
-
-/// Where a jump by root authority goes: a root holds the two bytes of every even target.
-fn target(mut state: State) -> Option<u32> {
-    let counts = proved::run(&mut state, 1).ok()?;
-    (counts.retired == 1).then(|| state.capability(PCC).address)
 }

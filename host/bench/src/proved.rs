@@ -9,7 +9,7 @@ pub mod sheets;
 pub use ::proved::{assemble, list, Refused};
 
 use ::proved::{bounds_high, bounds_low, cut_exact, cut_high, cut_low, cut_number};
-use lent::{instruction_bytes, number_and_rest, Answer, Capability, State, Watch};
+use lent::{number_and_rest, Answer, Capability, State, Watch};
 use std::ops::{AddAssign, Sub};
 
 /// The most steps that one call runs (document 01, refusal 5).
@@ -132,10 +132,47 @@ pub fn cut(base: u32, length: u32) -> Result<(Region, bool), Refusal> {
     }
 }
 
+/// The bytes of the first word of some, as many as the lister needs; none if it does not end in them.
+pub fn length(bytes: &[u8]) -> Option<usize> {
+    (1..=bytes.len()).find(|&most| list(&bytes[..most]).is_ok())
+}
+
+/// The bytes of a word.
+pub fn word_length(word: u32) -> u32 {
+    let bytes = word.to_le_bytes();
+    length(&bytes).unwrap_or(bytes.len()) as u32
+}
+
+/// The word that begins at an address, if all of it is in memory.
+pub fn word_at(state: &State, address: u32) -> Option<u32> {
+    let offset = state.offset(address, 1)?;
+    let bytes = state.mem.get(offset..)?;
+    let bytes = &bytes[..bytes.len().min(4)];
+    Some(number(&bytes[..length(bytes)?]))
+}
+
+/// The first word of bytes that are one number, without those after it.
+pub fn first_word(number_there: u32) -> u32 {
+    let length = word_length(number_there) as usize;
+    number(&number_there.to_le_bytes()[..length])
+}
+
+/// The number of some bytes, the low one first.
+pub fn number(bytes: &[u8]) -> u32 {
+    let low_first = bytes.iter().rev();
+    low_first.fold(0, |word, byte| word << 8 | u32::from(*byte))
+}
+
+/// The digits of a word, two for each of its bytes.
+pub fn digits(word: u32) -> String {
+    let digits = 2 * word_length(word) as usize;
+    format!("{word:0digits$x}")
+}
+
 /// A word's line in the lister's form, for a person: without its end, and its tabs as spaces.
 pub fn instruction(word: u32) -> String {
     let bytes = word.to_le_bytes();
-    let line = list(&bytes[..instruction_bytes(word) as usize]);
+    let line = list(&bytes[..word_length(word) as usize]);
     spaced(line.unwrap_or_default().trim_end())
 }
 

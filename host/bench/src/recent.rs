@@ -3,8 +3,7 @@
 use crate::image::lines::Lines;
 use crate::last::Last;
 use crate::names::Names;
-use crate::proved::{instruction, Counts, Refusal};
-use crate::request::digits;
+use crate::proved::{digits, instruction, word_at, Counts, Refusal};
 use crate::trap::Trap;
 use lent::{Capability, State, PCC};
 use serde_json::{json, Value};
@@ -48,7 +47,7 @@ impl Recent {
     pub fn of(last: &Last, made: u64, most: u64) -> Result<Recent, Refusal> {
         let see = |state: &State| {
             let pcc = state.capability(PCC);
-            (pcc, state.instruction(pcc.address))
+            (pcc, word_at(state, pcc.address))
         };
         let steps = last.steps(made, most, see, Step::of)?;
         Ok(Recent { made, steps })

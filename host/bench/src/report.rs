@@ -9,8 +9,7 @@ use crate::listing::Part;
 use crate::memory_rows::{rows, Row, ROW};
 use crate::names::Names;
 use crate::probe;
-use crate::proved::{bounds, instruction, Refusal, UNSOUND};
-use crate::request::digits;
+use crate::proved::{bounds, digits, instruction, Refusal, UNSOUND};
 use crate::stack::{Stack, Used};
 use crate::sweep::{self, Went};
 use crate::trap::{Action, Asked, Authority, Trap};
@@ -86,11 +85,10 @@ pub fn counts(state: &State, outcome: &Outcome) -> String {
 
 /// What a program that stands still may wait for: a compare that is set, where interrupts are enabled.
 fn waiting(state: &State) -> String {
-    let (time, compare) = (state.long(TIME), state.long(COMPARE));
-    let steps = compare.saturating_sub(time);
-    if compare == u64::MAX || !probe::interrupts_within(state, steps.saturating_add(1)) {
+    let set = state.long(COMPARE) != u64::MAX;
+    let Some(steps) = set.then(|| probe::steps_to_interrupt(state)).flatten() else {
         return String::new();
-    }
+    };
     let steps = count(steps, "step");
     format!(" The timer would interrupt it in {steps}, which is more than were left.")
 }

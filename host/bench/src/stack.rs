@@ -1,13 +1,12 @@
 //! How deep a stack went, by the machine's high-water mark (document 02, 6): a store between the base and the
 //! mark moves the mark down to it.
 
+use crate::probe;
 use crate::sheet::Sheet;
 use lent::{State, MSHWM, MSHWMB};
 
 /// The region of a map that is the stack.
 const STACK: &str = "stack";
-/// A mark that moves goes down to a multiple of this.
-const STEP: u32 = 16;
 
 /// A stretch of memory that is used from its end on down.
 #[derive(Clone, Copy, PartialEq, Eq, Debug)]
@@ -57,7 +56,7 @@ impl Stack {
 
     /// The bytes from a mark to the end, if the mark is the stack's: at its end, or a store's in it.
     fn used(self, mark: u32) -> Option<u64> {
-        let lowest = self.start - self.start % STEP;
+        let lowest = probe::marked(self.start, self.unused());
         match mark {
             _ if mark == self.unused() => Some(0),
             _ if mark < lowest || u64::from(mark) > self.end() => None,

@@ -2,13 +2,11 @@
 //! what the revocation bits said of its low bound.
 
 use crate::capability_text::{is_integer, region, revocation_words, type_words};
-use crate::probe;
-use crate::proved::{bounds, instruction, Counts};
-use crate::request::{destination, digits, Request};
+use crate::probe::{self, access};
+use crate::proved::{bounds, digits, instruction, word_at, word_length, Counts};
+use crate::request::Request;
 use crate::trap::Trap;
-use lent::{
-    instruction_bytes, place_name, Capability, State, CAPABILITIES, CONTROL, MSTATUS, PCC, TIME,
-};
+use lent::{place_name, Capability, State, CAPABILITIES, CONTROL, GRANULE, MSTATUS, PCC, TIME};
 
 /// The letters that nearly every instruction has room in: those of `cincaddrimm 15 15 -2048`.
 const SAID: usize = 23;
@@ -24,7 +22,7 @@ pub fn line(number: u64, before: &State, after: &State, made: Counts) -> String 
         };
         (trap.word, vec![said])
     } else {
-        let word = before.instruction(pcc.address);
+        let word = word_at(before, pcc.address);
         let mut changes = changes(before, after, word.unwrap_or(0));
         changes.extend(word.and_then(|word| filtered(word, before, after)));
         (word, changes)
@@ -56,7 +54,7 @@ fn changes(before: &State, after: &State, word: u32) -> Vec<String> {
     }
     changes.extend(memory_change(before, after));
     let (mut next, new) = (before.capability(PCC), after.capability(PCC));
-    next.address = next.address.wrapping_add(instruction_bytes(word));
+    next.address = next.address.wrapping_add(word_length(word));
     if new != next {
         changes.push(format!("PCC := {}", shown(new)));
     }
@@ -65,15 +63,12 @@ fn changes(before: &State, after: &State, word: u32) -> Vec<String> {
 
 /// What the load filter asked, where the step loaded a tagged capability.
 fn filtered(word: u32, before: &State, after: &State) -> Option<String> {
-    let Request::Load { by, size: 8 } = Request::of(word) else {
+    let Request::Load { by, size, to } = Request::of(word) else {
         return None;
     };
-    let rd = destination(word);
-    if rd == 0 {
-        return None;
-    }
-    let address = probe::access(word, before.capability(by).address)?;
-    let low = bounds(after.capability(rd)).low;
+    let to = to.filter(|_| size as usize == GRANULE)?;
+    let address = access::address(word, before.capability(by).address)?;
+    let low = bounds(after.capability(to)).low;
     let said = before
         .tagged(address.into())
         .then(|| probe::revocation(before, low))?;

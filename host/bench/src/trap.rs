@@ -5,29 +5,21 @@
 #[cfg(test)]
 mod tests;
 
-use crate::capability_text::{is_integer, is_sentry};
+use crate::capability_text::is_integer;
 use crate::edition;
-use crate::probe::{self, CAPABILITY_CHECK};
-use crate::proved::{bounds, Region};
-use crate::request::{linked, Request};
-use lent::{
-    instruction_bytes, place_name, Capability, Revocation, State, LATER_EDITION, MCAUSE, MEPCC,
-    MTCC, MTVAL, PCC, TIMER_INTERRUPT,
-};
+use crate::probe::jump::{self, Jump};
+use crate::probe::{self, access, fetch, value};
+use crate::probe::{BOUNDS, CAPABILITY_CHECK, EXECUTE, LOAD, NAMES, PCC_NAME, SEAL, STORE, TAG};
+use crate::proved::{bounds, word_at, Region};
+use crate::request::Request;
+use lent::{place_name, Capability, Revocation, State, MCAUSE, MEPCC, MTVAL, PCC, TIMER_INTERRUPT};
 
-/// The name of PCC in mtval; a special register n is named by this plus n (the CHERIoT report,
-/// 7.11).
-const PCC_NAME: u32 = 32;
-/// The special register with the lowest number, MTCC (the CHERIoT report, Table 7.2).
+/// The special register with the lowest number, MTCC (the CHERIoT report, Table 7.2). A special register n is named in
+/// mtval by PCC's name plus n (7.11).
 const FIRST_SPECIAL: u32 = 28;
 
-// Capability causes (the CHERIoT report, Table 7.3).
-const BOUNDS: u32 = 1;
-const SEAL: u32 = 3;
+/// One more cause of a capability check (the CHERIoT report, Table 7.3).
 const SYSTEM_REGISTERS: u32 = 24;
-
-/// The bytes of a first half, which a fetch asks for first and a jump of its target.
-const HALF: u32 = 2;
 
 /// What the step was doing when it trapped.
 #[derive(Clone, Copy, PartialEq, Eq, Debug)]
@@ -102,9 +94,8 @@ impl Trap {
     /// time, and the registers for what they were, unless the program has written them since.
     pub fn recorded(state: &State) -> Option<Trap> {
         let none = state.register(MCAUSE) == 0 && state.register(MTVAL) == 0;
-        let handler = state.capability(MTCC).address & !3;
         (!none).then(|| Trap {
-            gone_on: state.capability(PCC).address != handler,
+            gone_on: state.capability(PCC).address != probe::handler(state),
             ..Trap::new(state, state.capability(MEPCC))
         })
     }
@@ -113,7 +104,7 @@ impl Trap {
     pub fn new(after: &State, pcc: Capability) -> Trap {
         let (mcause, mtval) = (after.register(MCAUSE), after.register(MTVAL));
         let action = action(after, pcc, mcause, mtval);
-        let word = after.instruction(pcc.address);
+        let word = word_at(after, pcc.address);
         let word = word.filter(|_| action != Action::Fetch && mcause != TIMER_INTERRUPT);
         let authority = authority(after, pcc, mcause, mtval, action, word);
         let mut trap = Trap {
@@ -147,31 +138,14 @@ impl Trap {
         }
     }
 
-    /// Why a jump by a sentry was refused. It is sealed, but so it would be where the jump is made:
-    /// without an offset, and in the later edition by the jump that takes its type.
+    /// Why a jump by a sentry was refused. It is sealed, but so it would be where the jump is made.
     fn by_a_sentry(&self, edition: u32) -> Option<String> {
         let Authority { name, value, .. } = self.authority.as_ref()?;
-        let sealed = self.mcause == CAPABILITY_CHECK && self.mtval % 32 == SEAL;
+        let sealed = self.mcause == CAPABILITY_CHECK && self.mtval % NAMES == SEAL;
         let refused = sealed && self.action == Action::Jump && value.tag == 1;
-        let word = self.word.filter(|_| refused && is_sentry(value.metadata))?;
-        let (kind, what) = match probe::seal_type(value.metadata) {
-            kind @ 1..=3 => (kind, "a sentry"),
-            kind => (kind, "a return sentry"),
-        };
-        let offset = || format!("jump at an offset by {name}, which is {what}");
-        match edition {
-            LATER_EDITION => {
-                let cs1 = Request::of(word).register()?;
-                let wanted = edition::wanted(kind, linked(word), cs1);
-                Some(wanted.map_or_else(offset, |wanted| {
-                    format!("jump by {name}, which is {what}: {wanted}")
-                }))
-            }
-            _ if kind <= 3 => Some(offset()),
-            _ => Some(format!(
-                "jump by {name}, which is {what}: the later edition alone has those"
-            )),
-        }
+        let kind = value::seal_type(value.metadata);
+        let word = self.word.filter(|_| refused && jump::is_sentry(kind))?;
+        Some(edition::refusal(edition, kind, Jump::of(word)?, name))
     }
 
     /// The bytes that were asked for, as far as the cause has any.
@@ -181,7 +155,7 @@ impl Trap {
             (0 | 1 | 4..=7, _) => Some(self.mtval),
             (CAPABILITY_CHECK, Action::Fetch) => Some(self.pcc.address),
             (CAPABILITY_CHECK, Action::Load | Action::Store) => {
-                probe::access(self.word?, self.authority.as_ref()?.value.address)
+                access::address(self.word?, self.authority.as_ref()?.value.address)
             }
             (CAPABILITY_CHECK, Action::Jump) => target(after, self.pcc, self.word?),
             _ => None,
@@ -189,25 +163,27 @@ impl Trap {
         Some(Asked { address, size })
     }
 
-    /// The bytes of the access. A fetch asks for four where its first half has passed.
+    /// The bytes of the access. A fetch asks for those of a long word where a short one's have passed.
     fn size(&self) -> u32 {
+        let [short, long] = fetch::bytes();
         match self.word.map(Request::of) {
             Some(Request::Load { size, .. } | Request::Store { size, .. }) => size,
-            _ if self.action == Action::Fetch && self.second_half() => 2 * HALF,
-            _ => HALF,
+            _ if self.action == Action::Jump => jump::bytes(),
+            _ if self.action == Action::Fetch && self.second_half() => long,
+            _ => short,
         }
     }
 
-    /// Whether a fetch was refused for the bounds of its second half.
+    /// Whether a fetch was refused for the bounds of its second half: a short word would have been fetched.
     fn second_half(&self) -> bool {
-        let outside = self.mcause == CAPABILITY_CHECK && self.mtval % 32 == BOUNDS;
-        outside && holds(bounds(self.pcc), self.pcc.address, HALF)
+        let outside = self.mcause == CAPABILITY_CHECK && self.mtval % NAMES == BOUNDS;
+        outside && fetch::passed(self.pcc) == [true, false]
     }
 }
 
 /// What the step was doing.
 fn action(after: &State, pcc: Capability, mcause: u32, mtval: u32) -> Action {
-    let word = after.instruction(pcc.address);
+    let word = word_at(after, pcc.address);
     match mcause {
         0 | 1 => Action::Fetch,
         4 | 5 => Action::Load,
@@ -217,38 +193,28 @@ fn action(after: &State, pcc: Capability, mcause: u32, mtval: u32) -> Action {
     }
 }
 
-/// The target of the jump or branch at an even PCC.
+/// The target of the jump or branch at PCC, if an instruction may stand there.
 fn target(after: &State, pcc: Capability, word: u32) -> Option<u32> {
-    match (pcc.address % HALF, Request::of(word)) {
-        (0, Request::RelativeJump) => probe::relative_jump(after, pcc),
-        (0, Request::RegisterJump { by }) => {
-            probe::register_jump(word, after.capability(by).address)
-        }
-        _ => None,
+    match Request::of(word) {
+        _ if !fetch::is_place(pcc.address) => None,
+        Request::RegisterJump { by } => jump::by_register(word, after.capability(by).address),
+        _ => jump::from_pcc(after, pcc),
     }
 }
 
-/// What a capability check refused. One of PCC is a fetch, unless the fetch was in bounds.
+/// What a capability check refused. One of PCC is a fetch, unless the word could be fetched.
 fn checked_action(pcc: Capability, word: Option<u32>, mtval: u32) -> Action {
-    let (name, cause) = (mtval / 32, mtval % 32);
-    let fetched = word.is_some_and(|word| {
-        let bytes = instruction_bytes(word);
-        holds(bounds(pcc), pcc.address, bytes)
-    });
+    let (name, cause) = (mtval / NAMES, mtval % NAMES);
+    let fetched = || word.is_some_and(|word| fetch::lets(pcc, word));
     match (name, word.map(Request::of)) {
         _ if cause == SYSTEM_REGISTERS => Action::Other,
-        (PCC_NAME, _) if cause == BOUNDS && fetched => Action::Jump,
+        (PCC_NAME, _) if cause == BOUNDS && fetched() => Action::Jump,
         (PCC_NAME, _) => Action::Fetch,
         (_, Some(Request::Load { .. })) => Action::Load,
         (_, Some(Request::Store { .. })) => Action::Store,
         (_, Some(Request::RegisterJump { .. })) => Action::Jump,
         _ => Action::Other,
     }
-}
-
-/// Whether bounds hold `size` bytes at an address, compared as whole numbers.
-fn holds(bounds: Region, address: u32, size: u32) -> bool {
-    bounds.low <= address && u64::from(address) + u64::from(size) <= bounds.high
 }
 
 /// The capability that the access was made by.
@@ -267,7 +233,7 @@ fn authority(
         revocation: None,
     };
     let place = match (mcause, action) {
-        (CAPABILITY_CHECK, _) if mtval / 32 < 16 => (mtval / 32) as usize,
+        (CAPABILITY_CHECK, _) if ((mtval / NAMES) as usize) < PCC => (mtval / NAMES) as usize,
         (_, Action::Load | Action::Store) => Request::of(word?).register()?,
         (0 | 1 | CAPABILITY_CHECK, _) => return Some(named("PCC".into(), pcc)),
         _ => return None,
@@ -292,7 +258,7 @@ fn cause(mcause: u32, mtval: u32, action: Action) -> String {
         6 => "misaligned store".into(),
         7 => "store outside memory".into(),
         11 => "environment call (ECALL)".into(),
-        CAPABILITY_CHECK => checked_cause(mtval / 32, mtval % 32, action.noun()),
+        CAPABILITY_CHECK => checked_cause(mtval / NAMES, mtval % NAMES, action.noun()),
         TIMER_INTERRUPT => "timer interrupt".into(),
         _ => format!("mcause {mcause}, which this machine does not give"),
     }
@@ -303,11 +269,11 @@ fn checked_cause(name: u32, cause: u32, noun: &str) -> String {
     let register = register_name(name);
     match cause {
         BOUNDS => format!("{noun} outside the bounds of {register}"),
-        2 => format!("{noun} by {register}, which has no tag"),
+        TAG => format!("{noun} by {register}, which has no tag"),
         SEAL => format!("{noun} by {register}, which is sealed"),
-        17 => format!("{noun} by {register}, which lacks the right to execute (EX)"),
-        18 => format!("load by {register}, which lacks the right to load (LD)"),
-        19 => format!("store by {register}, which lacks the right to store (SD)"),
+        EXECUTE => format!("{noun} by {register}, which lacks the right to execute (EX)"),
+        LOAD => format!("load by {register}, which lacks the right to load (LD)"),
+        STORE => format!("store by {register}, which lacks the right to store (SD)"),
         21 => {
             format!("store of a capability by {register}, which lacks the right to store them (MC)")
         }

@@ -12,6 +12,7 @@ use crate::image::{self, Image, Segment, DEFAULT_START};
 use crate::last::Last;
 use crate::names::Names;
 use crate::page::{self, Answer, Source, Subject, LAST};
+use crate::probe::fetch;
 use crate::proved::sheets::NEITHER;
 use crate::proved::{self, Counts, Refusal, MOST_STEPS};
 use crate::save::Place;
@@ -284,7 +285,7 @@ fn start(asked: &Run, files: &[&[u8]], map: Option<&Sheet>) -> Result<(State, Im
         return Ok((state, images));
     }
     let entry = asked.entry.or(images.entry).unwrap_or(start);
-    if !entry.is_multiple_of(2) {
+    if !fetch::is_place(entry) {
         let odd = "odd, and an instruction's address is even";
         return Err(format!("the image's start, {entry:08x}, is {odd}"));
     }

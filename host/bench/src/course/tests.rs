@@ -1,7 +1,8 @@
 //! Calls against one run, and counts of stores against what single steps and their words say.
 
 use super::*;
-use crate::probe;
+use crate::probe::{self, access};
+use crate::proved::word_at;
 use crate::request::Request;
 use crate::samples::{counting, loading, storing, COUNT, EBREAK, LOADED, LOOP, START, STORED};
 use crate::sequence::Sequence;
@@ -38,11 +39,11 @@ fn program(words: &mut Sequence) -> State {
 
 /// The address and the bytes of the store that a state is at.
 fn store(state: &State) -> Option<(u64, u64)> {
-    let word = state.instruction(state.capability(PCC).address)?;
+    let word = word_at(state, state.capability(PCC).address)?;
     let Request::Store { by, size } = Request::of(word) else {
         return None;
     };
-    let address = probe::access(word, state.capability(by).address)?;
+    let address = access::address(word, state.capability(by).address)?;
     Some((address.into(), size.into()))
 }
 

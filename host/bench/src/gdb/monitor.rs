@@ -2,10 +2,9 @@
 
 use super::target::Target;
 use crate::capability_text::{count, grouped, is_integer, length, region, rights, type_words};
-use crate::proved::{bounds, instruction};
+use crate::proved::{bounds, digits, instruction, word_at, word_length};
 use crate::report;
-use crate::request::digits;
-use lent::{instruction_bytes, place_name, Capability, State, CAPABILITIES, GRANULE, PCC};
+use lent::{place_name, Capability, State, CAPABILITIES, GRANULE, PCC};
 use std::fmt::Write;
 
 const HELP: &str = "\
@@ -118,7 +117,7 @@ fn list(target: &Target, asked: &[&str]) -> String {
     };
     let mut text = String::new();
     for _ in 0..words.min(MOST_LISTED) {
-        let Some(word) = state.instruction(at) else {
+        let Some(word) = word_at(state, at) else {
             let _ = writeln!(text, "   {at:08x}  no whole word in memory");
             break;
         };
@@ -126,7 +125,7 @@ fn list(target: &Target, asked: &[&str]) -> String {
         let (said, place) = (instruction(word), target.names.place(at));
         let line = format!("{arrow} {at:08x}  {:<8}  {said}{place}", digits(word));
         let _ = writeln!(text, "{line}");
-        at = at.wrapping_add(instruction_bytes(word));
+        at = at.wrapping_add(word_length(word));
     }
     text
 }

@@ -4,7 +4,7 @@
 #[cfg(test)]
 mod tests;
 
-use crate::probe;
+use crate::probe::value::{integer, moved, untagged, with_metadata};
 use crate::proved::{self, bounds};
 use crate::report;
 use lent::{
@@ -102,8 +102,8 @@ pub fn value(state: &State, part: Part) -> Vec<u8> {
 }
 
 /// Writes a register, or says why not. What is written by hand gains no tag: x1 to x15 then hold an integer, as an
-/// instruction would leave it; pc and a capability's address are moved as CSetAddr moves them; other metadata take the
-/// tag away. Nothing is changed where the machine would refuse what is left.
+/// instruction leaves it; pc and a capability's address are moved as CSetAddr moves them; other metadata are set as CSetHigh
+/// sets them, without a tag. Nothing is changed where the machine would refuse what is left.
 pub fn write(state: &mut State, part: Part, bytes: &[u8]) -> Result<(), String> {
     if bytes.len() != part.bytes() {
         return Err("another number of bytes".into());
@@ -113,11 +113,11 @@ pub fn write(state: &mut State, part: Part, bytes: &[u8]) -> Result<(), String> 
         Part::Word(index) => written.regs[index] = number(bytes) as u32,
         Part::Long(index) => written.set_long(index, number(bytes)),
         Part::Address(place @ 0..GENERAL) => {
-            written.set(place, Capability::integer(number(bytes) as u32));
+            written.set(place, integer(number(bytes) as u32));
         }
         Part::Address(place) => {
-            let moved = probe::moved(state.capability(place), number(bytes) as u32);
-            written.set(place, moved);
+            let value = moved(state.capability(place), number(bytes) as u32);
+            written.set(place, value);
         }
         Part::Capability(place) => {
             let value = state.capability(place);
@@ -143,13 +143,15 @@ fn held(value: Capability, bytes: &[u8]) -> Result<Capability, &'static str> {
     }
     let mut held = value;
     if address != value.address {
-        held = probe::moved(value, address);
+        held = moved(value, address);
     }
     if metadata != value.metadata {
-        (held.metadata, held.tag) = (metadata, 0);
+        held = with_metadata(held, metadata);
     }
-    held.tag = held.tag.min(tag);
-    Ok(held)
+    match tag < held.tag {
+        true => Ok(untagged(held)),
+        false => Ok(held),
+    }
 }
 
 /// The number of bytes, the low one first.

@@ -15,15 +15,16 @@ fn each_word_has_its_address_digits_and_instruction() {
     let segment = segment(&[0x01, 0x00, 0x13, 0x05, 0xF0, 0xFF, 0x00, 0x00]);
     let part = Part::of(&segment).unwrap();
     assert_eq!(part.plain, "c.nop\naddi\t10\t0\t-1\n0000\n");
-    let line = |address, word, instruction: &str| Line {
+    let line = |address, word, length, instruction: &str| Line {
         address,
         word,
+        length,
         instruction: instruction.into(),
     };
     let lines = [
-        line(0xFFFF_FFFE, 1, "c.nop"),
-        line(0x1_0000_0000, 0xFFF0_0513, "addi 10 0 -1"),
-        line(0x1_0000_0004, 0, "0000"),
+        line(0xFFFF_FFFE, 1, 2, "c.nop"),
+        line(0x1_0000_0000, 0xFFF0_0513, 4, "addi 10 0 -1"),
+        line(0x1_0000_0004, 0, 2, "0000"),
     ];
     assert_eq!(part.lines(), lines);
 }

@@ -3,10 +3,16 @@
 use super::*;
 use crate::capability_text::rights;
 use crate::names::Names;
-use crate::request::{BRANCH, CJAL, CJALR, LOAD, STORE};
 use crate::sequence::Sequence;
 use crate::{json, proved, report};
 use lent::{EXECUTABLE_ROOT, MTCC};
+
+// The opcodes of the words that can trap for an address.
+const LOAD: u32 = 0x03;
+const STORE: u32 = 0x23;
+const BRANCH: u32 = 0x63;
+const CJALR: u32 = 0x67;
+const CJAL: u32 = 0x6F;
 
 const START: u32 = 0x2000_0000;
 const SIZE: u32 = 256;
@@ -100,12 +106,10 @@ impl Sequence {
     }
 }
 
+/// Whether the bounds of the authority hold all that was asked for, compared as whole numbers.
 fn inside(trap: &Trap, asked: Asked) -> bool {
-    holds(
-        trap.authority.as_ref().unwrap().bounds,
-        asked.address,
-        asked.size,
-    )
+    let bounds = trap.authority.as_ref().unwrap().bounds;
+    bounds.low <= asked.address && asked.end() <= bounds.high
 }
 
 /// What the cause of a capability check claims of its authority and its request.
@@ -115,7 +119,7 @@ fn check_holds(trap: &Trap) -> bool {
     match trap.mtval % 32 {
         1 => trap.asked.is_none_or(|asked| !inside(trap, asked)),
         2 => authority.value.tag == 0,
-        3 => probe::seal_type(authority.value.metadata) != 0,
+        3 => value::seal_type(authority.value.metadata) != 0,
         17 => lacks("EX"),
         18 => lacks("LD") && trap.action == Action::Load,
         19 => lacks("SD") && trap.action == Action::Store,
