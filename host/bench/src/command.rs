@@ -13,6 +13,7 @@ mod sweep;
 
 use crate::arguments::{Cap, Command, Cut};
 use crate::capability_text::{length, region, rights, type_words};
+use crate::drive::Refused;
 use crate::proved::engine::{self, Engine};
 use crate::proved::sheets::BAD_IMAGE;
 use crate::proved::{self, Refusal};
@@ -84,6 +85,15 @@ fn refused_state(refusal: Refusal, state: &State, as_json: bool) -> Result<Statu
         say_json(&json::refused_state(refusal, state))?;
     }
     complain(&report::refused(refusal, state));
+    Ok(Status::Refused)
+}
+
+/// Says that a run was refused on its way, after which steps.
+fn refused_on_the_way(refused: Refused, state: &State, as_json: bool) -> Result<Status, String> {
+    if as_json {
+        say_json(&json::refused_on_the_way(refused, state))?;
+    }
+    complain(&report::refused_on_the_way(refused, state));
     Ok(Status::Refused)
 }
 

@@ -72,7 +72,7 @@ impl Course {
         let state = state.clone();
         self.origin = Some(Rc::new(Origin { state, record }));
         // Made once already, these steps are not refused.
-        if let Ok((_, counted, _)) = self.again(self.since.steps()) {
+        if let Ok((_, counted, _)) = self.made_again(self.since.steps()) {
             self.record = counted;
         }
     }
@@ -109,7 +109,7 @@ impl Course {
     fn run_longer(&mut self, steps: u64) -> Result<Counts, Refusal> {
         self.draw_near()?;
         let before = self.since;
-        let (state, record, made) = self.again(before.steps() + steps)?;
+        let (state, record, made) = self.made_again(before.steps() + steps)?;
         (self.state, self.record, self.since) = (state, record, made);
         Ok(made - before)
     }
@@ -117,7 +117,7 @@ impl Course {
     /// Makes the last state that a call started from the origin.
     fn draw_near(&mut self) -> Result<(), Refusal> {
         if self.accepted > 0 {
-            let (state, record, made) = self.again(self.accepted)?;
+            let (state, record, made) = self.made_again(self.accepted)?;
             self.origin = Some(Rc::new(Origin { state, record }));
             self.since = self.since - made;
             self.accepted = 0;
@@ -126,7 +126,7 @@ impl Course {
     }
 
     /// What so many steps from the origin leave.
-    fn again(&self, steps: u64) -> Result<(State, Watch, Counts), Refusal> {
+    fn made_again(&self, steps: u64) -> Result<(State, Watch, Counts), Refusal> {
         let origin = self.origin.as_deref().ok_or(UNSOUND)?;
         let (mut state, mut record) = (origin.state.clone(), origin.record);
         let made = proved::run_watched(&mut state, steps, &mut record).map_err(|_| UNSOUND)?;
@@ -135,7 +135,7 @@ impl Course {
 
     /// Takes the last step back: those before it are made again.
     pub fn step_back(&mut self) -> Result<(), Refusal> {
-        let (state, record, made) = self.again(self.since.steps() - 1)?;
+        let (state, record, made) = self.made_again(self.since.steps() - 1)?;
         (self.state, self.record, self.since) = (state, record, made);
         Ok(())
     }
@@ -145,13 +145,17 @@ impl Course {
         self.since.steps() - self.accepted
     }
 
+    /// How many steps have to be made again for the next one.
+    pub fn again(&mut self) -> u64 {
+        match self.may_start() {
+            Ok(()) => 0,
+            Err(_) => self.effort(),
+        }
+    }
+
     /// How many steps the next call can make, at least one. One is left over where that can be: it shows whether the
     /// program stands still.
     pub fn room(&mut self) -> u64 {
-        let back = match self.may_start() {
-            Ok(()) => 0,
-            Err(_) => self.effort(),
-        };
-        (MOST_STEPS - 1).saturating_sub(back).max(1)
+        (MOST_STEPS - 1).saturating_sub(self.again()).max(1)
     }
 }

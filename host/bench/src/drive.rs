@@ -14,6 +14,9 @@ use std::collections::BTreeSet;
 
 /// The most steps one by one between two calls of a plan's watch.
 const STRIDE: u64 = 1 << 16;
+/// The most steps that are made again for one that is only shown. One by one, steps from where no call may start cost the
+/// square of their number.
+const MOST_AGAIN: u64 = 1 << 15;
 
 /// Why a run ended.
 #[derive(Clone, Default, PartialEq, Eq, Debug)]
@@ -34,6 +37,13 @@ pub enum End {
 pub struct Swept {
     pub passes: u64,
     pub tags: u64,
+}
+
+/// A run that the machine did not go on with: why, and the steps that were made before.
+#[derive(Clone, Copy, PartialEq, Eq, Debug)]
+pub struct Refused {
+    pub refusal: Refusal,
+    pub made: Counts,
 }
 
 #[derive(Clone, Default, PartialEq, Eq, Debug)]
@@ -78,18 +88,23 @@ impl<'a> Plan<'a> {
         }
     }
 
-    /// Whether each step is looked at.
-    fn looks(&self) -> bool {
-        self.call == 1 || self.cover.is_some() || !self.breaks.is_empty()
+    /// Whether each step is looked at, where the next one has to be made with so many others again. One that is only shown
+    /// is not, where they are too many.
+    fn looks(&self, again: u64) -> bool {
+        let shown = self.call == 1 && again < MOST_AGAIN;
+        shown || self.cover.is_some() || !self.breaks.is_empty()
     }
 
     /// How many steps to make after some that were made: to the next sweep at most.
-    fn pace(&self, made: u64, call: u64) -> Pace {
+    fn pace(&self, made: u64, call: u64, looks: bool) -> Pace {
         let left = self.steps - made;
-        let call = if self.looks() { STRIDE } else { call };
-        let most = left.min(call).min(self.call.max(1));
+        let most = match (looks, self.call) {
+            (true, most) => STRIDE.min(most.max(1)),
+            (false, 1) => call,
+            (false, most) => call.min(most.max(1)),
+        };
         Pace {
-            steps: most.min(sweep::left(self.sweep, made)),
+            steps: left.min(most).min(sweep::left(self.sweep, made)),
             left,
             begins: made == 0,
             leaves: made == 0,
@@ -98,21 +113,28 @@ impl<'a> Plan<'a> {
 }
 
 /// Runs a plan. A refused run leaves the state that its last step led to.
-pub fn run(state: &mut State, plan: Plan) -> Result<Outcome, Refusal> {
+pub fn run(state: &mut State, plan: Plan) -> Result<Outcome, Refused> {
     let mut course = Course::new(std::mem::take(state), plan.record);
-    let outcome = follow(&mut course, plan);
+    let mut done = Outcome::default();
+    let followed = follow(&mut course, plan, &mut done);
     *state = course.into_state();
-    outcome
+    let made = done.counts;
+    followed
+        .map(|()| done)
+        .map_err(|refusal| Refused { refusal, made })
 }
 
-fn follow(course: &mut Course, mut plan: Plan) -> Result<Outcome, Refusal> {
+fn follow(course: &mut Course, mut plan: Plan, done: &mut Outcome) -> Result<(), Refusal> {
     course.may_start()?;
-    let mut done = Outcome::default();
-    let (mut call, mut wanted) = (1, true);
+    let (mut call, mut looked, mut wanted) = (1, false, true);
     while wanted && done.end == End::Steps && done.counts.steps() < plan.steps {
         let before = course.state().clone();
-        let pace = plan.pace(done.counts.steps(), call);
-        let (mut made, halt) = advance(course, pace, &mut plan);
+        let looks = plan.looks(course.again());
+        // Calls grow anew where steps are no longer looked at.
+        call = if looked && !looks { 1 } else { call };
+        let pace = plan.pace(done.counts.steps(), call, looks);
+        let (mut made, halt) = advance(course, pace, looks, &mut plan);
+        done.counts += made;
         done.end = match halt {
             Halt::Refused(refusal) => return Err(refusal),
             Halt::Steps | Halt::Watch(_) => End::Steps,
@@ -120,24 +142,24 @@ fn follow(course: &mut Course, mut plan: Plan) -> Result<Outcome, Refusal> {
             Halt::Still => End::Still,
             Halt::Trap => {
                 let before = Box::new(course.state().clone());
-                made += course.run(1)?;
+                let trap = course.run(1)?;
+                made += trap;
+                done.counts += trap;
                 End::Trap(before)
             }
         };
-        done.counts += made;
         wanted = made.steps() == 0 || (plan.watch)(&before, course.state(), made);
         if done.end == End::Steps {
-            pause(course, &plan, &mut done)?;
+            pause(course, &plan, done)?;
         }
-        call = (2 * call).min(MOST_STEPS);
+        (call, looked) = ((2 * call).min(MOST_STEPS), looks);
     }
     done.record = course.record();
-    Ok(done)
+    Ok(())
 }
 
 /// Makes the steps of a pace, or as many as may be made at once.
-fn advance(course: &mut Course, pace: Pace, plan: &mut Plan) -> (Counts, Halt) {
-    let looks = plan.looks();
+fn advance(course: &mut Course, pace: Pace, looks: bool, plan: &mut Plan) -> (Counts, Halt) {
     let stops = Stops {
         breaks: std::mem::take(&mut plan.breaks),
         traps: !plan.through_traps,

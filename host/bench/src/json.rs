@@ -4,7 +4,7 @@ use crate::account::Account;
 use crate::capability_text::{revocation_word, rights, type_words};
 use crate::command::fit::{Beside, Chosen};
 use crate::command::sheet::Pair;
-use crate::drive::{End, Outcome, Swept};
+use crate::drive::{End, Outcome, Refused, Swept};
 use crate::edition;
 use crate::listing::Part;
 use crate::memory_rows::rows;
@@ -105,6 +105,14 @@ pub fn refused_state(refusal: Refusal, state: &State) -> Value {
         json!({ "name": place_name(place), "bounds": bounds })
     });
     value["refused"]["registers"] = registers.collect();
+    value
+}
+
+/// A run that was refused on its way: the same, with the steps that were made.
+pub fn refused_on_the_way(refused: Refused, state: &State) -> Value {
+    let mut value = refused_state(refused.refusal, state);
+    value["refused"]["retired"] = refused.made.retired.into();
+    value["refused"]["trapped"] = refused.made.trapped.into();
     value
 }
 

@@ -3,13 +3,13 @@
 use crate::account::Account;
 use crate::capability_text::{count, grouped, is_integer, length, region};
 use crate::capability_text::{revocation_words, rights, type_words};
-use crate::drive::{End, Outcome, Swept};
+use crate::drive::{End, Outcome, Refused, Swept};
 use crate::edition;
 use crate::listing::Part;
 use crate::memory_rows::{rows, Row, ROW};
 use crate::names::Names;
 use crate::probe;
-use crate::proved::{bounds, digits, instruction, Refusal, UNSOUND};
+use crate::proved::{bounds, digits, instruction, Counts, Refusal, UNSOUND};
 use crate::stack::{Stack, Used};
 use crate::sweep::{self, Went};
 use crate::trap::{Action, Asked, Authority, Trap};
@@ -48,6 +48,19 @@ pub fn refused(refusal: Refusal, state: &State) -> String {
     };
     let shown: Vec<String> = probe::unsound(state).into_iter().map(shown).collect();
     format!("{said}: {}", shown.join(", "))
+}
+
+/// That the machine refused to go on with a run, after which steps.
+pub fn refused_on_the_way(refused: Refused, state: &State) -> String {
+    let said = self::refused(refused.refusal, state);
+    let Counts { retired, trapped } = refused.made;
+    match refused.made.steps() {
+        0 => said,
+        _ => {
+            let (retired, trapped) = (count(retired, "step"), grouped(trapped));
+            format!("{said}; before that {retired} retired, {trapped} trapped")
+        }
+    }
 }
 
 /// A run: its counts, how deep the stack went, the watched ranges, the sweeps, the trap, the registers.

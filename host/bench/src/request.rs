@@ -11,11 +11,12 @@ use std::collections::HashMap;
 /// What a word asks for.
 #[derive(Clone, Copy, PartialEq, Eq, Debug)]
 pub enum Request {
-    /// A load of so many bytes by a register into another, none if it is c0.
+    /// A load of so many bytes by a register into another, none if it is c0, with the tag there or without.
     Load {
         by: usize,
         size: u32,
         to: Option<usize>,
+        tags: bool,
     },
     /// A store of so many bytes by a register.
     Store {
@@ -55,11 +56,10 @@ fn asked(word: u32) -> Option<Request> {
     let by = access::register(word)?;
     match access::right(word)? {
         EXECUTE => Some(Request::RegisterJump { by }),
-        LOAD => Some(Request::Load {
-            by,
-            size: access::size(word)?,
-            to: access::destination(word),
-        }),
+        LOAD => {
+            let (size, (to, tags)) = (access::size(word)?, access::loaded(word)?);
+            Some(Request::Load { by, size, to, tags })
+        }
         STORE => Some(Request::Store {
             by,
             size: access::size(word)?,

@@ -6,13 +6,21 @@ use crate::probe::{self, access};
 use crate::proved::{bounds, digits, instruction, word_at, word_length, Counts};
 use crate::request::Request;
 use crate::trap::Trap;
-use lent::{place_name, Capability, State, CAPABILITIES, CONTROL, GRANULE, MSTATUS, PCC, TIME};
+use lent::{place_name, Capability, State, CAPABILITIES, CONTROL, MSTATUS, PCC, TIME};
 
 /// The letters that nearly every instruction has room in: those of `cincaddrimm 15 15 -2048`.
 const SAID: usize = 23;
 
-/// The line of the step from `before` to `after`.
+/// Why steps are not shown one by one.
+const NOT_SHOWN: &str =
+    "a register holds what no start may hold, so that each would be made with all before it again";
+
+/// The line of the step from `before` to `after`, or of several that are not shown one by one.
 pub fn line(number: u64, before: &State, after: &State, made: Counts) -> String {
+    if made.steps() > 1 {
+        let first = number - made.steps() + 1;
+        return format!("{first:>8}  to {number}, not shown: {NOT_SHOWN}");
+    }
     let pcc = before.capability(PCC);
     let (word, changes) = if made.trapped > 0 {
         let trap = Trap::of_step(before, after);
@@ -63,10 +71,10 @@ fn changes(before: &State, after: &State, word: u32) -> Vec<String> {
 
 /// What the load filter asked, where the step loaded a tagged capability.
 fn filtered(word: u32, before: &State, after: &State) -> Option<String> {
-    let Request::Load { by, size, to } = Request::of(word) else {
+    let Request::Load { by, to, tags, .. } = Request::of(word) else {
         return None;
     };
-    let to = to.filter(|_| size as usize == GRANULE)?;
+    let to = to.filter(|_| tags)?;
     let address = access::address(word, before.capability(by).address)?;
     let low = bounds(after.capability(to)).low;
     let said = before

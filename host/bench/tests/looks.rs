@@ -135,6 +135,35 @@ fn symbols_of_4_gigabytes_are_covered_at_once() {
     assert!(answer.out.ends_with(row), "{}", answer.out);
 }
 
+/// Where each line would be made with all steps before it again, they end after some thousands, and that is said; the run
+/// is the same.
+#[test]
+fn a_long_trace_after_a_value_that_no_start_may_hold_ends_in_time() {
+    let folder = directory("trace_unsound");
+    // CJAL c0, .-4.
+    let state = with_code_and_value(&[LOAD_IT, addi(10, 10, 1), 0xFFDF_F06F]);
+    std::fs::write(folder.join("start"), text(&state)).expect("a state");
+    let run = "exec $BENCH run --state start --steps 500000 --save";
+    let answer = shell_in(&folder, &format!("ulimit -t 40; {run} traced --trace"));
+    assert_eq!(answer.status, 0, "{}", answer.err);
+    let lines: Vec<&str> = answer.out.lines().collect();
+    let shown = lines.iter().take_while(|line| !line.contains("not shown"));
+    assert_eq!(shown.count(), 32_769);
+    let gaps = lines.iter().filter(|line| line.contains(", not shown: "));
+    let gaps: Vec<&&str> = gaps.collect();
+    assert!(
+        gaps[0].starts_with("   32770  to 32771, not shown: "),
+        "{}",
+        gaps[0]
+    );
+    assert!(gaps.len() < 40, "{gaps:?}");
+    assert!(answer.out.contains("500,000 steps retired, 0 trapped."));
+    let plain = shell_in(&folder, &format!("{run} plain"));
+    assert_eq!(plain.status, 0, "{}", plain.err);
+    let saved = |name: &str| std::fs::read(folder.join(name)).expect("a saved state");
+    assert!(saved("traced") == saved("plain"));
+}
+
 #[test]
 fn a_trace_ends_at_a_breakpoint() {
     let folder = directory("trace_to_break");

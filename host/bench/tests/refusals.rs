@@ -2,9 +2,14 @@
 
 mod common;
 
-use common::state::{text, with_code, LOW_ABOVE_HIGH};
+use common::state::{text, with_code, with_code_and_value, LOAD_IT, LOW_ABOVE_HIGH};
+use common::words::addi;
 use common::{bench_in, directory, golden, shell_in};
 use lent::{Capability, State, MEPCC};
+use serde_json::json;
+
+/// CJAL c0, .-4.
+const BACK: u32 = 0xFFDF_F06F;
 
 /// A state that is refused, by name.
 fn states() -> Vec<(&'static str, State)> {
@@ -140,6 +145,43 @@ fn an_unsound_register_is_named_in_json() {
     std::fs::write(directory.join("start"), text(&state)).unwrap();
     let answer = bench_in(&directory, &["run", "--state", "start", "--steps", "1"]);
     assert_eq!(answer.status, 0, "{}", answer.err);
+}
+
+/// A jump of one word back, after the load of a value that no start may hold.
+#[test]
+fn a_run_that_is_refused_on_its_way_says_how_many_steps_were_made() {
+    let directory = directory("refused_on_the_way");
+    let state = with_code_and_value(&[addi(10, 0, 1), LOAD_IT, addi(10, 10, 1), BACK]);
+    std::fs::write(directory.join("start"), text(&state)).unwrap();
+    for (more, made) in [
+        (&["--steps", "2000000"][..], 1_000_001),
+        (&["--sweep", "30"], 30),
+    ] {
+        let run = [&["run", "--state", "start"], more].concat();
+        let answer = bench_in(&directory, &run);
+        assert_eq!((answer.status, answer.out.as_str()), (2, ""));
+        let steps = if made == 30 { "30" } else { "1,000,001" };
+        let told = format!("; before that {steps} steps retired, 0 trapped\n");
+        assert!(answer.err.ends_with(&told), "{}", answer.err);
+        let json = bench_in(&directory, &[&run[..], &["--json"]].concat()).json();
+        let refused = &json["refused"];
+        assert_eq!(
+            (&refused["number"], &refused["retired"]),
+            (&json!(8), &json!(made))
+        );
+        assert_eq!(refused["trapped"], 0);
+    }
+    // A start that is refused has made none, and does not speak of any.
+    let mut state = with_code(&[0x13]);
+    state.set(5, LOW_ABOVE_HIGH);
+    std::fs::write(directory.join("start"), text(&state)).unwrap();
+    let answer = bench_in(&directory, &["run", "--state", "start", "--json"]);
+    assert!(answer.json()["refused"]["retired"].is_null());
+    assert!(
+        answer.err.ends_with("c5 [05000000, 04000000)\n"),
+        "{}",
+        answer.err
+    );
 }
 
 #[test]

@@ -2,10 +2,10 @@
 
 use super::fit::{rows, verdict, Beside, Board, Labelled};
 use super::look::Look;
-use super::{read_state, refused_state, say, say_json};
+use super::{read_state, refused_on_the_way, refused_state, say, say_json};
 use crate::account::Account;
 use crate::arguments::Run;
-use crate::drive::{self, Outcome, Plan};
+use crate::drive::{self, Outcome, Plan, Refused};
 use crate::edition::Edition;
 use crate::image::lines::Lines;
 use crate::image::{self, Image, Segment, DEFAULT_START};
@@ -90,11 +90,13 @@ impl<'a> Task<'a> {
         let wanted = asked.last.max(before.as_ref().map(|_| LAST));
         let mut last = wanted.map(|wanted| Last::new(&ready.state, wanted, asked.sweep));
         let run = drive(asked, &mut ready, last.as_mut(), &mut look).and_then(|outcome| {
-            let looked = look.back(asked, last.as_ref(), outcome.counts.steps());
-            looked.map(|()| outcome)
+            let made = outcome.counts;
+            let looked = look.back(asked, last.as_ref(), made.steps());
+            let refused = |refusal| Refused { refusal, made };
+            looked.map(|()| outcome).map_err(refused)
         });
         let outcome = match run {
-            Err(refusal) => return refused_state(refusal, &ready.state, asked.json),
+            Err(refused) => return refused_on_the_way(refused, &ready.state, asked.json),
             Ok(outcome) => outcome,
         };
         let (named, swept) = ((&ready.names, ready.stack), asked.sweep.is_some());
@@ -372,7 +374,7 @@ fn drive(
     ready: &mut Ready,
     mut last: Option<&mut Last>,
     look: &mut Look,
-) -> Result<Outcome, Refusal> {
+) -> Result<Outcome, Refused> {
     let bar = progress(asked);
     let mut number = 0;
     let mut watch = |before: &State, after: &State, made: Counts| {
@@ -381,8 +383,8 @@ fn drive(
         }
         number += made.steps();
         if asked.trace {
-            let told = tell(asked.json, &trace::line(number, before, after, made));
-            return told || asked.save.is_some();
+            let line = trace::line(number, before, after, made);
+            return tell(asked.json, &line) || asked.save.is_some();
         }
         bar.set_position(number);
         true

@@ -10,8 +10,17 @@ use crate::samples::{EBREAK, JUMP_TO_ITSELF, LOADED, LOOP, STORED};
 use lent::{Capability, Range, COMPARE, MCAUSE};
 use lent::{MIE, MSTATUS, PCC, TIME, TIMER_INTERRUPT};
 
+/// addi c4, c0, 0, which clears the register of the load.
+const CLEAR: u32 = 0x0000_0213;
+
 fn driven(state: &mut State, steps: u64, through_traps: bool) -> Outcome {
     run(state, plan(steps, through_traps)).unwrap()
+}
+
+/// A refusal after so many steps that retired.
+fn refused_after(refusal: Refusal, retired: u64) -> Refused {
+    let made = counts(retired, 0);
+    Refused { refusal, made }
 }
 
 fn counts(retired: u64, trapped: u64) -> Counts {
@@ -201,7 +210,7 @@ fn a_refused_start_changes_nothing() {
     state.regs[2] = 1;
     let before = state.clone();
     let refused = run(&mut state, plan(100, false));
-    assert_eq!(refused, Err(Refusal(4)));
+    assert_eq!(refused, Err(refused_after(Refusal(4), 0)));
     assert_eq!(state, before);
 }
 
@@ -233,7 +242,10 @@ fn a_run_goes_on_with_what_no_start_may_hold() {
 #[test]
 fn such_a_run_ends_a_million_steps_on_or_at_a_sweep() {
     // The steps that can be made are made, and no refusal is told before another one is asked for.
-    for (more, ended) in [(0, Ok(End::Steps)), (1, Err(UNSOUND))] {
+    for (more, ended) in [
+        (0, Ok(End::Steps)),
+        (1, Err(refused_after(UNSOUND, MOST_STEPS))),
+    ] {
         let mut state = loading(&[], counting(3_000_000, EBREAK));
         let outcome = run(&mut state, plan(MOST_STEPS + more, false));
         assert_eq!(outcome.map(|outcome| outcome.end), ended);
@@ -242,11 +254,53 @@ fn such_a_run_ends_a_million_steps_on_or_at_a_sweep() {
     let mut state = loading(&[], counting(100, EBREAK));
     let mut swept = plan(u64::MAX, false);
     swept.sweep = Some(30);
-    assert_eq!(run(&mut state, swept), Err(UNSOUND));
+    assert_eq!(run(&mut state, swept), Err(refused_after(UNSOUND, 30)));
     assert_eq!(
         (probe::unsound(&state), state.long(TIME)),
         (vec![LOADED], 30)
     );
+}
+
+// Each line of a trace would cost as many steps as were made since the load.
+#[test]
+fn steps_that_are_only_shown_are_not_made_again_without_end() {
+    let (mut shown, mut calls, mut seen) = (0, 0, 0);
+    let mut watch = |_: &State, _: &State, made: Counts| {
+        (calls, seen) = (calls + 1, seen + made.steps());
+        shown += u64::from(made.steps() == 1);
+        true
+    };
+    let mut asked = Plan::new(300_000, &mut watch);
+    asked.call = 1;
+    let mut state = loading(&[], counting(3_000_000, EBREAK));
+    let mut together = state.clone();
+    assert_eq!(run(&mut state, asked).unwrap().counts, counts(300_000, 0));
+    proved::run(&mut together, 300_000).unwrap();
+    assert_eq!(state, together);
+    assert_eq!(seen, 300_000);
+    assert!(
+        shown >= MOST_AGAIN && calls < MOST_AGAIN + 40,
+        "{shown} of {calls}"
+    );
+}
+
+// A word that writes over such a value: from there on each step is a start, and is shown.
+#[test]
+fn steps_are_shown_again_from_the_next_start_on() {
+    let mut state = loading(&[], counting(20_000, CLEAR));
+    let mut lines = Vec::new();
+    let mut watch = |_: &State, _: &State, made: Counts| {
+        lines.push(made.steps());
+        true
+    };
+    let mut asked = Plan::new(100_000, &mut watch);
+    (asked.call, asked.through_traps) = (1, true);
+    state.regs[MSTATUS] = 0;
+    run(&mut state, asked).unwrap();
+    let gap = lines.iter().position(|steps| *steps > 1).expect("a gap");
+    assert_eq!(gap as u64, MOST_AGAIN + 1);
+    let after = lines.iter().rposition(|steps| *steps > 1).expect("a gap");
+    assert!(lines.len() - after > 1_000, "{after} of {}", lines.len());
 }
 
 /// A record of the stored word and of its last byte, with these counts.

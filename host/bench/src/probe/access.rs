@@ -77,24 +77,26 @@ pub fn size(word: u32) -> Option<u32> {
     (1..MOST).find(inside)
 }
 
-/// The register that a load writes: the one that is another after a load of ones into it.
-pub fn destination(word: u32) -> Option<usize> {
+/// The register that a load writes, and whether it takes a tag with it: the one that is another after a load of a tagged
+/// capability, none if it is c0.
+pub fn loaded(word: u32) -> Option<(Option<usize>, bool)> {
     let (word, by) = free(word)?;
     let mut memory = vec![0; 2 * BLOCK];
     memory[..4].copy_from_slice(&word.to_le_bytes());
-    memory[BLOCK..].fill(0xFF);
     let mut state = State::reset(TRIED_FROM, memory, TRIED_FROM);
-    let loaded = TRIED_FROM + BLOCK as u32;
-    let from = loaded.wrapping_sub(address(word, 0)?);
+    let held = TRIED_FROM + BLOCK as u32;
+    state.write_capability(held, Capability::tagged(u32::MAX, MEMORY_ROOT));
+    let from = held.wrapping_sub(address(word, 0)?);
     state.set(by, Capability::tagged(from, MEMORY_ROOT));
-    changed(state)
+    let to = changed(&mut state);
+    Some((to, to.is_some_and(|to| state.capability(to).tag == 1)))
 }
 
 /// The general register that a step which retires changes.
-pub(super) fn changed(mut state: State) -> Option<usize> {
+pub(super) fn changed(state: &mut State) -> Option<usize> {
     let before = state.clone();
-    if !retires(&mut state) {
-        return None;
-    }
-    (0..PCC).find(|&place| state.capability(place) != before.capability(place))
+    let places = 0..if retires(state) { PCC } else { 0 };
+    places
+        .into_iter()
+        .find(|&place| state.capability(place) != before.capability(place))
 }

@@ -69,7 +69,7 @@ impl Jump {
     /// The registers of a word that jumps by a register.
     pub fn of(word: u32) -> Option<Jump> {
         Some(Jump {
-            links: changed(by_root(word, 0)?).unwrap_or(0),
+            links: changed(&mut by_root(word, 0)?).unwrap_or(0),
             by: super::access::register(word)?,
         })
     }

@@ -2,13 +2,15 @@
 //! Whether a sheet is good, which line is its first bad one, and whether an image fits, is said here and
 //! nowhere else in the command.
 
-use ::proved::{fit as fitting, sheet_compare, sheet_read};
+use ::proved::{fit as fitting, sheet_compare, sheet_read, sheet_write};
 use lent::number_and_rest as parts;
 
 /// The most regions of a sheet, and the words that the library has for each (include/oddersnow.h).
 pub const MOST_REGIONS: usize = 64;
 const RECORD: usize = 7;
 const NAME_WORDS: usize = 4;
+/// The bytes of the longest line: the word region, a name of 16 letters, two numbers and the rights, with their tabs.
+const LINE_ROOM: usize = 64;
 /// A name of 16 letters with its newline, for each region of two sheets.
 const NAMES_ROOM: usize = 17 * 2 * MOST_REGIONS;
 
@@ -53,6 +55,33 @@ impl Record {
     pub fn end(&self) -> u64 {
         u64::from(self.start) + u64::from(self.length)
     }
+
+    /// Its words, as the library has them.
+    fn words(&self) -> [u32; RECORD] {
+        let letter = |place: usize| self.name.as_bytes().get(place).copied().unwrap_or(0);
+        let word = |place: usize| {
+            let letters = std::array::from_fn(|letter_place| letter(4 * place + letter_place));
+            u32::from_le_bytes(letters)
+        };
+        let rest = [self.start, self.length, self.rights];
+        std::array::from_fn(|place| match place.checked_sub(NAME_WORDS) {
+            Some(place) => rest[place],
+            None => word(place),
+        })
+    }
+
+    /// The sheet that has this region alone, as the library writes it.
+    fn sheet(&self) -> Vec<u8> {
+        let mut text = [0; LINE_ROOM];
+        let (number, length) = parts(sheet_write(&self.words(), &mut text));
+        text[..if number == 0 { length as usize } else { 0 }].to_vec()
+    }
+}
+
+/// Whether a region of a board holds a region of an image: an image of that region alone fits a board of the other alone.
+pub fn holds(place: &Record, region: &Record) -> bool {
+    let image = [region.sheet(), b"\n".to_vec()].concat();
+    matches!(fit(&place.sheet(), &image, &image), Fit::Image(..))
 }
 
 /// The first bad line of a sheet.

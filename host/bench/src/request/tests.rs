@@ -18,12 +18,14 @@ fn place(register: Register) -> usize {
     register.number() as usize
 }
 
-/// A load into a register, as it is asked for: what goes by c0 never retires, so that its register is not known.
+/// A load into a register, of a capability if it is of 8 bytes.
 fn load(by: Register, size: u32, to: Register) -> Request {
+    let to = Some(place(to)).filter(|to| *to != 0);
     Request::Load {
         by: place(by),
         size,
-        to: Some(place(to)).filter(|to| *to != 0),
+        to,
+        tags: to.is_some() && size == 8,
     }
 }
 

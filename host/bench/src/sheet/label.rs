@@ -1,9 +1,10 @@
 //! An image's label, the map sheet before its payload, beside a board's sheet: for each region where it
-//! lies, or why it does not fit, in words. Whether the image fits is the proved library's answer.
+//! lies, or why it does not fit, in words. Whether the image fits is the proved library's answer, and whether a region of
+//! the board holds one of its regions too.
 
 use super::letters;
 use crate::capability_text::count;
-use crate::proved::sheets::Record;
+use crate::proved::sheets::{self, Record};
 
 /// A region of an image: the board's region that holds it, or why none does.
 pub struct Placed<'a> {
@@ -14,7 +15,8 @@ pub struct Placed<'a> {
 /// Every region of an image on a board.
 pub fn placed<'a>(image: &'a [Record], board: &'a [Record]) -> Vec<Placed<'a>> {
     let place = |region: &'a Record| {
-        let holder = board.iter().find(|place| holds(place, region));
+        let mut touched = board.iter().filter(|place| touches(place, region));
+        let holder = touched.find(|place| sheets::holds(place, region));
         Placed {
             region,
             place: holder.ok_or_else(|| reason(region, board)),
@@ -23,8 +25,9 @@ pub fn placed<'a>(image: &'a [Record], board: &'a [Record]) -> Vec<Placed<'a>> {
     image.iter().map(place).collect()
 }
 
-fn holds(place: &Record, region: &Record) -> bool {
-    place.start <= region.start && region.end() <= place.end() && lacking(place, region) == 0
+/// Whether two regions share a byte.
+fn touches(place: &Record, region: &Record) -> bool {
+    u64::from(place.start) < region.end() && u64::from(region.start) < place.end()
 }
 
 /// The rights of a region that a place lacks.
@@ -34,10 +37,8 @@ fn lacking(place: &Record, region: &Record) -> u32 {
 
 /// Why no region of the board holds this one: what each that has a byte of it lacks.
 fn reason(region: &Record, board: &[Record]) -> String {
-    let touches = |place: &&Record| {
-        u64::from(place.start) < region.end() && u64::from(region.start) < place.end()
-    };
-    let mut touched: Vec<&Record> = board.iter().filter(touches).collect();
+    let touched = board.iter().filter(|place| touches(place, region));
+    let mut touched: Vec<&Record> = touched.collect();
     touched.sort_by_key(|place| place.start);
     let reasons: Vec<String> = touched.iter().map(|place| amiss(place, region)).collect();
     if reasons.is_empty() {

@@ -6,11 +6,11 @@ use crate::account::Account;
 use crate::arguments::{Run, Start};
 use crate::command::fit::{Beside, Labelled};
 use crate::command::run::{ran_page, ready, Halt, Ready};
-use crate::drive::{self, Plan};
+use crate::drive::{self, Outcome, Plan, Refused};
 use crate::image::{self, Format, Segment};
 use crate::last::Last;
 use crate::page::{self, Answer, Source, Subject, LAST};
-use crate::proved::{Counts, Refusal};
+use crate::proved::Counts;
 use crate::report;
 use crate::sheet::label::Placed;
 use crate::sheet::Bad;
@@ -103,7 +103,9 @@ impl Image<'_> {
         let mut last = Last::new(&before, LAST, None);
         let outcome = match driven(&mut ready, self.shelf.steps, &mut last) {
             Ok(outcome) => outcome,
-            Err(refusal) => return self.bad(row, report::refused(refusal, &ready.state)),
+            Err(refused) => {
+                return self.bad(row, report::refused_on_the_way(refused, &ready.state))
+            }
         };
         let named = (&ready.names, ready.stack);
         let account = Account::of(&ready.state, &outcome, named, fits, false);
@@ -167,7 +169,7 @@ fn reasons(regions: &[Placed]) -> String {
 }
 
 /// Runs, and keeps states for the last steps.
-fn driven(ready: &mut Ready, steps: u64, last: &mut Last) -> Result<drive::Outcome, Refusal> {
+fn driven(ready: &mut Ready, steps: u64, last: &mut Last) -> Result<Outcome, Refused> {
     let mut made = 0;
     let mut watch = |before: &State, _: &State, counts: Counts| {
         last.see(made, before);

@@ -94,7 +94,7 @@ fn it_ends_as_a_run_does_at_a_sweep() {
     let mut swept = plan(u64::MAX, false);
     swept.sweep = Some(30);
     swept.breaks.insert(NOWHERE);
-    assert_eq!(run(&mut state, swept), Err(UNSOUND));
+    assert_eq!(run(&mut state, swept), Err(refused_after(UNSOUND, 30)));
     assert_eq!(
         (probe::unsound(&state), state.long(TIME)),
         (vec![LOADED], 30)

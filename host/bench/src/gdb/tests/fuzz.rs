@@ -103,6 +103,18 @@ fn sent(payload: &[u8], words: &mut Sequence) -> Vec<u8> {
     bytes
 }
 
+/// How often a machine that goes on works before it is interrupted.
+const BUDGETS: [usize; 4] = [1, 2, 10, 3];
+/// How many steps by one packet, without a breakpoint, are more than single ones.
+const EARNEST: u64 = 100;
+
+/// What came of packets: how many answers, and how many that let the machine go on in earnest.
+#[derive(Default)]
+struct Tried {
+    answered: usize,
+    gone_on: usize,
+}
+
 /// How many tags a state has.
 fn tags(state: &State) -> u32 {
     let registers: u32 = (0..CAPABILITIES)
@@ -113,26 +125,38 @@ fn tags(state: &State) -> u32 {
 
 /// Sends bytes; what comes back must be in form, nothing but steps may set a tag, and the state must be a start unless
 /// a step may have loaded what none may hold.
-fn tried(target: &mut Target, loads: bool, session_bytes: &[Vec<u8>]) -> usize {
+fn tried(target: &mut Target, loads: bool, session_bytes: &[Vec<u8>]) -> Tried {
     let mut session = Session::new(target);
-    let mut answered = 0;
-    for bytes in session_bytes {
+    let mut tried = Tried::default();
+    for (number, bytes) in session_bytes.iter().enumerate() {
         let (before, steps) = (
             tags(session.target.state()),
             session.target.state().long(TIME),
         );
         session.receive(bytes);
-        session.work();
+        // Calls grow, so that this is from one step to 1,023; with a breakpoint it is up to 16,384.
+        let unbroken = session.target.breaks().is_empty();
+        let budget = if unbroken {
+            BUDGETS[number % BUDGETS.len()]
+        } else {
+            1
+        };
+        (0..budget).for_each(|_| session.work());
         session.receive(b"\x03");
         session.notes.clear();
         let state = session.target.state();
         assert!(loads || proved::run(&mut state.clone(), 0).is_ok());
-        let stood = state.long(TIME) == steps;
-        assert!(!stood || tags(state) <= before, "{}", bytes.escape_ascii());
+        let made = state.long(TIME).wrapping_sub(steps);
+        assert!(
+            made != 0 || tags(state) <= before,
+            "{}",
+            bytes.escape_ascii()
+        );
+        tried.gone_on += usize::from(unbroken && (EARNEST..1 << 32).contains(&made));
         let output: Vec<u8> = session.take_output();
-        answered += answers_in(&output);
+        tried.answered += answers_in(&output);
         if session.ended.is_some() {
-            return answered;
+            return tried;
         }
     }
     // A packet's start gives up whatever is open.
@@ -142,7 +166,7 @@ fn tried(target: &mut Target, loads: bool, session_bytes: &[Vec<u8>]) -> usize {
         .last()
         .unwrap()
         .starts_with(b"T"));
-    answered
+    tried
 }
 
 /// The packets in an answer; acknowledgements may stand between them.
@@ -166,7 +190,7 @@ fn without_refusals(output: &[u8]) -> Vec<u8> {
 #[test]
 fn packets_of_any_kind_are_answered() {
     let mut words = Sequence(2026);
-    let mut answered = 0;
+    let mut all_tried = Tried::default();
     for number in 0..400 {
         let loads = number % 4 == 0;
         let mut target = match loads {
@@ -179,9 +203,13 @@ fn packets_of_any_kind_are_answered() {
                 sent(&payload, &mut words)
             })
             .collect();
-        answered += tried(&mut target, loads, &all);
+        let tried = tried(&mut target, loads, &all);
+        all_tried.answered += tried.answered;
+        all_tried.gone_on += tried.gone_on;
     }
+    let Tried { answered, gone_on } = all_tried;
     assert!(answered > 30_000, "{answered}");
+    assert!(gone_on > 50, "{gone_on}");
 }
 
 #[test]
