@@ -88,10 +88,9 @@ impl<'a> Plan<'a> {
         }
     }
 
-    /// Whether each step is looked at, where the next one has to be made with so many others again. One that is only shown
-    /// is not, where they are too many.
-    fn looks(&self, again: u64) -> bool {
-        let shown = self.call == 1 && again < MOST_AGAIN;
+    /// Whether each step is looked at. One that is only shown is not, where too many others have to be made again for it.
+    fn looks(&self, course: &mut Course) -> bool {
+        let shown = self.call == 1 && course.again() < MOST_AGAIN;
         shown || self.cover.is_some() || !self.breaks.is_empty()
     }
 
@@ -129,7 +128,7 @@ fn follow(course: &mut Course, mut plan: Plan, done: &mut Outcome) -> Result<(),
     let (mut call, mut looked, mut wanted) = (1, false, true);
     while wanted && done.end == End::Steps && done.counts.steps() < plan.steps {
         let before = course.state().clone();
-        let looks = plan.looks(course.again());
+        let looks = plan.looks(course);
         // Calls grow anew where steps are no longer looked at.
         call = if looked && !looks { 1 } else { call };
         let pace = plan.pace(done.counts.steps(), call, looks);

@@ -48,10 +48,11 @@ pub struct Beside<'a> {
 impl Beside<'_> {
     /// An image beside a board, by itself: it is lent twice, and fits exactly if the first of the two does.
     pub fn of<'a>(board: &'a Board, image: &'a Labelled) -> Beside<'a> {
+        let fits = sheets::fit(&board.bytes, image.bytes, image.bytes) != Fit::Neither;
         Beside {
             path: image.path,
-            fits: sheets::fit(&board.bytes, image.bytes, image.bytes) != Fit::Neither,
-            regions: placed(&image.label.regions, &board.sheet.regions),
+            fits,
+            regions: placed(&image.label.regions, &board.sheet.regions, fits),
         }
     }
 }

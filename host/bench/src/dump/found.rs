@@ -1,5 +1,5 @@
-//! The metadata word of a capability that is told by its bounds, rights and type. It is looked for among all words, and the
-//! proved library says of each what it is.
+//! The metadata word of a capability that is told by its bounds, rights and type. The fields of document 01 say where to look
+//! for it; whether a word is the one is what the proved libraries and the proved machine say of it.
 
 use crate::capability_text::{region, rights, type_words};
 use crate::proved::bounds;

@@ -151,7 +151,7 @@ fn may_be_fetched(pcc: Capability, bytes: u32) -> bool {
     let end = u64::from(pcc.address) + u64::from(bytes);
     let right = rights(pcc.metadata) >> 8 & 1 == 1;
     let inside = bounds.low <= pcc.address && end <= bounds.high;
-    pcc.tag == 1 && seal_type(pcc.metadata) == 0 && right && inside && pcc.address % 2 == 0
+    pcc.tag == 1 && seal_type(pcc.metadata) == 0 && right && inside && pcc.address.is_multiple_of(2)
 }
 
 #[test]
@@ -169,7 +169,7 @@ fn a_fetch_passes_where_its_bytes_are_inside_the_bounds_of_pcc() {
         let pcc = Capability {
             address,
             metadata: upper & !0x3F_FFFF | bounds,
-            tag: u32::from(sequence.word() % 8 != 0),
+            tag: u32::from(!sequence.word().is_multiple_of(8)),
         };
         // The last place of the address space has no second half.
         let long = address < 0xFFFF_FFFE && may_be_fetched(pcc, 4);
@@ -178,7 +178,7 @@ fn a_fetch_passes_where_its_bytes_are_inside_the_bounds_of_pcc() {
         let unsound = expected[0] && proved::bounds(pcc).high > 1 << 32;
         seen[usize::from(expected[0]) + usize::from(expected[1])] += 1;
         seen[3] += u32::from(unsound);
-        assert_eq!(fetch::is_place(address), address % 2 == 0);
+        assert_eq!(fetch::is_place(address), address.is_multiple_of(2));
     }
     assert!(seen.iter().all(|times| *times > 20), "{seen:?}");
 }

@@ -12,11 +12,12 @@ pub struct Placed<'a> {
     pub place: Result<&'a Record, String>,
 }
 
-/// Every region of an image on a board.
-pub fn placed<'a>(image: &'a [Record], board: &'a [Record]) -> Vec<Placed<'a>> {
+/// Every region of an image on a board. One that fits is known to lie in a region of the board, which is then the one that it
+/// shares bytes with.
+pub fn placed<'a>(image: &'a [Record], board: &'a [Record], fits: bool) -> Vec<Placed<'a>> {
     let place = |region: &'a Record| {
         let mut touched = board.iter().filter(|place| touches(place, region));
-        let holder = touched.find(|place| sheets::holds(place, region));
+        let holder = touched.find(|place| fits || sheets::holds(place, region));
         Placed {
             region,
             place: holder.ok_or_else(|| reason(region, board)),
@@ -77,11 +78,24 @@ mod tests {
     }
 
     #[test]
+    fn a_region_is_held_where_its_bytes_and_rights_are() {
+        let place = record("b", 0xFFFF_FF00, 0x80, 5);
+        for (start, length) in [(0xFF00, 0x80), (0xFEFF, 0x80), (0xFF00, 0x81), (0xFF7F, 1)] {
+            for rights in 1..8 {
+                let region = record("abcdefghijklmnop", 0xFFFF_0000 + start, length, rights);
+                let inside = start >= 0xFF00 && start + length <= 0xFF80;
+                let expected = inside && rights & !5 == 0;
+                assert_eq!(sheets::holds(&place, &region), expected, "{region:?}");
+            }
+        }
+    }
+
+    #[test]
     fn why_a_region_does_not_fit_is_said_for_each_board_region_that_it_touches() {
         let board = [record("low", 100, 10, 5), record("high", 110, 1000, 3)];
         let said = |start, length, rights| {
             let image = [record("a", start, length, rights)];
-            let placed = placed(&image, &board).remove(0).place;
+            let placed = placed(&image, &board, false).remove(0).place;
             placed
                 .map(|place| place.name.clone())
                 .unwrap_or_else(|reason| reason)
