@@ -32,7 +32,7 @@ pub fn name(number: u32) -> &'static str {
 }
 
 /// Why a jump by a sentry of a type was refused in an edition, by what the machine takes: it has none of that type, the jump
-/// is another one than takes it, or, if it takes that type, its offset. What is said follows "jump", with the register.
+/// is another one than takes it, or, if it takes that type, its offset. `name` is the register's.
 pub fn refusal(edition: u32, kind: u32, jump: Jump, name: &str) -> String {
     let takers = takers(kind, edition);
     let what = if is_return(kind) {

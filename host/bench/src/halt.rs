@@ -47,8 +47,8 @@ pub struct Pace {
     pub leaves: bool,
 }
 
-/// Makes steps one by one, and shows of each that retired its address and the bytes there, up to four. Where each has to be made with many
-/// before it, fewer are made at once.
+/// Makes steps one by one, and shows of each that retired its address and the bytes there, up to four. Where each has to be
+/// made with many before it, fewer are made at once.
 pub fn by_steps(
     course: &mut Course,
     pace: Pace,
@@ -73,9 +73,9 @@ pub fn by_steps(
         effort += course.effort();
         let left = pace.left - done.steps() - 1;
         let halt = halted(before, course, made, stops, left);
-        if halt != Halt::Steps && !(halt == Halt::Still && first && pace.begins) {
-            let back = course.step_back();
-            return (done, back.map_or_else(Halt::Refused, |()| halt));
+        let goes_on = halt == Halt::Steps || (halt == Halt::Still && first && pace.begins);
+        if let Some(halt) = (!goes_on).then(|| taken_back(course, halt, left)).flatten() {
+            return (done, halt);
         }
         done += made;
         if made.retired > 0 {
@@ -83,6 +83,18 @@ pub fn by_steps(
         }
     }
     (done, Halt::Steps)
+}
+
+/// Takes back the step that something stops before, with so many steps left after it. None if it is made after all:
+/// registers were left as they were, but not all of memory.
+fn taken_back(course: &mut Course, halt: Halt, left: u64) -> Option<Halt> {
+    if let Err(refusal) = course.step_back() {
+        return Some(Halt::Refused(refusal));
+    }
+    match halt == Halt::Still && !is_still(course, left + 1) {
+        true => course.run(1).err().map(Halt::Refused),
+        false => Some(halt),
+    }
 }
 
 /// Up to four bytes at an address, as one number: no word is longer.
@@ -100,7 +112,7 @@ fn halted(
     left: u64,
 ) -> Halt {
     let now = course.state();
-    // A step that leaves PCC is no store.
+    // Memory is compared where these are the same.
     let same = || now.regs[..TIME] == regs[..TIME] && now.regs[COMPARE..] == regs[COMPARE..];
     match met(record, course, made, stops) {
         Some(halt) => halt,

@@ -132,9 +132,13 @@ pub fn cut(base: u32, length: u32) -> Result<(Region, bool), Refusal> {
     }
 }
 
+/// Words are whole halves.
+const HALF: usize = 2;
+
 /// The bytes of the first word of some, as many as the lister needs; none if it does not end in them.
 pub fn length(bytes: &[u8]) -> Option<usize> {
-    (1..=bytes.len()).find(|&most| list(&bytes[..most]).is_ok())
+    let mut lengths = (HALF..=bytes.len()).step_by(HALF);
+    lengths.find(|&length| list(&bytes[..length]).is_ok())
 }
 
 /// The bytes of a word.
