@@ -195,11 +195,18 @@ failure_named() { # after older_than_sources
   [ $? -eq 4 ] && [ ! -s "$work/out" ] && says "$work/err" "not built" "rt: low NOT PROVED"
 }
 
+# What the command says of the machine it asks: outside tests, no field of a word, no rule for its length or for the timer.
+asks_the_machine() {
+  ! grep -rnE 'instruction_bytes|\.instruction\(|\.interrupted\(|lent::.*\bMIE\b|\bword (&|>>) ' host/bench/src --include='*.rs' |
+    grep -vE '/tests(/|\.rs:)|/(samples|sequence)\.rs:'
+}
+
 check "bench builds" ./bench --version || exit 1
 check "./bench adds nothing where all is built" nothing_added
 check "./bench shows its progress where something is missing" progress_shown
 check "./bench builds again what is older than its sources" older_than_sources
 check "./bench names a crate that is not proved" failure_named
+check "the command has no decoder of its own" asks_the_machine
 check "bench cargo fmt" in_bench cargo fmt --check
 check "bench cargo clippy" in_bench cargo clippy --release --all-targets -- -D warnings
 tests
