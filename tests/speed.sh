@@ -2,7 +2,8 @@
 # The speed programs: every step retires on both proved engines and on the second program. The plain engine needs no more of
 # the host's instructions for a step than the second program, and for one of the integer program by short words at most a
 # quarter more than by long ones; the quick engine needs at most half of the plain one's on integer, memory and bounded, at
-# most a tenth more for code that changes itself, and at most twice for a run of one step. The bounds lookup: the proved
+# most a quarter on integer and bounded, at most a third for calls, whatever their distance, at most a tenth more for code
+# that changes itself, and at most twice for a run of one step. The bounds lookup: the proved
 # routine needs no more than the second program's and than the tuned one. Map sheets: the proved reader and writer need no
 # more for a byte than the second program's. The lister and the assembler need few enough for 20 million bytes of
 # code or text a second. Callgrind counts them, so that what else the computer does changes nothing. By time,
@@ -81,6 +82,12 @@ done
 check "short words take at most a quarter more than long ones" at_most 125 .plain.short .plain.integer
 for program in integer memory bounded; do
   check "the quick engine takes at most half of the plain one's instructions for $program" at_most 50 ".quick.$program" ".plain.$program"
+done
+for program in integer bounded; do
+  check "the quick engine takes at most a quarter for $program" at_most 25 ".quick.$program" ".plain.$program"
+done
+for program in calls far shared; do
+  check "the quick engine takes at most a third for $program" at_most 33 ".quick.$program" ".plain.$program"
 done
 check "the quick engine takes at most a tenth more for code that changes itself" at_most 110 .quick.self .plain.self
 check "a run of one step takes at most twice by the quick engine" at_most 200 .quick.one-step .plain.one-step

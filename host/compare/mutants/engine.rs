@@ -3,7 +3,7 @@
 // edits of mutants.txt. The comparison of engines must tell each of them from the plain run.
 
 /// How many words are kept, by their addresses.
-const SLOTS: usize = 2048;
+const SLOTS: usize = 1024;
 
 /// A word that was fetched, and the PCC that it was fetched by.
 #[derive(Clone, Copy)]

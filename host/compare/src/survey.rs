@@ -107,8 +107,8 @@ struct Ran {
     changed: bool,
 }
 
-/// The slots of an engine with 1,024 of them, by the address that ran last.
-const SLOTS: usize = 2048;
+/// The slots of an engine with so many of them, by the address that ran last.
+const SLOTS: usize = 1024;
 
 struct Walk<'a> {
     watch: Watch,

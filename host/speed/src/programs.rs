@@ -148,7 +148,7 @@ fn changing(name: &str) -> Option<Vec<u32>> {
     Some(loop_words)
 }
 
-/// Calls of a routine that lies near, far, or 4,096 bytes from the call: addi c2, c2, 1; cjal c1; add c3, c3, c2; back. The
+/// Calls of a routine that lies near, far, or 4,096 bytes from the call, where it shares slots with it: addi c2, c2, 1; cjal c1; add c3, c3, c2; back. The
 /// routine is xor c4, c4, c2; addi c4, c4, 3; a return.
 fn calls(name: &str) -> Option<Vec<u32>> {
     let routine = match name {
