@@ -1,7 +1,7 @@
 #!/usr/bin/env python3
 """The tables of docs/LISTING.md. From the repository's root: python3 tests/listing.py names | lines
 
-    names   the forms listed are the names of crates/forms/specs/Names.antt, in that order, each with as many operands as its example has
+    names   the forms listed are the names of crates/forms/specs/Rows.antt, in that order, each with as many operands as its example has
     lines   writes each example as WORD, tab, WORD that it assembles to, tab, LINE with tabs, for tests/listing_lines.c
 
 Exits with 1 where the tables differ."""
@@ -32,7 +32,7 @@ def tables():
 
 def source_names():
     """Name by name, from the bytes, not from the comments beside them."""
-    text = re.sub(r"--.*", "", read("crates/forms/specs/Names.antt"))
+    text = re.sub(r"--.*", "", read("crates/forms/specs/Rows.antt"))
     body = text[text.index("names =\n"):text.index("abbrev pub rowCount")]
     return ["".join(chr(int(n)) for n in re.findall(r"\d+", name)) for name in re.findall(r"\((\d[^()]*)\)", body)]
 

@@ -5,7 +5,7 @@ use mathlib.Core.Path.{_≡_, sym, ap, _∙_}
 use Prim.Native.Nat.{ℕ, suc, _<_}
 use lib.Dec.{T, eqb, eqb→eq}
 use Rattle.choices.proofs.Every.{every, every-at}
-use Rattle.forms.specs.Names.{names, rowCount, nameOf}
+use Rattle.forms.specs.Rows.{names, rowCount, nameOf}
 
 abbrev alike : List ℕ → List ℕ → Bool
 alike [] [] = true

@@ -1,14 +1,14 @@
--- Each instruction that the decoder gives, encoded again from what is listed of it, is the word that it was decoded from: by the decoder's own tests, a line
--- a row.
-use mathlib.Core.Bool.{Bool, true, false, cond, _&&_}
+-- Each instruction that the decoder gives: made again of what is listed of it, it is the word that it was decoded from; it has a row; and its operands are
+-- words. One law a format, and the decoder's own tests, walked by search: a row more needs no line here.
+use mathlib.Core.Bool.{Bool, true, false, false≢true, cond, _&&_}
 use mathlib.Core.Path.{_≡_, refl, sym, ap, _∙_}
 use Prim.Native.Nat.{ℕ, _+_, _*_, _/_, _%_, _^_, _≤_, _<_}
-use native.Mathlib.Nat.{mod-eq-of-lt}
 use native.Mathlib.Omega.{arith}
 use borrow.Author.Tests.{eqb-true, eqb-false, eq-eqb, ne-eqb}
 use lib.Dec.{eqb, ltb}
+use lib.ListN.{getD}
 use Rattle.words.specs.Words.{wrap}
-use Rattle.words.proofs.Word.{by-test}
+use Rattle.words.proofs.Word.{by-test, sign-extend-word}
 use Rattle.instructions.specs.Fields.{opcode, rdOf, funct3, rs1Of, rs2Of, funct7, upper12, immediateI, immediateS, immediateB, immediateU, immediateJ}
 use Rattle.instructions.specs.Fields.{offsetAui}
 use Rattle.instructions.specs.Decode.{namingOf, loadOf, storeOf, fenceOf, aluOf, shiftLeftOf, shiftRightOf, opImmOf, op32Of, multiplyOf, opByOf, opOf, luiOf}
@@ -16,13 +16,23 @@ use Rattle.instructions.specs.Decode.{auipccOf, auicgpOf, jalOf, branchOf, jalr
 use Rattle.instructions.specs.Decode.{sourceDestOf, combineOf, twoSourceOf, capabilityOf, decodeOf}
 use Rattle.instructions.specs.declared.Alu.{Alu}
 use Rattle.instructions.specs.declared.Csr.{Csr}
-use Rattle.instructions.specs.declared.Csr.the-variants.{Mstatus, Mcause, Mtval, Mshwm, Mshwmb}
 use Rattle.instructions.specs.declared.IntegerInstruction.the-variants.{OpImm, Op}
 use Rattle.instructions.specs.declared.Instruction.{Instruction}
 use Rattle.instructions.specs.declared.Instruction.the-variants.{Integer, Illegal}
-use Rattle.forms.specs.Shapes.{csrNumber, predOf, succOf, integerShape, jumpShape, memoryShape, capabilityShape, systemShape, instructionShape}
-use Rattle.forms.specs.Encoding.{fixedBits, formats, placeR, placeI, placeF, placeOf, encodeOf, chosen, restored}
+use Rattle.short_forms.specs.Meaning.{isLegal}
+use Rattle.forms.specs.Shapes.{three, two, bare, upperOf, predOf, succOf}
+use Rattle.forms.specs.Rows.{rowCount, fixedBits, formats, csrNumber, integerShape, jumpShape, memoryShape, capabilityShape, systemShape}
+use Rattle.forms.specs.Rows.{instructionShape}
+use Rattle.forms.specs.Encoding.{placeR, placeI, placeOf, encodeOf, chosen, restored}
+use Rattle.forms.specs.declared.Shape.{Shape}
+use Rattle.forms.proofs.Fit.{Fit, fit3, fit2, fit0}
 use Rattle.forms.proofs.Formats.{formatR, formatP, formatN, formatI, formatS, formatB, formatU, formatJ}
+
+-- what holds of an instruction that a word w decodes to: v is the word made again of it
+pub record Good (w v : ℕ) (i : Instruction) : Type 0 where
+  pub again : w < 2 ^ 32 → restored w (instructionShape w i) ≡ v
+  pub legal : ltb (instructionShape w i .row) rowCount ≡ isLegal i
+  pub fit : Fit (instructionShape w i)
 
 -- what holds on both sides of a test
 tested : {A : Type 0} (Q : A → Type 0) (x k : ℕ) (a b : A) → (x ≡ k → Q a) → ((x ≡ k → ⊥) → Q b) → Q (cond (eqb x k) a b)
@@ -34,294 +44,305 @@ four x a b c d = omega arith
 last : (x : ℕ) → x < 8 → 4 ≤ x → (x ≡ 4 → ⊥) → (x ≡ 5 → ⊥) → (x ≡ 6 → ⊥) → x ≡ 7
 last x h k a b c = omega arith
 
--- the fixed bits of the last of eight
-lastI : (x o f : ℕ) → o ≡ 0x13 → f ≡ 7 → x ≡ 0x7013 → x ≡ o + f * 2 ^ 12
-lastI x o f p q r = omega arith
+-- the last of eight
+seven : (w : ℕ) → 4 ≤ funct3 w → (funct3 w ≡ 4 → ⊥) → (funct3 w ≡ 5 → ⊥) → (funct3 w ≡ 6 → ⊥) → funct3 w ≡ 7
+seven w k a b c = last (funct3 w) (omega arith) k a b c
 
-lastR : (x o f g m : ℕ) → o ≡ 0x33 → f ≡ 7 → g ≡ m → x ≡ 0x7033 + m * 2 ^ 25 → x ≡ o + f * 2 ^ 12 + g * 2 ^ 25
-lastR x o f g m p q t r = omega arith
+-- its row's word, made again
+made : (w : ℕ) (s : Shape) (f : ℕ) → ltb (s .row) rowCount ≡ true → getD formats (s .row) 0 ≡ f
+    → wrap (getD fixedBits (s .row) 0 + placeOf f (s .a) (s .b) (s .c)) ≡ w → restored w s ≡ w
+unfolding restored encodeOf
+made w s f l m e = rw (l, m) e
 
-below-eight : (w : ℕ) → funct3 w < 8
-below-eight w = omega arith
+both : (a b : Bool) → (a && b) ≡ true → (a ≡ true) × (b ≡ true)
+both true true e = (refl, refl)
+both true false e = (refl, e)
+both false b e = absurd (false≢true e)
 
-abbrev Back : ℕ → Instruction → Type 0
-Back w i = restored w (instructionShape w i) ≡ w
+module _ (w : ℕ) where
+  abbrev rowOf : Instruction → ℕ
+  rowOf i = instructionShape w i .row
 
-naming : (w n : ℕ) (i : Instruction) → Back w i → Back w (namingOf n i)
-unfolding restored instructionShape
-naming w n i p = by-test (ltb n 16) (λ t. rw t p) (λ t. rw t refl)
+  abbrev fixedOf : Instruction → ℕ
+  fixedOf i = getD fixedBits (rowOf i) 0
 
-module _ (w : ℕ) (h : w < 2 ^ 32) where
-  -- an operand that is a number of its own, and not a field of the word
-  formatC : (x n : ℕ) → upper12 w ≡ n → x ≡ opcode w + funct3 w * 2 ^ 12 → wrap (x + placeI (rdOf w) (rs1Of w) n) ≡ w
-  formatC x n e f = ap (λ (m : ℕ). wrap (x + placeI (rdOf w) (rs1Of w) m)) (sym e) ∙ formatN w h x f
+  -- it has a row, of format f, and its fixed bits are x
+  abbrev stands : Instruction → (f x : ℕ) → Bool
+  stands i f x = isLegal i && (ltb (rowOf i) rowCount && (eqb (getD formats (rowOf i) 0) f && eqb (fixedOf i) x))
 
-  formatQ : (x n : ℕ) → rs2Of w ≡ n → x ≡ opcode w + funct3 w * 2 ^ 12 + funct7 w * 2 ^ 25 → wrap (x + placeR (rdOf w) (rs1Of w) n) ≡ w
-  formatQ x n e f = ap (λ (m : ℕ). wrap (x + placeR (rdOf w) (rs1Of w) m)) (sym e) ∙ formatR w h x f
+  good : (i : Instruction) (f x : ℕ) (s : Shape) → instructionShape w i ≡ s → stands i f x ≡ true → Fit s
+      → (w < 2 ^ 32 → fixedOf i ≡ x → wrap (getD fixedBits (s .row) 0 + placeOf f (s .a) (s .b) (s .c)) ≡ w) → Good w w i
+  good i f x s e t p g =
+      let b = eqb (getD formats (rowOf i) 0) f in
+      let u = both (isLegal i) (ltb (rowOf i) rowCount && (b && eqb (fixedOf i) x)) t in
+      let v = both (ltb (rowOf i) rowCount) (b && eqb (fixedOf i) x) (u .1) in
+      let y = both b (eqb (fixedOf i) x) (v .1) in
+      record {
+        again = λ h. made w (instructionShape w i) f (v .0) (eqb-true (getD formats (rowOf i) 0) f (y .0)) (rw e (g h (eqb-true (fixedOf i) x (y .1))));
+        legal = v .0 ∙ sym (u .0);
+        fit = rw e p;
+      }
 
-  load : opcode w ≡ 0x03 → Back w (loadOf (funct3 w) (rdOf w) (rs1Of w) (immediateI w))
-  unfolding restored instructionShape encodeOf placeOf fixedBits formats loadOf memoryShape
-  load o =
-      naming w (rdOf w) _ (
-      naming w (rs1Of w) _ (
-      (tested (Back w) (funct3 w) 0 _ _ (λ e. formatI w h 0x3 (omega arith)) (λ n.
-      (tested (Back w) (funct3 w) 1 _ _ (λ e. formatI w h 0x1003 (omega arith)) (λ n.
-      (tested (Back w) (funct3 w) 2 _ _ (λ e. formatI w h 0x2003 (omega arith)) (λ n.
-      (tested (Back w) (funct3 w) 3 _ _ (λ e. formatI w h 0x3003 (omega arith)) (λ n.
-      (tested (Back w) (funct3 w) 4 _ _ (λ e. formatI w h 0x4003 (omega arith)) (λ n.
-      (tested (Back w) (funct3 w) 5 _ _ (λ e. formatI w h 0x5003 (omega arith)) (λ n.
-      (refl)))))))))))))))
+  wordI : immediateI w < 2 ^ 32
+  unfolding immediateI
+  wordI = sign-extend-word (upper12 w) 12 (omega arith)
 
-  store : opcode w ≡ 0x23 → Back w (storeOf (funct3 w) (rs1Of w) (rs2Of w) (immediateS w))
-  unfolding restored instructionShape encodeOf placeOf fixedBits formats storeOf memoryShape
-  store o =
-      naming w (rs1Of w) _ (
-      naming w (rs2Of w) _ (
-      (tested (Back w) (funct3 w) 0 _ _ (λ e. formatS w h 0x23 (omega arith)) (λ n.
-      (tested (Back w) (funct3 w) 1 _ _ (λ e. formatS w h 0x1023 (omega arith)) (λ n.
-      (tested (Back w) (funct3 w) 2 _ _ (λ e. formatS w h 0x2023 (omega arith)) (λ n.
-      (tested (Back w) (funct3 w) 3 _ _ (λ e. formatS w h 0x3023 (omega arith)) (λ n.
-      (refl)))))))))))
+  wordS : immediateS w < 2 ^ 32
+  unfolding immediateS
+  wordS = sign-extend-word (funct7 w * 2 ^ 5 + rdOf w) 12 (omega arith)
 
-  branch : opcode w ≡ 0x63 → Back w (branchOf (funct3 w) (rs1Of w) (rs2Of w) (immediateB w))
-  unfolding restored instructionShape encodeOf placeOf fixedBits formats branchOf jumpShape
-  branch o =
-      naming w (rs1Of w) _ (
-      naming w (rs2Of w) _ (
-      (tested (Back w) (funct3 w) 0 _ _ (λ e. formatB w h 0x63 (omega arith)) (λ n.
-      (tested (Back w) (funct3 w) 1 _ _ (λ e. formatB w h 0x1063 (omega arith)) (λ n.
-      (tested (Back w) (funct3 w) 4 _ _ (λ e. formatB w h 0x4063 (omega arith)) (λ n.
-      (tested (Back w) (funct3 w) 5 _ _ (λ e. formatB w h 0x5063 (omega arith)) (λ n.
-      (tested (Back w) (funct3 w) 6 _ _ (λ e. formatB w h 0x6063 (omega arith)) (λ n.
-      (tested (Back w) (funct3 w) 7 _ _ (λ e. formatB w h 0x7063 (omega arith)) (λ n.
-      (refl)))))))))))))))
+  wordB : immediateB w < 2 ^ 32
+  unfolding immediateB
+  wordB = sign-extend-word (w / 2 ^ 31 % 2 * 2 ^ 12 + w / 2 ^ 7 % 2 * 2 ^ 11 + w / 2 ^ 25 % 2 ^ 6 * 2 ^ 5 + w / 2 ^ 8 % 2 ^ 4 * 2) 13 (omega arith)
 
-  jalr : opcode w ≡ 0x67 → Back w (jalrOf (funct3 w) (rdOf w) (rs1Of w) (immediateI w))
-  unfolding restored instructionShape encodeOf placeOf fixedBits formats jalrOf jumpShape
-  jalr o =
-      naming w (rdOf w) _ (
-      naming w (rs1Of w) _ (
-      (tested (Back w) (funct3 w) 0 _ _ (λ e. formatI w h 0x67 (omega arith)) (λ n.
-      (refl)))))
+  wordJ : immediateJ w < 2 ^ 32
+  unfolding immediateJ
+  wordJ = sign-extend-word (w / 2 ^ 31 % 2 * 2 ^ 20 + w / 2 ^ 12 % 2 ^ 8 * 2 ^ 12 + w / 2 ^ 20 % 2 * 2 ^ 11 + w / 2 ^ 21 % 2 ^ 10 * 2) 21 (omega arith)
 
-  lui : opcode w ≡ 0x37 → Back w (luiOf (rdOf w) (immediateU w))
-  unfolding restored instructionShape encodeOf placeOf fixedBits formats luiOf integerShape
-  lui o =
-      naming w (rdOf w) _ (
-      (formatU w h 0x37 (omega arith)))
+  wordU : upperOf w < 2 ^ 32
+  wordU = sign-extend-word (w / 2 ^ 12 % 2 ^ 20) 20 (omega arith)
 
-  auipcc : opcode w ≡ 0x17 → Back w (auipccOf (rdOf w) (offsetAui w))
-  unfolding restored instructionShape encodeOf placeOf fixedBits formats auipccOf capabilityShape
-  auipcc o =
-      naming w (rdOf w) _ (
-      (formatU w h 0x17 (omega arith)))
+  -- the formats: what is listed of i, its format, and its fixed bits
+  module _ (i : Instruction) where
+    abbrev Three : (a b c : ℕ) → Type 0
+    Three a b c = instructionShape w i ≡ three (rowOf i) a b c
 
-  auicgp : opcode w ≡ 0x7b → Back w (auicgpOf (rdOf w) (offsetAui w))
-  unfolding restored instructionShape encodeOf placeOf fixedBits formats auicgpOf capabilityShape
-  auicgp o =
-      naming w (rdOf w) _ (
-      (formatU w h 0x7b (omega arith)))
+    abbrev Two : (b c : ℕ) → Type 0
+    Two b c = instructionShape w i ≡ two (rowOf i) b c
 
-  jal : opcode w ≡ 0x6f → Back w (jalOf (rdOf w) (immediateJ w))
-  unfolding restored instructionShape encodeOf placeOf fixedBits formats jalOf jumpShape
-  jal o =
-      naming w (rdOf w) _ (
-      (formatJ w h 0x6f (omega arith)))
+    rowR : Three (rdOf w) (rs1Of w) (rs2Of w) → stands i 0 (opcode (fixedOf i) + funct3 (fixedOf i) * 2 ^ 12 + funct7 (fixedOf i) * 2 ^ 25) ≡ true → opcode w ≡ opcode (fixedOf i) → funct3 w ≡ funct3 (fixedOf i) → funct7 w ≡ funct7 (fixedOf i)
+        → Good w w i
+    unfolding placeOf
+    rowR s t o p q =
+        good i 0 _ _ s t (fit3 (rowOf i) (rdOf w) (rs1Of w) (rs2Of w) (omega arith) (omega arith) (omega arith))
+        (λ h e. formatR w h (fixedOf i) (omega arith))
 
-  shiftLeft : opcode w ≡ 0x13 → funct3 w ≡ 1 → Back w (shiftLeftOf (funct7 w) (rdOf w) (rs1Of w) (rs2Of w))
-  unfolding restored instructionShape encodeOf placeOf fixedBits formats shiftLeftOf integerShape
-  shiftLeft o f =
-      (tested (Back w) (funct7 w) 0 _ _ (λ e. formatR w h 0x1013 (omega arith)) (λ n.
-      (refl)))
+    rowP : Two (rdOf w) (rs1Of w) → stands i 6 (opcode (fixedOf i) + funct3 (fixedOf i) * 2 ^ 12 + rs2Of (fixedOf i) * 2 ^ 20 + funct7 (fixedOf i) * 2 ^ 25) ≡ true → opcode w ≡ opcode (fixedOf i) → funct3 w ≡ funct3 (fixedOf i) → rs2Of w ≡ rs2Of (fixedOf i) → funct7 w ≡ funct7 (fixedOf i)
+        → Good w w i
+    unfolding placeOf
+    rowP s t o p q r =
+        good i 6 _ _ s t (fit2 (rowOf i) (rdOf w) (rs1Of w) (omega arith) (omega arith))
+        (λ h e. formatP w h (fixedOf i) (omega arith))
 
-  shiftRight : opcode w ≡ 0x13 → funct3 w ≡ 5 → Back w (shiftRightOf (funct7 w) (rdOf w) (rs1Of w) (rs2Of w))
-  unfolding restored instructionShape encodeOf placeOf fixedBits formats shiftRightOf integerShape
-  shiftRight o f =
-      (tested (Back w) (funct7 w) 0 _ _ (λ e. formatR w h 0x5013 (omega arith)) (λ n.
-      (tested (Back w) (funct7 w) 0x20 _ _ (λ e. formatR w h 0x40005013 (omega arith)) (λ n.
-      (refl)))))
+    rowN : Three (rdOf w) (rs1Of w) (upper12 w) → stands i 1 (opcode (fixedOf i) + funct3 (fixedOf i) * 2 ^ 12) ≡ true → opcode w ≡ opcode (fixedOf i) → funct3 w ≡ funct3 (fixedOf i)
+        → Good w w i
+    unfolding placeOf
+    rowN s t o p =
+        good i 1 _ _ s t (fit3 (rowOf i) (rdOf w) (rs1Of w) (upper12 w) (omega arith) (omega arith) (omega arith))
+        (λ h e. formatN w h (fixedOf i) (omega arith))
 
-  aluImmediate : opcode w ≡ 0x13 → (funct3 w ≡ 1 → ⊥) → (funct3 w ≡ 5 → ⊥) → Back w (Integer (OpImm (aluOf (funct3 w)) (rdOf w) (rs1Of w) (immediateI w)))
-  unfolding restored instructionShape encodeOf placeOf fixedBits formats aluOf integerShape
+    rowI : Three (rdOf w) (rs1Of w) (immediateI w) → stands i 1 (opcode (fixedOf i) + funct3 (fixedOf i) * 2 ^ 12) ≡ true → opcode w ≡ opcode (fixedOf i) → funct3 w ≡ funct3 (fixedOf i)
+        → Good w w i
+    unfolding placeOf
+    rowI s t o p =
+        good i 1 _ _ s t (fit3 (rowOf i) (rdOf w) (rs1Of w) (immediateI w) (omega arith) (omega arith) wordI)
+        (λ h e. formatI w h (fixedOf i) (omega arith))
+
+    rowS : Three (rs1Of w) (rs2Of w) (immediateS w) → stands i 2 (opcode (fixedOf i) + funct3 (fixedOf i) * 2 ^ 12) ≡ true → opcode w ≡ opcode (fixedOf i) → funct3 w ≡ funct3 (fixedOf i)
+        → Good w w i
+    unfolding placeOf
+    rowS s t o p =
+        good i 2 _ _ s t (fit3 (rowOf i) (rs1Of w) (rs2Of w) (immediateS w) (omega arith) (omega arith) wordS)
+        (λ h e. formatS w h (fixedOf i) (omega arith))
+
+    rowB : Three (rs1Of w) (rs2Of w) (immediateB w) → stands i 3 (opcode (fixedOf i) + funct3 (fixedOf i) * 2 ^ 12) ≡ true → opcode w ≡ opcode (fixedOf i) → funct3 w ≡ funct3 (fixedOf i)
+        → Good w w i
+    unfolding placeOf
+    rowB s t o p =
+        good i 3 _ _ s t (fit3 (rowOf i) (rs1Of w) (rs2Of w) (immediateB w) (omega arith) (omega arith) wordB)
+        (λ h e. formatB w h (fixedOf i) (omega arith))
+
+    rowU : Two (rdOf w) (upperOf w) → stands i 4 (opcode (fixedOf i)) ≡ true → opcode w ≡ opcode (fixedOf i)
+        → Good w w i
+    unfolding placeOf
+    rowU s t o =
+        good i 4 _ _ s t (fit2 (rowOf i) (rdOf w) (upperOf w) (omega arith) wordU)
+        (λ h e. formatU w h (fixedOf i) (omega arith))
+
+    rowJ : Two (rdOf w) (immediateJ w) → stands i 5 (opcode (fixedOf i)) ≡ true → opcode w ≡ opcode (fixedOf i)
+        → Good w w i
+    unfolding placeOf
+    rowJ s t o =
+        good i 5 _ _ s t (fit2 (rowOf i) (rdOf w) (immediateJ w) (omega arith) wordJ)
+        (λ h e. formatJ w h (fixedOf i) (omega arith))
+
+    -- the whole word is fixed
+    rowW : instructionShape w i ≡ bare (rowOf i) → stands i 8 (fixedOf i) ≡ true → w ≡ fixedOf i → Good w w i
+    unfolding placeOf
+    rowW s t o = good i 8 _ _ s t (fit0 (rowOf i)) (λ h e. omega arith)
+
+    -- an operand that is a number of its own, and not a field of the word: of a CSR, before or after the source; of a special register
+    rowC : Three (rdOf w) (rs1Of w) (instructionShape w i .c) → stands i 1 (opcode (fixedOf i) + funct3 (fixedOf i) * 2 ^ 12) ≡ true → upper12 w ≡ instructionShape w i .c → opcode w ≡ opcode (fixedOf i) → funct3 w ≡ funct3 (fixedOf i)
+        → Good w w i
+    unfolding placeOf
+    rowC s t n o p =
+        good i 1 _ _ s t (fit3 (rowOf i) (rdOf w) (rs1Of w) _ (omega arith) (omega arith) (omega arith))
+        (λ h e. ap (λ (m : ℕ). wrap (fixedOf i + placeI (rdOf w) (rs1Of w) m)) (sym n) ∙ formatN w h (fixedOf i) (omega arith))
+
+    rowV : Three (rdOf w) (instructionShape w i .b) (rs1Of w) → stands i 7 (opcode (fixedOf i) + funct3 (fixedOf i) * 2 ^ 12) ≡ true → upper12 w ≡ instructionShape w i .b → opcode w ≡ opcode (fixedOf i) → funct3 w ≡ funct3 (fixedOf i)
+        → Good w w i
+    unfolding placeOf
+    rowV s t n o p =
+        good i 7 _ _ s t (fit3 (rowOf i) (rdOf w) _ (rs1Of w) (omega arith) (omega arith) (omega arith))
+        (λ h e. ap (λ (m : ℕ). wrap (fixedOf i + placeI (rdOf w) (rs1Of w) m)) (sym n) ∙ formatN w h (fixedOf i) (omega arith))
+
+    rowQ : Three (rdOf w) (rs1Of w) (instructionShape w i .c) → stands i 0 (opcode (fixedOf i) + funct3 (fixedOf i) * 2 ^ 12 + funct7 (fixedOf i) * 2 ^ 25) ≡ true → rs2Of w ≡ instructionShape w i .c → opcode w ≡ opcode (fixedOf i) → funct3 w ≡ funct3 (fixedOf i) → funct7 w ≡ funct7 (fixedOf i)
+        → Good w w i
+    unfolding placeOf
+    rowQ s t n o p q =
+        good i 0 _ _ s t (fit3 (rowOf i) (rdOf w) (rs1Of w) _ (omega arith) (omega arith) (omega arith))
+        (λ h e. ap (λ (m : ℕ). wrap (fixedOf i + placeR (rdOf w) (rs1Of w) m)) (sym n) ∙ formatR w h (fixedOf i) (omega arith))
+
+  none : Good w w Illegal
+  unfolding restored instructionShape isLegal
+  none = record { again = λ h. refl; legal = refl; fit = fit0 255 }
+
+  naming : (n : ℕ) (i : Instruction) → Good w w i → Good w w (namingOf n i)
+  naming n i p = by-test (ltb n 16) (λ t. rw t p) (λ t. rw t none)
+
+  test : (x k : ℕ) (i j : Instruction) → (x ≡ k → Good w w i) → Good w w j → Good w w (cond (eqb x k) i j)
+  test x k i j f g = by-test (eqb x k) (λ t. rw t (f (eqb-true x k t))) (λ t. rw t g)
+
+  -- the decoder's tests, to a depth that leaves room for more
+  load : opcode w ≡ 0x03 → Good w w (loadOf (funct3 w) (rdOf w) (rs1Of w) (immediateI w))
+  unfolding loadOf instructionShape memoryShape isLegal fixedBits formats
+  load o = search (naming, test, none, rowI) depth 40
+
+  store : opcode w ≡ 0x23 → Good w w (storeOf (funct3 w) (rs1Of w) (rs2Of w) (immediateS w))
+  unfolding storeOf instructionShape memoryShape isLegal fixedBits formats
+  store o = search (naming, test, none, rowS) depth 40
+
+  branch : opcode w ≡ 0x63 → Good w w (branchOf (funct3 w) (rs1Of w) (rs2Of w) (immediateB w))
+  unfolding branchOf instructionShape jumpShape isLegal fixedBits formats
+  branch o = search (naming, test, none, rowB) depth 40
+
+  jalr : opcode w ≡ 0x67 → Good w w (jalrOf (funct3 w) (rdOf w) (rs1Of w) (immediateI w))
+  unfolding jalrOf instructionShape jumpShape isLegal fixedBits formats
+  jalr o = search (naming, test, none, rowI) depth 40
+
+  lui : opcode w ≡ 0x37 → Good w w (luiOf (rdOf w) (immediateU w))
+  unfolding luiOf instructionShape integerShape isLegal fixedBits formats
+  lui o = search (naming, rowU) depth 40
+
+  auipcc : opcode w ≡ 0x17 → Good w w (auipccOf (rdOf w) (offsetAui w))
+  unfolding auipccOf instructionShape capabilityShape isLegal fixedBits formats
+  auipcc o = search (naming, rowU) depth 40
+
+  auicgp : opcode w ≡ 0x7b → Good w w (auicgpOf (rdOf w) (offsetAui w))
+  unfolding auicgpOf instructionShape capabilityShape isLegal fixedBits formats
+  auicgp o = search (naming, rowU) depth 40
+
+  jal : opcode w ≡ 0x6f → Good w w (jalOf (rdOf w) (immediateJ w))
+  unfolding jalOf instructionShape jumpShape isLegal fixedBits formats
+  jal o = search (naming, rowJ) depth 40
+
+  aluImmediate : opcode w ≡ 0x13 → (funct3 w ≡ 1 → ⊥) → (funct3 w ≡ 5 → ⊥) → Good w w (Integer (OpImm (aluOf (funct3 w)) (rdOf w) (rs1Of w) (immediateI w)))
+  unfolding aluOf instructionShape integerShape isLegal fixedBits formats
   aluImmediate o p q =
-      (tested (λ (a : Alu). Back w (Integer (OpImm a (rdOf w) (rs1Of w) (immediateI w)))) (funct3 w) 0 _ _ (λ e. formatI w h 0x13 (omega arith)) (λ n₀.
-      (tested (λ (a : Alu). Back w (Integer (OpImm a (rdOf w) (rs1Of w) (immediateI w)))) (funct3 w) 1 _ _ (λ e. absurd (p e)) (λ n₁.
-      (tested (λ (a : Alu). Back w (Integer (OpImm a (rdOf w) (rs1Of w) (immediateI w)))) (funct3 w) 2 _ _ (λ e. formatI w h 0x2013 (omega arith)) (λ n₂.
-      (tested (λ (a : Alu). Back w (Integer (OpImm a (rdOf w) (rs1Of w) (immediateI w)))) (funct3 w) 3 _ _ (λ e. formatI w h 0x3013 (omega arith)) (λ n₃.
-      (tested (λ (a : Alu). Back w (Integer (OpImm a (rdOf w) (rs1Of w) (immediateI w)))) (funct3 w) 4 _ _ (λ e. formatI w h 0x4013 (omega arith)) (λ n₄.
-      (tested (λ (a : Alu). Back w (Integer (OpImm a (rdOf w) (rs1Of w) (immediateI w)))) (funct3 w) 5 _ _ (λ e. absurd (q e)) (λ n₅.
-      (tested (λ (a : Alu). Back w (Integer (OpImm a (rdOf w) (rs1Of w) (immediateI w)))) (funct3 w) 6 _ _ (λ e. formatI w h 0x6013 (omega arith)) (λ n₆.
-      (formatI w h 0x7013 (lastI 0x7013 (opcode w) (funct3 w) o (last (funct3 w) (below-eight w) (four (funct3 w) n₀ n₁ n₂ n₃) n₄ n₅ n₆) refl))))))))))))))))
+      let Q : Alu → Type 0 = λ a. Good w w (Integer (OpImm a (rdOf w) (rs1Of w) (immediateI w))) in
+      (tested Q (funct3 w) 0 _ _ (λ e. rowI _ refl refl o e) (λ n₀.
+      (tested Q (funct3 w) 1 _ _ (λ e. absurd (p e)) (λ n₁.
+      (tested Q (funct3 w) 2 _ _ (λ e. rowI _ refl refl o e) (λ n₂.
+      (tested Q (funct3 w) 3 _ _ (λ e. rowI _ refl refl o e) (λ n₃.
+      (tested Q (funct3 w) 4 _ _ (λ e. rowI _ refl refl o e) (λ n₄.
+      (tested Q (funct3 w) 5 _ _ (λ e. absurd (q e)) (λ n₅.
+      (tested Q (funct3 w) 6 _ _ (λ e. rowI _ refl refl o e) (λ n₆.
+      (rowI _ refl refl o (seven w (four (funct3 w) n₀ n₁ n₂ n₃) n₄ n₅ n₆))))))))))))))))
 
-  opImm : opcode w ≡ 0x13 → Back w (opImmOf (funct3 w) (funct7 w) (rdOf w) (rs1Of w) (rs2Of w) (immediateI w))
-  unfolding restored instructionShape encodeOf placeOf fixedBits formats opImmOf integerShape
+  opImm : opcode w ≡ 0x13 → Good w w (opImmOf (funct3 w) (funct7 w) (rdOf w) (rs1Of w) (rs2Of w) (immediateI w))
+  unfolding opImmOf shiftLeftOf shiftRightOf instructionShape integerShape isLegal fixedBits formats
   opImm o =
-      naming w (rdOf w) _ (
-      naming w (rs1Of w) _ (
-      (tested (Back w) (funct3 w) 1 _ _ (λ e. shiftLeft o e) (λ n. tested (Back w) (funct3 w) 5 _ _ (λ e. shiftRight o e) (λ m. aluImmediate o n m)))))
+      naming (rdOf w) _ (naming (rs1Of w) _ (
+      (tested (Good w w) (funct3 w) 1 _ _ (λ e. search (test, none, rowR)) (λ n.
+      (tested (Good w w) (funct3 w) 5 _ _ (λ e. search (test, none, rowR)) (λ m.
+      aluImmediate o n m))))))
 
-  alu : opcode w ≡ 0x33 → funct7 w ≡ 0 → Back w (Integer (Op (aluOf (funct3 w)) (rdOf w) (rs1Of w) (rs2Of w)))
-  unfolding restored instructionShape encodeOf placeOf fixedBits formats aluOf integerShape
+  alu : opcode w ≡ 0x33 → funct7 w ≡ 0 → Good w w (Integer (Op (aluOf (funct3 w)) (rdOf w) (rs1Of w) (rs2Of w)))
+  unfolding aluOf instructionShape integerShape isLegal fixedBits formats
   alu o f =
-      (tested (λ (a : Alu). Back w (Integer (Op a (rdOf w) (rs1Of w) (rs2Of w)))) (funct3 w) 0 _ _ (λ e. formatR w h 0x33 (omega arith)) (λ n₀.
-      (tested (λ (a : Alu). Back w (Integer (Op a (rdOf w) (rs1Of w) (rs2Of w)))) (funct3 w) 1 _ _ (λ e. formatR w h 0x1033 (omega arith)) (λ n₁.
-      (tested (λ (a : Alu). Back w (Integer (Op a (rdOf w) (rs1Of w) (rs2Of w)))) (funct3 w) 2 _ _ (λ e. formatR w h 0x2033 (omega arith)) (λ n₂.
-      (tested (λ (a : Alu). Back w (Integer (Op a (rdOf w) (rs1Of w) (rs2Of w)))) (funct3 w) 3 _ _ (λ e. formatR w h 0x3033 (omega arith)) (λ n₃.
-      (tested (λ (a : Alu). Back w (Integer (Op a (rdOf w) (rs1Of w) (rs2Of w)))) (funct3 w) 4 _ _ (λ e. formatR w h 0x4033 (omega arith)) (λ n₄.
-      (tested (λ (a : Alu). Back w (Integer (Op a (rdOf w) (rs1Of w) (rs2Of w)))) (funct3 w) 5 _ _ (λ e. formatR w h 0x5033 (omega arith)) (λ n₅.
-      (tested (λ (a : Alu). Back w (Integer (Op a (rdOf w) (rs1Of w) (rs2Of w)))) (funct3 w) 6 _ _ (λ e. formatR w h 0x6033 (omega arith)) (λ n₆.
-      (formatR w h 0x7033 (lastR 0x7033 (opcode w) (funct3 w) (funct7 w) 0 o (last (funct3 w) (below-eight w) (four (funct3 w) n₀ n₁ n₂ n₃) n₄ n₅ n₆) f
-      refl))))))))))))))))
+      let Q : Alu → Type 0 = λ a. Good w w (Integer (Op a (rdOf w) (rs1Of w) (rs2Of w))) in
+      (tested Q (funct3 w) 0 _ _ (λ e. rowR _ refl refl o e f) (λ n₀.
+      (tested Q (funct3 w) 1 _ _ (λ e. rowR _ refl refl o e f) (λ n₁.
+      (tested Q (funct3 w) 2 _ _ (λ e. rowR _ refl refl o e f) (λ n₂.
+      (tested Q (funct3 w) 3 _ _ (λ e. rowR _ refl refl o e f) (λ n₃.
+      (tested Q (funct3 w) 4 _ _ (λ e. rowR _ refl refl o e f) (λ n₄.
+      (tested Q (funct3 w) 5 _ _ (λ e. rowR _ refl refl o e f) (λ n₅.
+      (tested Q (funct3 w) 6 _ _ (λ e. rowR _ refl refl o e f) (λ n₆.
+      (rowR _ refl refl o (seven w (four (funct3 w) n₀ n₁ n₂ n₃) n₄ n₅ n₆) f)))))))))))))))
 
-  op32 : opcode w ≡ 0x33 → funct7 w ≡ 0x20 → Back w (op32Of (funct3 w) (rdOf w) (rs1Of w) (rs2Of w))
-  unfolding restored instructionShape encodeOf placeOf fixedBits formats op32Of integerShape
-  op32 o f =
-      (tested (Back w) (funct3 w) 0 _ _ (λ e. formatR w h 0x40000033 (omega arith)) (λ n.
-      (tested (Back w) (funct3 w) 5 _ _ (λ e. formatR w h 0x40005033 (omega arith)) (λ n.
-      (refl)))))
-
-  multiply : opcode w ≡ 0x33 → funct7 w ≡ 1 → Back w (multiplyOf (funct3 w) (rdOf w) (rs1Of w) (rs2Of w))
-  unfolding restored instructionShape encodeOf placeOf fixedBits formats multiplyOf integerShape
+  multiply : opcode w ≡ 0x33 → funct7 w ≡ 1 → Good w w (multiplyOf (funct3 w) (rdOf w) (rs1Of w) (rs2Of w))
+  unfolding multiplyOf instructionShape integerShape isLegal fixedBits formats
   multiply o f =
-      (tested (Back w) (funct3 w) 0 _ _ (λ e. formatR w h 0x2000033 (omega arith)) (λ n₀.
-      (tested (Back w) (funct3 w) 1 _ _ (λ e. formatR w h 0x2001033 (omega arith)) (λ n₁.
-      (tested (Back w) (funct3 w) 2 _ _ (λ e. formatR w h 0x2002033 (omega arith)) (λ n₂.
-      (tested (Back w) (funct3 w) 3 _ _ (λ e. formatR w h 0x2003033 (omega arith)) (λ n₃.
-      (tested (Back w) (funct3 w) 4 _ _ (λ e. formatR w h 0x2004033 (omega arith)) (λ n₄.
-      (tested (Back w) (funct3 w) 5 _ _ (λ e. formatR w h 0x2005033 (omega arith)) (λ n₅.
-      (tested (Back w) (funct3 w) 6 _ _ (λ e. formatR w h 0x2006033 (omega arith)) (λ n₆.
-      (formatR w h 0x2007033 (lastR 0x2007033 (opcode w) (funct3 w) (funct7 w) 1 o (last (funct3 w) (below-eight w) (four (funct3 w) n₀ n₁ n₂ n₃) n₄ n₅ n₆)
-      f refl))))))))))))))))
+      (tested (Good w w) (funct3 w) 0 _ _ (λ e. rowR _ refl refl o e f) (λ n₀.
+      (tested (Good w w) (funct3 w) 1 _ _ (λ e. rowR _ refl refl o e f) (λ n₁.
+      (tested (Good w w) (funct3 w) 2 _ _ (λ e. rowR _ refl refl o e f) (λ n₂.
+      (tested (Good w w) (funct3 w) 3 _ _ (λ e. rowR _ refl refl o e f) (λ n₃.
+      (tested (Good w w) (funct3 w) 4 _ _ (λ e. rowR _ refl refl o e f) (λ n₄.
+      (tested (Good w w) (funct3 w) 5 _ _ (λ e. rowR _ refl refl o e f) (λ n₅.
+      (tested (Good w w) (funct3 w) 6 _ _ (λ e. rowR _ refl refl o e f) (λ n₆.
+      (rowR _ refl refl o (seven w (four (funct3 w) n₀ n₁ n₂ n₃) n₄ n₅ n₆) f)))))))))))))))
 
-  op : opcode w ≡ 0x33 → Back w (opOf (funct3 w) (funct7 w) (rdOf w) (rs1Of w) (rs2Of w))
-  unfolding restored instructionShape encodeOf placeOf fixedBits formats opOf opByOf
-  op o =
-      naming w (rdOf w) _ (
-      naming w (rs1Of w) _ (
-      naming w (rs2Of w) _ (
-      (tested (Back w) (funct7 w) 0 _ _ (λ e. alu o e) (λ n.
-      (tested (Back w) (funct7 w) 1 _ _ (λ e. multiply o e) (λ n.
-      (tested (Back w) (funct7 w) 0x20 _ _ (λ e. op32 o e) (λ n.
-      (refl))))))))))
+  op : opcode w ≡ 0x33 → Good w w (opOf (funct3 w) (funct7 w) (rdOf w) (rs1Of w) (rs2Of w))
+  unfolding opOf opByOf op32Of instructionShape integerShape isLegal fixedBits formats
+  op o = search (naming, test, none, alu, multiply, rowR) depth 40
 
-  special : opcode w ≡ 0x5b → funct3 w ≡ 0 → funct7 w ≡ 0x01 → Back w (specialOf (rs2Of w) (rdOf w) (rs1Of w))
-  unfolding restored instructionShape encodeOf placeOf fixedBits formats specialOf systemShape
-  special o f g =
-      (tested (Back w) (rs2Of w) 28 _ _ (λ e. formatQ 0x200005b 28 e (omega arith)) (λ n.
-      (tested (Back w) (rs2Of w) 29 _ _ (λ e. formatQ 0x200005b 29 e (omega arith)) (λ n.
-      (tested (Back w) (rs2Of w) 30 _ _ (λ e. formatQ 0x200005b 30 e (omega arith)) (λ n.
-      (tested (Back w) (rs2Of w) 31 _ _ (λ e. formatQ 0x200005b 31 e (omega arith)) (λ n.
-      (refl)))))))))
+  special : opcode w ≡ 0x5b → funct3 w ≡ 0 → funct7 w ≡ 0x01 → Good w w (specialOf (rs2Of w) (rdOf w) (rs1Of w))
+  unfolding specialOf instructionShape systemShape isLegal fixedBits formats
+  special o p q = search (test, none, rowQ) depth 40
 
-  sourceDest : opcode w ≡ 0x5b → funct3 w ≡ 0 → funct7 w ≡ 0x7f → Back w (sourceDestOf (rs2Of w) (rdOf w) (rs1Of w))
-  unfolding restored instructionShape encodeOf placeOf fixedBits formats sourceDestOf capabilityShape
-  sourceDest o f g =
-      (tested (Back w) (rs2Of w) 0x0 _ _ (λ e. formatP w h 0xfe00005b (omega arith)) (λ n.
-      (tested (Back w) (rs2Of w) 0x1 _ _ (λ e. formatP w h 0xfe10005b (omega arith)) (λ n.
-      (tested (Back w) (rs2Of w) 0x2 _ _ (λ e. formatP w h 0xfe20005b (omega arith)) (λ n.
-      (tested (Back w) (rs2Of w) 0x3 _ _ (λ e. formatP w h 0xfe30005b (omega arith)) (λ n.
-      (tested (Back w) (rs2Of w) 0x4 _ _ (λ e. formatP w h 0xfe40005b (omega arith)) (λ n.
-      (tested (Back w) (rs2Of w) 0x8 _ _ (λ e. formatP w h 0xfe80005b (omega arith)) (λ n.
-      (tested (Back w) (rs2Of w) 0x9 _ _ (λ e. formatP w h 0xfe90005b (omega arith)) (λ n.
-      (tested (Back w) (rs2Of w) 0xa _ _ (λ e. formatP w h 0xfea0005b (omega arith)) (λ n.
-      (tested (Back w) (rs2Of w) 0xb _ _ (λ e. formatP w h 0xfeb0005b (omega arith)) (λ n.
-      (tested (Back w) (rs2Of w) 0xf _ _ (λ e. formatP w h 0xfef0005b (omega arith)) (λ n.
-      (tested (Back w) (rs2Of w) 0x17 _ _ (λ e. formatP w h 0xff70005b (omega arith)) (λ n.
-      (tested (Back w) (rs2Of w) 0x18 _ _ (λ e. formatP w h 0xff80005b (omega arith)) (λ n.
-      (refl)))))))))))))))))))))))))
+  sourceDest : opcode w ≡ 0x5b → funct3 w ≡ 0 → funct7 w ≡ 0x7f → Good w w (sourceDestOf (rs2Of w) (rdOf w) (rs1Of w))
+  unfolding sourceDestOf instructionShape capabilityShape isLegal fixedBits formats
+  sourceDest o p q = search (test, none, rowP) depth 40
 
-  twoSource : opcode w ≡ 0x5b → funct3 w ≡ 0 → Back w (twoSourceOf (funct7 w) (rdOf w) (rs1Of w) (rs2Of w))
-  unfolding restored instructionShape encodeOf placeOf fixedBits formats twoSourceOf combineOf capabilityShape
-  twoSource o f =
-      (tested (Back w) (funct7 w) 0x01 _ _ (λ e. special o f e) (λ n.
-      (tested (Back w) (funct7 w) 0x8 _ _ (λ e. naming w (rs2Of w) _ (formatR w h 0x1000005b (omega arith))) (λ n.
-      (tested (Back w) (funct7 w) 0x9 _ _ (λ e. naming w (rs2Of w) _ (formatR w h 0x1200005b (omega arith))) (λ n.
-      (tested (Back w) (funct7 w) 0xb _ _ (λ e. naming w (rs2Of w) _ (formatR w h 0x1600005b (omega arith))) (λ n.
-      (tested (Back w) (funct7 w) 0xc _ _ (λ e. naming w (rs2Of w) _ (formatR w h 0x1800005b (omega arith))) (λ n.
-      (tested (Back w) (funct7 w) 0xd _ _ (λ e. naming w (rs2Of w) _ (formatR w h 0x1a00005b (omega arith))) (λ n.
-      (tested (Back w) (funct7 w) 0x10 _ _ (λ e. naming w (rs2Of w) _ (formatR w h 0x2000005b (omega arith))) (λ n.
-      (tested (Back w) (funct7 w) 0x11 _ _ (λ e. naming w (rs2Of w) _ (formatR w h 0x2200005b (omega arith))) (λ n.
-      (tested (Back w) (funct7 w) 0x14 _ _ (λ e. naming w (rs2Of w) _ (formatR w h 0x2800005b (omega arith))) (λ n.
-      (tested (Back w) (funct7 w) 0x16 _ _ (λ e. naming w (rs2Of w) _ (formatR w h 0x2c00005b (omega arith))) (λ n.
-      (tested (Back w) (funct7 w) 0x20 _ _ (λ e. naming w (rs2Of w) _ (formatR w h 0x4000005b (omega arith))) (λ n.
-      (tested (Back w) (funct7 w) 0x21 _ _ (λ e. naming w (rs2Of w) _ (formatR w h 0x4200005b (omega arith))) (λ n.
-      (tested (Back w) (funct7 w) 0x7f _ _ (λ e. sourceDest o f e) (λ n.
-      (refl)))))))))))))))))))))))))))
+  twoSource : opcode w ≡ 0x5b → funct3 w ≡ 0 → Good w w (twoSourceOf (funct7 w) (rdOf w) (rs1Of w) (rs2Of w))
+  unfolding twoSourceOf combineOf instructionShape capabilityShape isLegal fixedBits formats
+  twoSource o p = search (special, sourceDest, naming, test, none, rowR) depth 40
 
-  capability : opcode w ≡ 0x5b → Back w (capabilityOf (funct3 w) (funct7 w) (rdOf w) (rs1Of w) (rs2Of w) (immediateI w) (upper12 w))
-  unfolding restored instructionShape encodeOf placeOf fixedBits formats capabilityOf capabilityShape
-  capability o =
-      naming w (rdOf w) _ (
-      naming w (rs1Of w) _ (
-      (tested (Back w) (funct3 w) 0 _ _ (λ e. twoSource o e) (λ n.
-      (tested (Back w) (funct3 w) 1 _ _ (λ e. formatI w h 0x105b (omega arith)) (λ n.
-      (tested (Back w) (funct3 w) 2 _ _ (λ e. formatN w h 0x205b (omega arith)) (λ n.
-      (refl)))))))))
+  capability : opcode w ≡ 0x5b → Good w w (capabilityOf (funct3 w) (funct7 w) (rdOf w) (rs1Of w) (rs2Of w) (immediateI w) (upper12 w))
+  unfolding capabilityOf instructionShape capabilityShape isLegal fixedBits formats
+  capability o = search (twoSource, naming, test, none, rowI, rowN) depth 40
 
-  whole : Back w (wholeOf w)
-  unfolding restored instructionShape encodeOf placeOf fixedBits formats wholeOf systemShape jumpShape
-  whole =
-      (tested (Back w) w 0x00000073 _ _ (λ e. sym e) (λ n.
-      (tested (Back w) w 0x00100073 _ _ (λ e. sym e) (λ n.
-      (tested (Back w) w 0x10500073 _ _ (λ e. sym e) (λ n.
-      (tested (Back w) w 0x30200073 _ _ (λ e. sym e) (λ n.
-      (refl)))))))))
+  whole : Good w w (wholeOf w)
+  unfolding wholeOf instructionShape systemShape jumpShape isLegal fixedBits formats
+  whole = search (test, none, rowW) depth 40
 
-  csrs : (csr : Csr) → opcode w ≡ 0x73 → upper12 w ≡ csrNumber csr → Back w (csrOf (funct3 w) csr (rdOf w) (rs1Of w))
-  unfolding restored instructionShape encodeOf placeOf fixedBits formats csrOf csrRegisterOf csrImmediateOf systemShape
-  csrs csr o u =
-      (tested (Back w) (funct3 w) 1 _ _ (λ e. naming w (rdOf w) _ (naming w (rs1Of w) _ (formatC 0x1073 (csrNumber csr) u (omega arith)))) (λ n.
-      (tested (Back w) (funct3 w) 2 _ _ (λ e. naming w (rdOf w) _ (naming w (rs1Of w) _ (formatC 0x2073 (csrNumber csr) u (omega arith)))) (λ n.
-      (tested (Back w) (funct3 w) 3 _ _ (λ e. naming w (rdOf w) _ (naming w (rs1Of w) _ (formatC 0x3073 (csrNumber csr) u (omega arith)))) (λ n.
-      (tested (Back w) (funct3 w) 5 _ _ (λ e. naming w (rdOf w) _ (formatC 0x5073 (csrNumber csr) u (omega arith))) (λ n.
-      (tested (Back w) (funct3 w) 6 _ _ (λ e. naming w (rdOf w) _ (formatC 0x6073 (csrNumber csr) u (omega arith))) (λ n.
-      (tested (Back w) (funct3 w) 7 _ _ (λ e. naming w (rdOf w) _ (formatC 0x7073 (csrNumber csr) u (omega arith))) (λ n.
-      (refl)))))))))))))
+  csrs : (csr : Csr) → opcode w ≡ 0x73 → upper12 w ≡ csrNumber csr → Good w w (csrOf (funct3 w) csr (rdOf w) (rs1Of w))
+  unfolding csrOf csrRegisterOf csrImmediateOf instructionShape systemShape isLegal fixedBits formats
+  csrs csr o u = search (naming, test, none, rowC, rowV) depth 40
 
-  system : opcode w ≡ 0x73 → Back w (systemOf w (funct3 w) (upper12 w) (rdOf w) (rs1Of w))
-  unfolding restored instructionShape encodeOf placeOf fixedBits formats systemOf
-  system o =
-      (tested (Back w) (funct3 w) 0 _ _ (λ e. whole) (λ n.
-      (tested (Back w) (upper12 w) 0x300 _ _ (λ e. csrs Mstatus o e) (λ n.
-      (tested (Back w) (upper12 w) 0x342 _ _ (λ e. csrs Mcause o e) (λ n.
-      (tested (Back w) (upper12 w) 0x343 _ _ (λ e. csrs Mtval o e) (λ n.
-      (tested (Back w) (upper12 w) 0xBC1 _ _ (λ e. csrs Mshwm o e) (λ n.
-      (tested (Back w) (upper12 w) 0xBC2 _ _ (λ e. csrs Mshwmb o e) (λ n.
-      (refl)))))))))))))
+  system : opcode w ≡ 0x73 → Good w w (systemOf w (funct3 w) (upper12 w) (rdOf w) (rs1Of w))
+  unfolding systemOf
+  system o = search (whole, csrs, test, none) depth 40
 
   -- FENCE: what does not matter is 0
-  fence : opcode w ≡ 0x0f → restored w (instructionShape w (fenceOf (funct3 w))) ≡ chosen w
-  unfolding restored instructionShape encodeOf placeOf fixedBits formats fenceOf systemShape chosen
+  fence : opcode w ≡ 0x0f → Good w (chosen w) (fenceOf (funct3 w))
+  unfolding fenceOf restored instructionShape encodeOf placeOf fixedBits formats systemShape isLegal chosen
   fence o =
-      tested (λ (i : Instruction). restored w (instructionShape w i) ≡ chosen w) (funct3 w) 0 _ _
-      (λ e. rw (eq-eqb (opcode w) 0x0f o, eq-eqb (funct3 w) 0 e) (omega arith))
-      (λ n. rw (eq-eqb (opcode w) 0x0f o, ne-eqb (funct3 w) 0 n) refl)
+      tested (Good w (chosen w)) (funct3 w) 0 _ _
+      (λ e. record {
+        again = λ h. rw (eq-eqb (opcode w) 0x0f o, eq-eqb (funct3 w) 0 e) (omega arith);
+        legal = refl;
+        fit = fit2 41 (predOf w) (succOf w) (omega arith) (omega arith);
+      })
+      (λ n. record { again = λ h. rw (eq-eqb (opcode w) 0x0f o, ne-eqb (funct3 w) 0 n) refl; legal = refl; fit = fit0 255 })
+
+  no-fence : (opcode w ≡ 0x0f → ⊥) → opcode w ≡ 0x0f → Good w w (fenceOf (funct3 w))
+  no-fence n o = absurd (n o)
 
   unfenced : (opcode w ≡ 0x0f → ⊥) → w ≡ chosen w
   unfolding chosen
   unfenced n = rw (ne-eqb (opcode w) 0x0f n) refl
 
-  abbrev Chosen : Instruction → Type 0
-  Chosen i = restored w (instructionShape w i) ≡ chosen w
-
-  none : (opcode w ≡ 0x0f → ⊥) → Chosen Illegal
-  unfolding restored instructionShape
-  none n = unfenced n
-
-  pub long-again : restored w (instructionShape w (decodeOf w)) ≡ chosen w
+  others : (opcode w ≡ 0x0f → ⊥) → Good w w (decodeOf w)
   unfolding decodeOf
-  long-again =
-      (tested Chosen (opcode w) 0x03 _ _ (λ e. load e ∙ unfenced (λ g. omega arith)) (λ n.
-      (tested Chosen (opcode w) 0x0f _ _ (λ e. fence e) (λ no-fence.
-      (tested Chosen (opcode w) 0x13 _ _ (λ e. opImm e ∙ unfenced (λ g. omega arith)) (λ n.
-      (tested Chosen (opcode w) 0x17 _ _ (λ e. auipcc e ∙ unfenced (λ g. omega arith)) (λ n.
-      (tested Chosen (opcode w) 0x23 _ _ (λ e. store e ∙ unfenced (λ g. omega arith)) (λ n.
-      (tested Chosen (opcode w) 0x33 _ _ (λ e. op e ∙ unfenced (λ g. omega arith)) (λ n.
-      (tested Chosen (opcode w) 0x37 _ _ (λ e. lui e ∙ unfenced (λ g. omega arith)) (λ n.
-      (tested Chosen (opcode w) 0x5b _ _ (λ e. capability e ∙ unfenced (λ g. omega arith)) (λ n.
-      (tested Chosen (opcode w) 0x63 _ _ (λ e. branch e ∙ unfenced (λ g. omega arith)) (λ n.
-      (tested Chosen (opcode w) 0x67 _ _ (λ e. jalr e ∙ unfenced (λ g. omega arith)) (λ n.
-      (tested Chosen (opcode w) 0x6f _ _ (λ e. jal e ∙ unfenced (λ g. omega arith)) (λ n.
-      (tested Chosen (opcode w) 0x73 _ _ (λ e. system e ∙ unfenced (λ g. omega arith)) (λ n.
-      (tested Chosen (opcode w) 0x7b _ _ (λ e. auicgp e ∙ unfenced (λ g. omega arith)) (λ n.
-      (none no-fence)))))))))))))))))))))))))))
+  others n = search (load, no-fence, opImm, auipcc, store, op, lui, capability, branch, jalr, jal, system, auicgp, test, none) depth 40
+
+  decode-fence : opcode w ≡ 0x0f → decodeOf w ≡ fenceOf (funct3 w)
+  unfolding decodeOf
+  decode-fence o = rw o refl
+
+  pub long-good : Good w (chosen w) (decodeOf w)
+  long-good =
+      by-test (eqb (opcode w) 0x0f)
+      (λ t. let o = eqb-true (opcode w) 0x0f t in rw (decode-fence o) (fence o))
+      (λ t. let n = eqb-false (opcode w) 0x0f t in rw (← (unfenced n)) (others n))

@@ -16,7 +16,8 @@ use Rattle.short_forms.specs.Fields.{offsetLoadWord, offsetLoadDouble, offsetSt
 use Rattle.short_forms.specs.Forms.{addi4spnOf, quadrant0, addi16spOf, upperOf, twoOf, arithmeticOf, quadrant1, slliOf, lwspOf, ldspOf, movesOf, addsOf}
 use Rattle.short_forms.specs.Forms.{registersOf, quadrant2, shortOf}
 use Rattle.forms.specs.ShortShapes.{shortShape}
-use Rattle.forms.specs.Encoding.{fixedBits, formats, shortPlaceOf, placeOf, encodeOf, restored}
+use Rattle.forms.specs.Rows.{fixedBits, formats}
+use Rattle.forms.specs.Encoding.{shortPlaceOf, placeOf, encodeOf, restored}
 use Rattle.forms.specs.declared.Shape.{Shape}
 use Rattle.forms.proofs.Fit.{Aligned, Fit, fit0}
 

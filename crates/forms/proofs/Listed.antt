@@ -13,12 +13,13 @@ use Rattle.instructions.specs.declared.SystemInstruction.the-variants.{Fence}
 use Rattle.instructions.specs.declared.Instruction.{Instruction}
 use Rattle.instructions.specs.declared.Instruction.the-variants.{System}
 use Rattle.short_forms.specs.Forms.{shortOf}
-use Rattle.forms.specs.Shapes.{two, predOf, succOf, systemShape, instructionShape}
+use Rattle.forms.specs.Rows.{systemShape, instructionShape}
+use Rattle.forms.specs.Shapes.{two, predOf, succOf}
 use Rattle.forms.specs.ShortShapes.{shortShape, shapeOf, instructionOf, Word}
 use Rattle.forms.specs.Encoding.{placeF, chosen, restored}
 use Rattle.forms.specs.declared.Shape.{Shape}
-use Rattle.forms.proofs.Back.{long-again}
-use Rattle.forms.proofs.Fit.{Fit, long-fit}
+use Rattle.forms.proofs.Back.{long-good}
+use Rattle.forms.proofs.Fit.{Fit}
 use Rattle.forms.proofs.Halves.{half-again, half-fit}
 
 not-fence : (w : ℕ) → (w % 4 ≡ 3 → ⊥) → opcode w ≡ 0x0f → ⊥
@@ -33,14 +34,14 @@ pub listed-again : (w : ℕ) → Word w → restored w (shapeOf w) ≡ chosen w
 unfolding shapeOf
 listed-again w h =
     by-test (eqb (w % 4) 3)
-    (λ t. rw t (long-again w (h .fits)))
+    (λ t. rw t (long-good w .again (h .fits)))
     (λ t.
     let n = eqb-false (w % 4) 3 t in
     rw t (half-again w (h .short n) .1 ∙ short-chosen w n))
 
 pub shape-fit : (w : ℕ) → Fit (shapeOf w)
 unfolding shapeOf
-shape-fit w = by-test (eqb (w % 4) 3) (λ t. rw t (long-fit w)) (λ t. rw t (half-fit w))
+shape-fit w = by-test (eqb (w % 4) 3) (λ t. rw t (long-good w .fit)) (λ t. rw t (half-fit w))
 
 -- FENCE
 decodes-fence : (w : ℕ) → opcode w ≡ 0x0f → funct3 w ≡ 0 → decodeOf w ≡ System Fence

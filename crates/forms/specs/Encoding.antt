@@ -1,38 +1,12 @@
 -- From a row and operands back to the word: the row's fixed bits, and the operands where its format has them.
 use mathlib.Core.Bool.{cond, _&&_}
-use mathlib.Core.List.{List, [], _∷_}
 use Prim.Native.Nat.{ℕ, _+_, _*_, _/_, _%_, _^_}
 use lib.Dec.{eqb, ltb}
 use lib.ListN.{getD}
 use Rattle.words.specs.Words.{wrap}
 use Rattle.instructions.specs.Fields.{opcode, funct3}
-use Rattle.forms.specs.Names.{rowCount}
+use Rattle.forms.specs.Rows.{rowCount, fixedBits, formats}
 use Rattle.forms.specs.declared.Shape.{Shape}
-
-unfoldable pub fixedBits : List ℕ
-fixedBits =
-    0x37 ∷ 0x17 ∷ 0x7b ∷ 0x6f ∷ 0x67 ∷ 0x63 ∷ 0x1063 ∷ 0x4063 ∷ 0x5063 ∷ 0x6063 ∷
-    0x7063 ∷ 0x30200073 ∷ 0x3 ∷ 0x1003 ∷ 0x2003 ∷ 0x4003 ∷ 0x5003 ∷ 0x3003 ∷ 0x23 ∷ 0x1023 ∷
-    0x2023 ∷ 0x3023 ∷ 0x13 ∷ 0x1013 ∷ 0x2013 ∷ 0x3013 ∷ 0x4013 ∷ 0x5013 ∷ 0x40005013 ∷ 0x6013 ∷
-    0x7013 ∷ 0x33 ∷ 0x40000033 ∷ 0x1033 ∷ 0x2033 ∷ 0x3033 ∷ 0x4033 ∷ 0x5033 ∷ 0x40005033 ∷ 0x6033 ∷
-    0x7033 ∷ 0xf ∷ 0x10500073 ∷ 0x73 ∷ 0x100073 ∷ 0x1073 ∷ 0x2073 ∷ 0x3073 ∷ 0x5073 ∷ 0x6073 ∷
-    0x7073 ∷ 0x200005b ∷ 0x105b ∷ 0x205b ∷ 0xfea0005b ∷ 0xfeb0005b ∷ 0xfe00005b ∷ 0xfe10005b ∷ 0xfe20005b ∷ 0xfe30005b ∷
-    0xfe40005b ∷ 0xfe80005b ∷ 0xfe90005b ∷ 0xfef0005b ∷ 0xff70005b ∷ 0xff80005b ∷ 0x1000005b ∷ 0x1200005b ∷ 0x1600005b ∷ 0x1800005b ∷
-    0x1a00005b ∷ 0x2000005b ∷ 0x2200005b ∷ 0x2800005b ∷ 0x2c00005b ∷ 0x4000005b ∷ 0x4200005b ∷ 0x2000033 ∷ 0x2001033 ∷ 0x2002033 ∷
-    0x2003033 ∷ 0x2004033 ∷ 0x2005033 ∷ 0x2006033 ∷ 0x2007033 ∷ 0x0 ∷ 0x4000 ∷ 0x6000 ∷ 0xc000 ∷ 0xe000 ∷
-    0x1 ∷ 0x1 ∷ 0x2001 ∷ 0x4001 ∷ 0x6101 ∷ 0x6001 ∷ 0x8001 ∷ 0x8401 ∷ 0x8801 ∷ 0x8c01 ∷
-    0x8c21 ∷ 0x8c41 ∷ 0x8c61 ∷ 0xa001 ∷ 0xc001 ∷ 0xe001 ∷ 0x2 ∷ 0x4002 ∷ 0x6002 ∷ 0x8002 ∷
-    0x8002 ∷ 0x9002 ∷ 0x9002 ∷ 0x9002 ∷ 0xc002 ∷ 0xe002 ∷ []
-
--- R 0, I 1, S 2, B 3, U 4, J 5, two registers 6, CSR number and immediate 7, none 8, FENCE 9; from 10 on those of halves
-unfoldable pub formats : List ℕ
-formats =
-    4 ∷ 4 ∷ 4 ∷ 5 ∷ 1 ∷ 3 ∷ 3 ∷ 3 ∷ 3 ∷ 3 ∷ 3 ∷ 8 ∷ 1 ∷ 1 ∷ 1 ∷ 1 ∷ 1 ∷ 1 ∷ 2 ∷ 2 ∷
-    2 ∷ 2 ∷ 1 ∷ 0 ∷ 1 ∷ 1 ∷ 1 ∷ 0 ∷ 0 ∷ 1 ∷ 1 ∷ 0 ∷ 0 ∷ 0 ∷ 0 ∷ 0 ∷ 0 ∷ 0 ∷ 0 ∷ 0 ∷
-    0 ∷ 9 ∷ 8 ∷ 8 ∷ 8 ∷ 1 ∷ 1 ∷ 1 ∷ 7 ∷ 7 ∷ 7 ∷ 0 ∷ 1 ∷ 1 ∷ 6 ∷ 6 ∷ 6 ∷ 6 ∷ 6 ∷ 6 ∷
-    6 ∷ 6 ∷ 6 ∷ 6 ∷ 6 ∷ 6 ∷ 0 ∷ 0 ∷ 0 ∷ 0 ∷ 0 ∷ 0 ∷ 0 ∷ 0 ∷ 0 ∷ 0 ∷ 0 ∷ 0 ∷ 0 ∷ 0 ∷
-    0 ∷ 0 ∷ 0 ∷ 0 ∷ 0 ∷ 10 ∷ 11 ∷ 12 ∷ 13 ∷ 14 ∷ 15 ∷ 15 ∷ 19 ∷ 15 ∷ 16 ∷ 15 ∷ 17 ∷ 17 ∷ 17 ∷ 18 ∷
-    18 ∷ 18 ∷ 18 ∷ 19 ∷ 20 ∷ 20 ∷ 15 ∷ 21 ∷ 22 ∷ 26 ∷ 25 ∷ 8 ∷ 26 ∷ 25 ∷ 23 ∷ 24 ∷ []
 
 abbrev pub placeR : (a b c : ℕ) → ℕ
 placeR a b c = a % 2 ^ 5 * 2 ^ 7 + b % 2 ^ 5 * 2 ^ 15 + c % 2 ^ 5 * 2 ^ 20

@@ -1,5 +1,5 @@
--- Names of instructions: Names. What is listed of words and halves: Shapes, ShortShapes. Back to the word: Encoding.
-pub mod Names
+-- What is listed: Shapes. Of each instruction its name, fixed bits, format and shape: Rows; of halves: ShortShapes. Back to the word: Encoding.
 pub mod Shapes
+pub mod Rows
 pub mod ShortShapes
 pub mod Encoding

@@ -12,8 +12,8 @@ use Rattle.short_forms.specs.Standing.{isLong}
 use Rattle.short_forms.specs.declared.ShortForm.{ShortForm}
 use Rattle.short_forms.specs.declared.ShortForm.the-variants.{Addi4spn, Lw, Ld, Sw, Sd, Addi, Jal, Li, Addi16sp, Lui, Srli, Srai, Andi, Sub, Xor, Or, And}
 use Rattle.short_forms.specs.declared.ShortForm.the-variants.{J, Beqz, Bnez, Slli, Lwsp, Ldsp, Jr, Mv, Ebreak, Jalr, Add, Swsp, Sdsp, NoForm}
-use Rattle.forms.specs.Names.{unlisted}
-use Rattle.forms.specs.Shapes.{three, two, one, bare, upperOf, instructionShape}
+use Rattle.forms.specs.Rows.{unlisted, instructionShape}
+use Rattle.forms.specs.Shapes.{three, two, one, bare, upperOf}
 use Rattle.forms.specs.declared.Shape.{Shape}
 
 -- a full register field can name what is no register: illegal

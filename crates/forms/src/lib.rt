@@ -7,15 +7,17 @@ mod short_places;
 mod short_shapes;
 
 pub use encoding::encode;
-use shapes::long_shape;
+pub use rows::FIRST_ROWS;
+pub use rows::FIRST_STARTS;
+pub use rows::KEYS;
+pub use rows::LATER_STARTS;
+pub use rows::NAME_BYTES;
+pub use rows::NAMES;
+pub use rows::ROWS;
+use rows::long_shape;
 use short_shapes::short_shape;
 ghost use mathlib.Core.Path.{_≡_};
 ghost use Rattle.forms.specs.ShortShapes.{shapeOf};
-
-// How many names there are, and the row of an illegal word, which has none.
-pub const ROWS: usize = 116;
-
-pub const UNLISTED: u32 = 255;
 
 // The row of a name, and as many operands as count says; the last one is c.
 pub struct Shape {

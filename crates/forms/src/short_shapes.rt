@@ -1,6 +1,6 @@
 // What is listed of a half: of the form that it is.
 use crate::Shape;
-use crate::UNLISTED;
+use crate::rows::UNLISTED;
 use crate::shapes::bare;
 use crate::shapes::one;
 use crate::shapes::three;

@@ -13,7 +13,7 @@ use Rattle.words.specs.Words.{wrap, le16, le32}
 use Rattle.words.proofs.Word.{by-test}
 use Rattle.text.specs.Digits.{minus}
 use Rattle.text.specs.Writing.{tab, newline}
-use Rattle.forms.specs.Names.{rowCount}
+use Rattle.forms.specs.Rows.{rowCount}
 use Rattle.forms.specs.Encoding.{encodeOf}
 use Rattle.forms.specs.ShortShapes.{Word}
 use Rattle.listing.specs.Walking.{walkFrom, spread}

@@ -7,7 +7,7 @@ use lib.ListN.{length, getD, drop}
 use Rattle.instructions.specs.declared.Instruction.{Instruction}
 use Rattle.short_forms.specs.Meaning.{isLegal}
 use Rattle.text.specs.Digits.{digits}
-use Rattle.forms.specs.Names.{nameOf}
+use Rattle.forms.specs.Rows.{nameOf}
 use Rattle.forms.specs.ShortShapes.{shapeOf, instructionOf, Word}
 use Rattle.forms.specs.Encoding.{chosen}
 use Rattle.listing.specs.Lines.{operandsText, figures, bodyOf, lineOf}

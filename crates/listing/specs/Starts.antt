@@ -1,11 +1,12 @@
 -- The names one after another, as the code has them: where each starts, and where the last one ends.
 use mathlib.Core.List.{List, [], _∷_}
-use Prim.Native.Nat.{ℕ}
+use Prim.Native.Nat.{ℕ, _+_}
+use lib.ListN.{length}
+use Rattle.forms.specs.Rows.{names}
+
+unfoldable pub startsFrom : (first : ℕ) → List (List ℕ) → List ℕ
+startsFrom n [] = n ∷ []
+startsFrom n (x ∷ l) = n ∷ startsFrom (n + length x) l
 
 unfoldable pub starts : List ℕ
-starts =
-    0 ∷ 3 ∷ 9 ∷ 15 ∷ 19 ∷ 24 ∷ 27 ∷ 30 ∷ 33 ∷ 36 ∷ 40 ∷ 44 ∷ 48 ∷ 51 ∷ 54 ∷ 57 ∷ 61 ∷ 65 ∷ 68 ∷ 71 ∷ 74 ∷ 77 ∷ 80 ∷ 84 ∷
-    88 ∷ 92 ∷ 97 ∷ 101 ∷ 105 ∷ 109 ∷ 112 ∷ 116 ∷ 119 ∷ 122 ∷ 125 ∷ 128 ∷ 132 ∷ 135 ∷ 138 ∷ 141 ∷ 143 ∷ 146 ∷ 151 ∷ 154 ∷ 159 ∷ 165 ∷ 170 ∷ 175 ∷
-    180 ∷ 186 ∷ 192 ∷ 198 ∷ 208 ∷ 219 ∷ 232 ∷ 237 ∷ 246 ∷ 254 ∷ 262 ∷ 270 ∷ 277 ∷ 284 ∷ 309 ∷ 336 ∷ 344 ∷ 352 ∷ 359 ∷ 369 ∷ 384 ∷ 389 ∷ 396 ∷ 404 ∷
-    412 ∷ 420 ∷ 424 ∷ 432 ∷ 443 ∷ 457 ∷ 460 ∷ 464 ∷ 470 ∷ 475 ∷ 478 ∷ 482 ∷ 485 ∷ 489 ∷ 499 ∷ 503 ∷ 507 ∷ 511 ∷ 515 ∷ 520 ∷ 526 ∷ 531 ∷ 535 ∷ 545 ∷
-    550 ∷ 556 ∷ 562 ∷ 568 ∷ 573 ∷ 578 ∷ 582 ∷ 587 ∷ 590 ∷ 596 ∷ 602 ∷ 608 ∷ 614 ∷ 620 ∷ 624 ∷ 628 ∷ 636 ∷ 642 ∷ 647 ∷ 653 ∷ 659 ∷ []
+starts = startsFrom 0 names

@@ -1,5 +1,6 @@
 -- The tables are the definition's lists, and a row that is none its other case.
-use Rattle.forms.specs.Encoding.{encodeOf, fixedBits, formats}
+use Rattle.forms.specs.Rows.{fixedBits, formats}
+use Rattle.forms.specs.Encoding.{encodeOf}
 use Rattle.words.proofs.Tests.{tests}
 use borrow.Author.Needs.{needs}
 use Rattle.forms.proofs.encoding.encode.Statement.{statement}

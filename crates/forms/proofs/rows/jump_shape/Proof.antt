@@ -1,8 +1,8 @@
 -- Each arm gives what its clause of the definition gives.
-use Rattle.forms.specs.Shapes.{jumpShape}
+use Rattle.forms.specs.Rows.{jumpShape}
 use borrow.Author.Needs.{needs}
-use Rattle.forms.proofs.shapes.jump_shape.Statement.{statement}
-use Rattle.forms.proofs.shapes.jump_shape.Tie as tie
+use Rattle.forms.proofs.rows.jump_shape.Statement.{statement}
+use Rattle.forms.proofs.rows.jump_shape.Tie as tie
 
 returns : tie.Need-returns
 unfolding jumpShape

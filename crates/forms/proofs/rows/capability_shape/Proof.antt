@@ -1,8 +1,8 @@
 -- Each arm gives what its clause of the definition gives.
-use Rattle.forms.specs.Shapes.{capabilityShape}
+use Rattle.forms.specs.Rows.{capabilityShape}
 use borrow.Author.Needs.{needs}
-use Rattle.forms.proofs.shapes.capability_shape.Statement.{statement}
-use Rattle.forms.proofs.shapes.capability_shape.Tie as tie
+use Rattle.forms.proofs.rows.capability_shape.Statement.{statement}
+use Rattle.forms.proofs.rows.capability_shape.Tie as tie
 
 returns : tie.Need-returns
 unfolding capabilityShape

@@ -1,8 +1,8 @@
 -- Each arm gives what its clause of the definition gives.
-use Rattle.forms.specs.Shapes.{memoryShape}
+use Rattle.forms.specs.Rows.{memoryShape}
 use borrow.Author.Needs.{needs}
-use Rattle.forms.proofs.shapes.memory_shape.Statement.{statement}
-use Rattle.forms.proofs.shapes.memory_shape.Tie as tie
+use Rattle.forms.proofs.rows.memory_shape.Statement.{statement}
+use Rattle.forms.proofs.rows.memory_shape.Tie as tie
 
 returns : tie.Need-returns
 unfolding memoryShape

@@ -1,8 +1,8 @@
 -- Each arm gives what its clause of the definition gives.
-use Rattle.forms.specs.Shapes.{systemShape}
+use Rattle.forms.specs.Rows.{systemShape}
 use borrow.Author.Needs.{needs}
-use Rattle.forms.proofs.shapes.system_shape.Statement.{statement}
-use Rattle.forms.proofs.shapes.system_shape.Tie as tie
+use Rattle.forms.proofs.rows.system_shape.Statement.{statement}
+use Rattle.forms.proofs.rows.system_shape.Tie as tie
 
 returns : tie.Need-returns
 unfolding systemShape

@@ -1,8 +1,8 @@
 -- Each arm gives what its clause of the definition gives, of what the decoder promises.
-use Rattle.forms.specs.Shapes.{instructionShape}
+use Rattle.forms.specs.Rows.{instructionShape}
 use borrow.Author.Needs.{needs}
-use Rattle.forms.proofs.shapes.long_shape.Statement.{statement}
-use Rattle.forms.proofs.shapes.long_shape.Tie as tie
+use Rattle.forms.proofs.rows.long_shape.Statement.{statement}
+use Rattle.forms.proofs.rows.long_shape.Tie as tie
 
 returns : tie.Need-returns
 unfolding instructionShape

@@ -1,8 +1,8 @@
 -- Each arm gives what its clause of the definition gives.
-use Rattle.forms.specs.Shapes.{integerShape}
+use Rattle.forms.specs.Rows.{integerShape}
 use borrow.Author.Needs.{needs}
-use Rattle.forms.proofs.shapes.integer_shape.Statement.{statement}
-use Rattle.forms.proofs.shapes.integer_shape.Tie as tie
+use Rattle.forms.proofs.rows.integer_shape.Statement.{statement}
+use Rattle.forms.proofs.rows.integer_shape.Tie as tie
 
 returns : tie.Need-returns
 unfolding integerShape
