@@ -20,7 +20,8 @@ use Rattle.forms.specs.Encoding.{placeF, chosen, restored}
 use Rattle.forms.specs.declared.Shape.{Shape}
 use Rattle.forms.proofs.Back.{long-good}
 use Rattle.forms.proofs.Fit.{Fit}
-use Rattle.forms.proofs.Halves.{half-again, half-fit}
+use Rattle.forms.proofs.Halves.{half-again}
+use Rattle.forms.proofs.Legal.{half-fit}
 
 not-fence : (w : ℕ) → (w % 4 ≡ 3 → ⊥) → opcode w ≡ 0x0f → ⊥
 not-fence w n e = n (omega arith)
@@ -37,7 +38,7 @@ listed-again w h =
     (λ t. rw t (long-good w .again (h .fits)))
     (λ t.
     let n = eqb-false (w % 4) 3 t in
-    rw t (half-again w (h .short n) .1 ∙ short-chosen w n))
+    rw t (half-again w (h .short n) ∙ short-chosen w n))
 
 pub shape-fit : (w : ℕ) → Fit (shapeOf w)
 unfolding shapeOf
