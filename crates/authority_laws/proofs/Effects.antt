@@ -39,7 +39,7 @@ use Rattle.state.specs.declared.Place.{Place}
 use Rattle.state.specs.declared.Place.the-variants.{At, Misaligned, Outside}
 use Rattle.state.specs.declared.Effect.{Effect}
 use Rattle.state.specs.declared.Effect.the-variants.{Advance, Write, WriteScr, Trap}
-use Rattle.state.proofs.Laws.{Placed, cond-holds, checked-holds, placed, place-within, granule-width}
+use Rattle.state.proofs.Laws.{Placed, cond-holds, checked-holds, placed, place-within, granule-width, scr-place}
 use Rattle.state.proofs.Fits.{register-fits}
 use Rattle.integer_instructions.specs.Integer.{integerEffect}
 use Rattle.jump_instructions.specs.Jumps.{linkOf, aligned, jalEffect, jalrEffect, takenEffect, branchEffect, mretEffect, jumpEffect}
@@ -47,7 +47,7 @@ use Rattle.memory_instructions.specs.Access.{loadAt, loadEffect, storeAt, store
 use Rattle.memory_instructions.specs.Access.{storeCapabilityAt, storeCapabilityEffect, addressOf, memoryEffect}
 use Rattle.capability_instructions.specs.Derivation.{combined, globalPointer, capabilityEffect}
 use Rattle.system_instructions.specs.System.{csrEffect, scrValue, specialWrite, specialEffect, systemEffect}
-use Rattle.system_instructions.proofs.Laws.{scr-in-file, csr-holds}
+use Rattle.system_instructions.proofs.Laws.{csr-holds}
 use Rattle.execution.specs.Step.{effectOf}
 use Rattle.machine_laws.specs.Editions.{NoJump}
 use Rattle.authority_laws.proofs.Operations.{From, from-both, type-from, move-from}
@@ -164,7 +164,7 @@ module _ (P : Capability → Type 0) (closed : Carried P) where
     system-carried (System.CsrImmediate kind csr rd value) = passes _ _ _ (csr-holds (EachCapability P) _ csr rd _ _ tt (number _))
     system-carried (System.SpecialRw scr rd rs1) =
         passes _ _ _
-        (special-carried scr rd rs1 _ _ (scr-carried scr (capabilityAt regs (scrIndex scr)) (holds .file (scrIndex scr) (scr-in-file scr)))
+        (special-carried scr rd rs1 _ _ (scr-carried scr (capabilityAt regs (scrIndex scr)) (holds .file (scrIndex scr) (scr-place scr .1)))
         (scr-carried scr (registerAt regs rs1) (general rs1)))
 
     module _ (m : Lent) (start : m .board .start % granuleBytes ≡ 0) (memory : Granules P (m .mem) (m .tags)) where

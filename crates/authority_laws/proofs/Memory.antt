@@ -12,27 +12,10 @@ use Rattle.capability.specs.Capability.{Good}
 use Rattle.capability.specs.declared.Capability.{Capability}
 use Rattle.state.specs.Lent.{State}
 use Rattle.state.specs.Memory.{capabilityIn, granuleBytes}
-use Rattle.state.specs.Effects.{Stored, nothing, bytes, whole, storedBy, OneGranule, Within, EachCapability}
-use Rattle.state.specs.declared.Effect.{Effect}
-use Rattle.state.specs.declared.Effect.the-variants.{Advance, Write, Store, StoreCapability, Jump, WriteScr, WriteCsr, Trap}
+use Rattle.state.specs.Effects.{Stored, nothing, bytes, whole, OneGranule, Within}
 use Rattle.commit.specs.Touched.{OnlyAt, Bytes, MemoryAfter}
+use Rattle.commit.proofs.Views.{EachStored}
 use Rattle.authority_laws.proofs.Closed.{Carried, Granules}
-
--- what is said of each capability of an effect is said of the one that it stores
-abbrev pub EachStored : (Capability → Type 0) → Stored → Type 0
-EachStored P nothing = Unit {0}
-EachStored P (bytes n i value) = Unit {0}
-EachStored P (whole i value) = P value
-
-pub each-stored : (P : Capability → Type 0) (e : Effect) → EachCapability P e → EachStored P (storedBy e)
-each-stored P Advance h = tt
-each-stored P (Write rd value) h = tt
-each-stored P (Store kind i value) h = tt
-each-stored P (StoreCapability i value) h = h
-each-stored P (Jump rd link target mstatus) h = tt
-each-stored P (WriteScr rd old scr value) h = tt
-each-stored P (WriteCsr rd old csr value) h = tt
-each-stored P (Trap cause value) h = tt
 
 module _ (b a : State) where
   -- a store in one granule leaves the capabilities of the others

@@ -16,13 +16,12 @@ use Rattle.state.specs.Addresses.{vectorAlignment, returnAlignment}
 use Rattle.state.specs.Registers.{capabilityAt, setCapability, writeRegister, pccOf}
 use Rattle.state.specs.Marks.{cleared, belowMark, marked}
 use Rattle.state.specs.Timer.{nextTime, ticked}
-use Rattle.state.specs.Effects.{Stored, nothing, bytes, whole, storedBy, EachCapability}
+use Rattle.state.specs.Effects.{Stored, nothing, bytes, whole, storedBy, Result, none, given, Beside, neither, special, control, Next, onward, jumps, enters}
+use Rattle.state.specs.Effects.{writesOf, EachCapability}
 use Rattle.state.specs.declared.Effect.{Effect}
-use Rattle.state.specs.declared.Effect.the-variants.{Advance, Write, Store, StoreCapability, Jump, WriteScr, WriteCsr, Trap}
-use Rattle.state.proofs.Laws.{cond-holds}
-use Rattle.system_instructions.proofs.Laws.{scr-in-file}
-use Rattle.commit.specs.Commit.{advanced, trapped, jumped, withScr, withCsr, registersAfter, markedBy}
-use Rattle.machine_laws.proofs.Kept.{csr-place}
+use Rattle.state.proofs.Laws.{cond-holds, scr-place, csr-place}
+use Rattle.commit.specs.Commit.{advanced, trapped, registersAfter, markedBy}
+use Rattle.commit.proofs.Views.{resulted, besides, gone, registers-are, OfResult, OfBeside, OfNext, Any, each-capability-of}
 use Rattle.authority_laws.proofs.Makers.{move-made, legalized-made}
 use Rattle.authority_laws.proofs.Closed.{Carried, Files}
 
@@ -113,20 +112,26 @@ module _ (P : Capability → Type 0) where
         (closed .derived (legalized-made vectorAlignment (capabilityAt l mtccIndex)) (h .file mtccIndex (omega arith)))
         (file-capability l mepccIndex _ (omega arith) (closed .derived (legalized-made returnAlignment (pccOf l)) (h .file pccIndex (omega arith))) h))))
 
-    -- a clause for each effect
+    -- what an effect writes, one after the other
+    file-result : (r : Result) (l : List ℕ) → OfResult P r → Files P l → Files P (resulted r l)
+    file-result none l p h = h
+    file-result (given rd value) l p h = file-register l rd value p h
+
+    file-beside : (b : Beside) (l : List ℕ) → OfBeside P Any b → Files P l → Files P (besides b l)
+    file-beside neither l p h = h
+    file-beside (special scr value) l p h = file-capability l (scrIndex scr) value (scr-place scr .1) p h
+    file-beside (control csr value) l p h = file-set l (csrIndex csr) value (csr-place csr .0) h
+
+    file-gone : (n : ℕ) (x : Next) (l : List ℕ) → OfNext P Any x → Files P l → Files P (gone n x l)
+    file-gone n onward l p h = file-advanced n l h
+    file-gone n (jumps target mstatus) l p h = file-set _ (csrIndex Mstatus) mstatus (omega arith) (file-capability l pccIndex target (omega arith) (p .0) h)
+    file-gone n (enters cause value) l p h = file-trapped l cause value h
+
     files-after : (n : ℕ) (e : Effect) (l : List ℕ) → EachCapability P e → Files P l → Files P (registersAfter n e l)
-    unfolding jumped withScr withCsr
-    files-after n Advance l p h = file-advanced n l h
-    files-after n (Write rd value) l p h = file-advanced n _ (file-register l rd value p h)
-    files-after n (Store kind i value) l p h = file-advanced n l h
-    files-after n (StoreCapability i value) l p h = file-advanced n l h
-    files-after n (Jump rd link target mstatus) l p h =
-        file-set _ (csrIndex Mstatus) mstatus (omega arith) (file-capability _ pccIndex target (omega arith) (p .1) (file-register l rd link (p .0) h))
-    files-after n (WriteScr rd old scr value) l p h =
-        file-advanced n _ (file-capability _ (scrIndex scr) value (scr-in-file scr) (p .1) (file-register l rd old (p .0) h))
-    files-after n (WriteCsr rd old csr value) l p h =
-        file-advanced n _ (file-set _ (csrIndex csr) value (csr-place csr) (file-register l rd (integer old) (closed .untagged (integer old) refl) h))
-    files-after n (Trap cause value) l p h = file-trapped l cause value h
+    files-after n e l p h =
+        let k = each-capability-of P (λ x. closed .untagged (integer x) refl) e p in
+        rw (registers-are n e l)
+        (file-gone n (writesOf e .next) _ (k .2) (file-beside (writesOf e .beside) _ (k .1) (file-result (writesOf e .result) l (k .0) h)))
 
     -- and the step recorded
     pub files-left : (start n : ℕ) (e : Effect) (l : List ℕ) → EachCapability P e → Files P l

@@ -21,6 +21,7 @@ use Rattle.state.specs.Effects.{storedBy, OneGranule, EachCapability}
 use Rattle.state.specs.Fits.{FitsRegisters}
 use Rattle.state.specs.declared.Board.{Board}
 use Rattle.commit.specs.Commit.{applyEffect}
+use Rattle.commit.proofs.Views.{each-stored}
 use Rattle.execution.specs.Step.{seen, effectAt, stepOf, lengthIn, fetchedIn}
 use Rattle.machine.specs.Refusals.{refusalOf}
 use Rattle.machine.specs.Run.{stepRefusal, stepAfter, Ran, ran, oneMore, iterate, ranFrom, runAfter}
@@ -43,7 +44,7 @@ use Rattle.authority_laws.specs.Gain.{Reached, at-start, by-step, by-run
 use Rattle.authority_laws.proofs.Closed.{Closed, Carried, carried-of, Everywhere}
 use Rattle.authority_laws.proofs.Effects.{effect-carried}
 use Rattle.authority_laws.proofs.Registers.{files-left}
-use Rattle.authority_laws.proofs.Memory.{each-stored, granules-after}
+use Rattle.authority_laws.proofs.Memory.{granules-after}
 
 -- ---- a closed property
 

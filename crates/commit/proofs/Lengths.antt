@@ -9,18 +9,18 @@ use Rattle.words.proofs.Bytes.{length-setBytes}
 use Rattle.words.proofs.Bits.{length-putBit}
 use Rattle.capability.specs.declared.Capability.{Capability}
 use Rattle.instructions.specs.declared.Csr.the-variants.{Mshwm}
-use Rattle.state.specs.Layout.{generalCount, csrIndex}
+use Rattle.state.specs.Layout.{generalCount, csrIndex, scrIndex}
 use Rattle.state.specs.Marks.{cleared, belowMark, marked}
 use Rattle.state.specs.Timer.{ticked}
 use Rattle.state.specs.Registers.{setCapability, writeRegister}
 use Rattle.state.specs.Lent.{State}
 use Rattle.state.specs.Memory.{granuleBytes}
-use Rattle.state.specs.Effects.{Stored, nothing, bytes, whole, storedBy}
+use Rattle.state.specs.Effects.{Stored, nothing, bytes, whole, storedBy, Result, none, given, Beside, neither, special, control, Next, onward, jumps, enters}
+use Rattle.state.specs.Effects.{writesOf}
 use Rattle.state.specs.declared.Effect.{Effect}
-use Rattle.state.specs.declared.Effect.the-variants.{Advance, Write, Store, StoreCapability, Jump, WriteScr, WriteCsr, Trap}
 use Rattle.state.proofs.Laws.{cond-holds}
-use Rattle.commit.specs.Commit.{advanced, trapped, jumped, withScr, withCsr, registersAfter, markedBy, stored, retagged, storedCapability, memoryAfter, tagsAfter}
-use Rattle.commit.specs.Commit.{applyEffect}
+use Rattle.commit.specs.Commit.{advanced, trapped, registersAfter, markedBy, stored, retagged, storedCapability, memoryAfter, tagsAfter, applyEffect}
+use Rattle.commit.proofs.Views.{resulted, besides, gone, registers-are}
 
 abbrev Long : (n : ℕ) → List ℕ → Type 0
 Long n l = length l ≡ n
@@ -38,16 +38,25 @@ advanced-long : (n : ℕ) (l : List ℕ) → length (advanced n l) ≡ length l
 unfolding advanced
 advanced-long n l = capability-long l _ _
 
+result-long : (r : Result) (l : List ℕ) → length (resulted r l) ≡ length l
+result-long none l = refl
+result-long (given rd value) l = register-long l rd value
+
+beside-long : (b : Beside) (l : List ℕ) → length (besides b l) ≡ length l
+beside-long neither l = refl
+beside-long (special scr value) l = capability-long l (scrIndex scr) value
+beside-long (control csr value) l = length-set l (csrIndex csr) value
+
+gone-long : (n : ℕ) (x : Next) (l : List ℕ) → length (gone n x l) ≡ length l
+unfolding trapped
+gone-long n onward l = advanced-long n l
+gone-long n (jumps target mstatus) l = simp (length-set, capability-long)
+gone-long n (enters cause value) l = simp (length-set, capability-long)
+
 pub registers-long : (n : ℕ) (e : Effect) (regs : List ℕ) → length (registersAfter n e regs) ≡ length regs
-unfolding jumped withScr withCsr trapped
-registers-long n Advance regs = advanced-long n regs
-registers-long n (Write rd value) regs = simp (advanced-long, register-long)
-registers-long n (Store kind i value) regs = advanced-long n regs
-registers-long n (StoreCapability i value) regs = advanced-long n regs
-registers-long n (Jump rd link target mstatus) regs = simp (length-set, capability-long, register-long)
-registers-long n (WriteScr rd old scr value) regs = simp (advanced-long, capability-long, register-long)
-registers-long n (WriteCsr rd old csr value) regs = simp (advanced-long, length-set, register-long)
-registers-long n (Trap cause value) regs = simp (length-set, capability-long)
+registers-long n e regs =
+    rw (registers-are n e regs)
+    (gone-long n (writesOf e .next) _ ∙ (beside-long (writesOf e .beside) _ ∙ result-long (writesOf e .result) regs))
 
 marked-long : (a : ℕ) (l : List ℕ) → length (marked a l) ≡ length l
 unfolding marked

@@ -1,4 +1,5 @@
 -- Laws of the definitions of specs/, which belong to no one function.
+pub mod Views
 pub mod Registers
 pub mod Lengths
 pub mod Bytes

@@ -13,9 +13,9 @@ use Rattle.state.specs.Lent.{State, state}
 use Rattle.state.specs.Memory.{granuleBytes}
 use Rattle.state.specs.Effects.{Stored, nothing, bytes, whole, storedBy, Within, StoresWithin, GoodTag, GoodEffect}
 use Rattle.state.specs.declared.Effect.{Effect}
-use Rattle.state.specs.declared.Effect.the-variants.{Advance, Write, Store, StoreCapability, Jump, WriteScr, WriteCsr, Trap}
 use Rattle.commit.specs.Commit.{stored, retagged, storedCapability, memoryAfter, tagsAfter, applyEffect}
 use Rattle.commit.specs.Touched.{SameMemory, OnlyAt, MemoryAfter}
+use Rattle.commit.proofs.Views.{EachStored, each-stored}
 
 -- ---- what a store leaves
 
@@ -60,23 +60,7 @@ module _ (mem : List ℕ) (i : ℕ) (c : Capability) (fits : i + granuleBytes �
 
 -- ---- what an effect leaves
 
--- a capability that is stored has a tag of 0 or 1
-abbrev StoredGood : Stored → Type 0
-StoredGood nothing = Unit {0}
-StoredGood (bytes n i value) = Unit {0}
-StoredGood (whole i value) = GoodTag value
-
-stored-good : (e : Effect) → GoodEffect e → StoredGood (storedBy e)
-stored-good Advance g = tt
-stored-good (Write rd value) g = tt
-stored-good (Store kind i value) g = tt
-stored-good (StoreCapability i value) g = g
-stored-good (Jump rd link target mstatus) g = tt
-stored-good (WriteScr rd old scr value) g = tt
-stored-good (WriteCsr rd old csr value) g = tt
-stored-good (Trap cause value) g = tt
-
-after-store : (x : Stored) (s : State) (regs : List ℕ) → length (s .mem) ≡ 64 * length (s .tags) → Within (length (s .mem)) x → StoredGood x
+after-store : (x : Stored) (s : State) (regs : List ℕ) → length (s .mem) ≡ 64 * length (s .tags) → Within (length (s .mem)) x → EachStored GoodTag x
     → MemoryAfter x s (state regs (memoryAfter x (s .mem)) (tagsAfter x (s .mem) (s .tags)))
 after-store nothing s regs l w g = record { same-bytes = refl; same-tags = refl }
 after-store (bytes n i value) s regs l w g = (
@@ -100,4 +84,4 @@ after-store (whole i value) s regs l w g = (
 pub applied-memory : (start n : ℕ) (e : Effect) (s : State) → length (s .mem) ≡ 64 * length (s .tags) → StoresWithin (length (s .mem)) e → GoodEffect e
     → MemoryAfter (storedBy e) s (applyEffect start n e s)
 unfolding applyEffect
-applied-memory start n e s l w g = after-store (storedBy e) s _ l w (stored-good e g)
+applied-memory start n e s l w g = after-store (storedBy e) s _ l w (each-stored GoodTag e g)

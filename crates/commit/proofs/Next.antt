@@ -3,13 +3,12 @@ use mathlib.Core.Path.{_≡_, refl, sym, _∙_}
 use mathlib.Core.List.{List}
 use Prim.Native.Nat.{ℕ, _/_}
 use native.Mathlib.Omega.{arith}
-use lib.ListN.{getD, set}
-use Rattle.capability.specs.Capability.{integer}
-use Rattle.state.specs.Layout.{capabilityWords, pccIndex, csrIndex, scrIndex}
-use Rattle.state.specs.Registers.{setCapability, writeRegister}
+use lib.ListN.{getD}
+use Rattle.state.specs.Layout.{capabilityWords, pccIndex}
+use Rattle.state.specs.Effects.{Next, onward, jumps, enters, writesOf}
 use Rattle.state.specs.declared.Effect.{Effect}
-use Rattle.state.specs.declared.Effect.the-variants.{Advance, Write, Store, StoreCapability, Jump, WriteScr, WriteCsr, Trap}
-use Rattle.commit.specs.Commit.{advanced, withScr, withCsr, registersAfter}
+use Rattle.commit.specs.Commit.{advanced, registersAfter}
+use Rattle.commit.proofs.Views.{resulted, besides, gone, registers-are}
 use Rattle.commit.proofs.Registers.{each-capability}
 
 -- word i is none of PCC's
@@ -31,13 +30,12 @@ module _ (n k : ℕ) where
   both-advanced : (l : List ℕ) (i : ℕ) → Elsewhere i → getD (advanced n l) i 0 ≡ getD (advanced k l) i 0
   both-advanced l i h = advanced-elsewhere n l i h ∙ sym (advanced-elsewhere k l i h)
 
+  gone-alone : (x : Next) (l : List ℕ) (i : ℕ) → Elsewhere i → getD (gone n x l) i 0 ≡ getD (gone k x l) i 0
+  gone-alone onward l i h = both-advanced l i h
+  gone-alone (jumps target mstatus) l i h = refl
+  gone-alone (enters cause value) l i h = refl
+
   pub next-alone : (e : Effect) (regs : List ℕ) (i : ℕ) → Elsewhere i → getD (registersAfter n e regs) i 0 ≡ getD (registersAfter k e regs) i 0
-  unfolding withScr withCsr
-  next-alone Advance regs i h = both-advanced regs i h
-  next-alone (Write rd value) regs i h = both-advanced (writeRegister regs rd value) i h
-  next-alone (Store kind p value) regs i h = both-advanced regs i h
-  next-alone (StoreCapability p value) regs i h = both-advanced regs i h
-  next-alone (Jump rd link target mstatus) regs i h = refl
-  next-alone (WriteScr rd old scr value) regs i h = both-advanced (setCapability (writeRegister regs rd old) (scrIndex scr) value) i h
-  next-alone (WriteCsr rd old csr value) regs i h = both-advanced (set (writeRegister regs rd (integer old)) (csrIndex csr) value) i h
-  next-alone (Trap cause value) regs i h = refl
+  next-alone e regs i h =
+      rw (registers-are n e regs, registers-are k e regs)
+      (gone-alone (writesOf e .next) (besides (writesOf e .beside) (resulted (writesOf e .result) regs)) i h)

@@ -9,19 +9,21 @@ use lib.ListN.{getD, set, length}
 use lib.Seq.{getD-set-same, getD-set-other, set-out}
 use borrow.Author.Tests.{eqb-true, eqb-false, ltb-true, ltb-false}
 use Rattle.words.proofs.Word.{by-test}
-use Rattle.capability.specs.Capability.{integer, moveOf}
+use Rattle.capability.specs.Capability.{moveOf}
 use Rattle.capability.specs.declared.Capability.{Capability}
 use Rattle.instructions.specs.declared.Csr.the-variants.{Mstatus, Mcause, Mtval, Mshwm}
-use Rattle.state.specs.Layout.{capabilityWords, generalCount, pccIndex, mtccIndex, mepccIndex, csrIndex, scrIndex, timeIndex}
+use Rattle.state.specs.Layout.{capabilityWords, generalCount, capabilityCount, controlStart, pccIndex, mtccIndex, mepccIndex, csrIndex, scrIndex, timeIndex}
 use Rattle.state.specs.Registers.{capabilityAt, pccOf, mstatusOf, setCapability, writeRegister}
 use Rattle.state.specs.Addresses.{nextAddress, vectorAlignment, returnAlignment, legalized}
 use Rattle.state.specs.Status.{trapStatus}
 use Rattle.state.specs.Marks.{cleared, belowMark, marked}
 use Rattle.state.specs.Timer.{nextTime, ticked}
-use Rattle.state.specs.Effects.{Stored, nothing, bytes, whole, storedBy}
+use Rattle.state.specs.Effects.{Stored, nothing, bytes, whole, storedBy, Result, none, given, Beside, neither, special, control, Next, onward, jumps, enters}
+use Rattle.state.specs.Effects.{writesOf}
 use Rattle.state.specs.declared.Effect.{Effect}
-use Rattle.state.specs.declared.Effect.the-variants.{Advance, Write, Store, StoreCapability, Jump, WriteScr, WriteCsr, Trap}
-use Rattle.commit.specs.Commit.{advanced, trapped, jumped, withScr, withCsr, registersAfter, markedBy}
+use Rattle.state.proofs.Laws.{scr-place, csr-place}
+use Rattle.commit.specs.Commit.{advanced, trapped, registersAfter, markedBy}
+use Rattle.commit.proofs.Views.{resulted, besides, gone, registers-are, OfResult, OfBeside, OfNext, EachOf}
 
 -- a rule says of a word's place and value whether it may stand there; each word of a list is so
 pub record Each (P : ℕ → ℕ → Type 0) (l : List ℕ) : Type 0 where
@@ -49,15 +51,54 @@ abbrev pub Recorded : (ℕ → ℕ → Type 0) → Type 0
 Recorded P = (i v : ℕ) → csrIndex Mshwm ≤ i → v < 2 ^ 32 → P i v
 
 -- what an effect writes keeps the rule
+abbrev KeepsResult : (ℕ → ℕ → Type 0) → Result → Type 0
+KeepsResult P none = Unit {0}
+KeepsResult P (given rd value) = Written P rd value
+
+abbrev pub KeepsBeside : (ℕ → ℕ → Type 0) → Beside → Type 0
+KeepsBeside P neither = Unit {0}
+KeepsBeside P (special scr value) = Holds P (scrIndex scr) value
+KeepsBeside P (control csr value) = P (csrIndex csr) value
+
+abbrev KeepsNext : (ℕ → ℕ → Type 0) → Next → Type 0
+KeepsNext P onward = Unit {0}
+KeepsNext P (jumps target mstatus) = Holds P pccIndex target × P (csrIndex Mstatus) mstatus
+KeepsNext P (enters cause value) = P (csrIndex Mcause) cause × P (csrIndex Mtval) value
+
 abbrev pub Keeps : (ℕ → ℕ → Type 0) → Effect → Type 0
-Keeps P Advance = Unit {0}
-Keeps P (Write rd value) = Written P rd value
-Keeps P (Store kind i value) = Unit {0}
-Keeps P (StoreCapability i value) = Unit {0}
-Keeps P (Jump rd link target mstatus) = Written P rd link × Holds P pccIndex target × P (csrIndex Mstatus) mstatus
-Keeps P (WriteScr rd old scr value) = Written P rd old × Holds P (scrIndex scr) value
-Keeps P (WriteCsr rd old csr value) = Written P rd (integer old) × P (csrIndex csr) value
-Keeps P (Trap cause value) = P (csrIndex Mcause) cause × P (csrIndex Mtval) value
+Keeps P e = KeepsResult P (writesOf e .result) × KeepsBeside P (writesOf e .beside) × KeepsNext P (writesOf e .next)
+
+-- at the places from one to another, the rule allows every capability with a property, or every word with one
+abbrev pub Puts : (ℕ → ℕ → Type 0) → (Capability → Type 0) → (low high : ℕ) → Type 0
+Puts P C low high = (i : ℕ) (c : Capability) → low ≤ i → i < high → C c → Holds P i c
+
+abbrev pub Sets : (ℕ → ℕ → Type 0) → (ℕ → Type 0) → (low high : ℕ) → Type 0
+Sets P W low high = (i v : ℕ) → low ≤ i → i < high → W v → P i v
+
+-- so what has these properties keeps it
+module _ (P : ℕ → ℕ → Type 0) (C : Capability → Type 0) (W : ℕ → Type 0) where
+  pub result-kept : Puts P C 1 generalCount → (r : Result) → OfResult C r → KeepsResult P r
+  result-kept p none h = tt
+  result-kept p (given rd value) h = λ b. p (rd % generalCount) value b (omega arith) h
+
+  pub beside-kept : Puts P C generalCount capabilityCount → Sets P W controlStart timeIndex → (b : Beside) → OfBeside C W b → KeepsBeside P b
+  beside-kept p q neither h = tt
+  beside-kept p q (special scr value) h = p (scrIndex scr) value (scr-place scr .0) (scr-place scr .1) h
+  beside-kept p q (control csr value) h = q (csrIndex csr) value (csr-place csr .0) (csr-place csr .1) h
+
+  pub next-kept : Puts P C generalCount capabilityCount → Sets P W controlStart (csrIndex Mshwm) → (x : Next) → OfNext C W x → KeepsNext P x
+  next-kept p q onward h = tt
+  next-kept p q (jumps target mstatus) h =
+      (p pccIndex target (omega arith) (omega arith) (h .0), q (csrIndex Mstatus) mstatus (omega arith) (omega arith) (h .1))
+  next-kept p q (enters cause value) h =
+      (q (csrIndex Mcause) cause (omega arith) (omega arith) (h .0), q (csrIndex Mtval) value (omega arith) (omega arith) (h .1))
+
+  pub keeps-of : Puts P C 1 capabilityCount → Sets P W controlStart timeIndex → (e : Effect) → EachOf C W e → Keeps P e
+  keeps-of p q e h = (
+    result-kept (λ i c l b. p i c l (omega arith)) (writesOf e .result) (h .0),
+    beside-kept (λ i c l. p i c (omega arith)) q (writesOf e .beside) (h .1),
+    next-kept (λ i c l. p i c (omega arith)) (λ i v l b. q i v l (omega arith)) (writesOf e .next) (h .2),
+  )
 
 module _ (P : ℕ → ℕ → Type 0) where
   pub each-set : (l : List ℕ) (p v : ℕ) → P p v → Each P l → Each P (set l p v)
@@ -97,6 +138,15 @@ module _ (P : ℕ → ℕ → Type 0) where
         tag-holds = e .word (i * capabilityWords + 2);
       }
 
+  each-result : (r : Result) (l : List ℕ) → KeepsResult P r → Each P l → Each P (resulted r l)
+  each-result none l h e = e
+  each-result (given rd value) l h e = each-register l rd value h e
+
+  each-beside : (b : Beside) (l : List ℕ) → KeepsBeside P b → Each P l → Each P (besides b l)
+  each-beside neither l h e = e
+  each-beside (special scr value) l h e = each-capability l (scrIndex scr) value h e
+  each-beside (control csr value) l h e = each-set l (csrIndex csr) value h e
+
   module _ (rule : Rule P) where
     pub each-advanced : (n : ℕ) (l : List ℕ) → Each P l → Each P (advanced n l)
     unfolding advanced
@@ -111,20 +161,20 @@ module _ (P : ℕ → ℕ → Type 0) where
         (each-capability _ pccIndex _ (rule .entered (capabilityAt l mtccIndex) (read l mtccIndex e))
         (each-capability l mepccIndex _ (rule .saved (pccOf l) (read l pccIndex e)) e))))
 
-    -- after what an effect writes, if it keeps the rule, each word is so again
+    each-gone : (n : ℕ) (x : Next) (l : List ℕ) → KeepsNext P x → Each P l → Each P (gone n x l)
+    each-gone n onward l h e = each-advanced n l e
+    each-gone n (jumps target mstatus) l h e = each-set _ (csrIndex Mstatus) mstatus (h .1) (each-capability l pccIndex target (h .0) e)
+    each-gone n (enters cause value) l h e = each-trapped l cause value (h .0) (h .1) e
+
+    -- after what an effect writes beside its result, and after all of it, if it keeps the rule, each word is so again
+    pub each-beyond : (n : ℕ) (b : Beside) (x : Next) (l : List ℕ) → KeepsBeside P b → KeepsNext P x → Each P l → Each P (gone n x (besides b l))
+    each-beyond n b x l h k e = each-gone n x (besides b l) k (each-beside b l h e)
+
     pub each-after : (n : ℕ) (f : Effect) (regs : List ℕ) → Keeps P f → Each P regs → Each P (registersAfter n f regs)
-    unfolding jumped withScr withCsr
-    each-after n Advance regs h e = each-advanced n regs e
-    each-after n (Write rd value) regs h e = each-advanced n _ (each-register regs rd value h e)
-    each-after n (Store kind i value) regs h e = each-advanced n regs e
-    each-after n (StoreCapability i value) regs h e = each-advanced n regs e
-    each-after n (Jump rd link target mstatus) regs h e =
-        each-set _ (csrIndex Mstatus) mstatus (h .2) (each-capability _ pccIndex target (h .1) (each-register regs rd link (h .0) e))
-    each-after n (WriteScr rd old scr value) regs h e =
-        each-advanced n _ (each-capability _ (scrIndex scr) value (h .1) (each-register regs rd old (h .0) e))
-    each-after n (WriteCsr rd old csr value) regs h e =
-        each-advanced n _ (each-set _ (csrIndex csr) value (h .1) (each-register regs rd (integer old) (h .0) e))
-    each-after n (Trap cause value) regs h e = each-trapped regs cause value (h .0) (h .1) e
+    each-after n f regs h e =
+        rw (registers-are n f regs)
+        (each-beyond n (writesOf f .beside) (writesOf f .next) (resulted (writesOf f .result) regs) (h .1) (h .2)
+        (each-result (writesOf f .result) regs (h .0) e))
 
     module _ (recorded : Recorded P) where
       each-moved : (a : ℕ) (l : List ℕ) → a < 2 ^ 32 → Each P l → Each P (marked a l)

@@ -4,8 +4,9 @@ use mathlib.Core.Path.{_≡_}
 use Prim.Native.Nat.{ℕ}
 use Rattle.capability.specs.declared.Capability.{Capability}
 use Rattle.state.specs.Checks.{fetchMisaligned}
+use Rattle.state.specs.Effects.{Next, onward, jumps, enters, writesOf}
 use Rattle.state.specs.declared.Effect.{Effect}
-use Rattle.state.specs.declared.Effect.the-variants.{Advance, Write, Store, StoreCapability, Jump, WriteScr, WriteCsr, Trap}
+use Rattle.state.specs.declared.Effect.the-variants.{Jump}
 use Rattle.jump_instructions.specs.Jumps.{linkOf}
 
 -- the effects of one instruction as n bytes and as k bytes: the same, or jumps that differ in their links
@@ -15,12 +16,10 @@ pub data LengthOnly (n k edition : ℕ) (pcc : Capability) (mstatus : ℕ) : Eff
       → LengthOnly n k edition pcc mstatus (Jump rd (linkOf n edition pcc mstatus) target status) (Jump rd (linkOf k edition pcc mstatus) target status)
 
 -- no trap of a misaligned target
+abbrev pub Aligned : Next → Type 0
+Aligned onward = Unit {0}
+Aligned (jumps target mstatus) = Unit {0}
+Aligned (enters cause value) = cause ≡ fetchMisaligned → ⊥
+
 abbrev pub NoMisaligned : Effect → Type 0
-NoMisaligned Advance = Unit {0}
-NoMisaligned (Write rd value) = Unit {0}
-NoMisaligned (Store kind i value) = Unit {0}
-NoMisaligned (StoreCapability i value) = Unit {0}
-NoMisaligned (Jump rd link target mstatus) = Unit {0}
-NoMisaligned (WriteScr rd old scr value) = Unit {0}
-NoMisaligned (WriteCsr rd old csr value) = Unit {0}
-NoMisaligned (Trap cause value) = cause ≡ fetchMisaligned → ⊥
+NoMisaligned e = Aligned (writesOf e .next)

@@ -9,7 +9,7 @@ use borrow.Author.Tests.{eqb-true, eqb-false}
 use Rattle.words.specs.Words.{Bytes, leBytes}
 use Rattle.words.proofs.Word.{by-test}
 use Rattle.words.proofs.Bytes.{leBytes-lt}
-use Rattle.capability.specs.Capability.{Good, integer, moveOf}
+use Rattle.capability.specs.Capability.{Good, moveOf}
 use Rattle.capability.specs.declared.Capability.{Capability}
 use Rattle.capability.proofs.Laws.{integer-good, move-good}
 use Rattle.instructions.specs.Range.{Word, InRange}
@@ -17,8 +17,8 @@ use Rattle.instructions.specs.Decode.{decodeOf}
 use Rattle.instructions.specs.declared.Instruction.{Instruction}
 use Rattle.instructions.specs.declared.Instruction.the-variants as Instruction
 use Rattle.instructions.proofs.Range.{decoded-in-range}
-use Rattle.state.specs.Layout.{capabilityWords, generalCount, capabilityCount, controlStart, pccIndex, mtccIndex, mepccIndex, csrIndex, scrIndex}
-use Rattle.instructions.specs.declared.Csr.the-variants.{Mstatus, Mcause, Mtval}
+use Rattle.state.specs.Layout.{capabilityWords, capabilityCount, controlStart, pccIndex, mtccIndex, mepccIndex, csrIndex}
+use Rattle.instructions.specs.declared.Csr.the-variants.{Mstatus}
 use Rattle.state.specs.declared.Board.{Board}
 use Rattle.state.specs.Addresses.{vectorAlignment, returnAlignment, legalized}
 use Rattle.state.specs.Registers.{pccOf, pcOf}
@@ -33,7 +33,6 @@ use Rattle.state.specs.Lent.{Lent, State}
 use Rattle.state.specs.Effects.{GoodTags}
 use Rattle.state.specs.Fits.{FitsRegisters, FitsEffect}
 use Rattle.state.specs.declared.Effect.{Effect}
-use Rattle.state.specs.declared.Effect.the-variants.{Advance, Write, Store, StoreCapability, Jump, WriteScr, WriteCsr, Trap}
 use Rattle.state.proofs.Laws.{cond-holds}
 use Rattle.state.proofs.Fits.{pcc-fits, legalized-fits, trap-status-fits}
 use Rattle.integer_instructions.proofs.Fits.{integer-fits}
@@ -46,9 +45,10 @@ use Rattle.machine.specs.Refusals.{refusalOf}
 use Rattle.machine.specs.Run.{stepRefusal, stepAfter, Ran, ran, oneMore, iterate, ranFrom, runAfter}
 use Rattle.machine_laws.specs.Fits.{InType}
 use Rattle.commit.specs.Commit.{applyEffect}
-use Rattle.commit.proofs.Registers.{Holds, Rule, Keeps, each-applied}
+use Rattle.commit.proofs.Views.{each-of}
+use Rattle.commit.proofs.Registers.{Holds, Rule, Keeps, keeps-of, each-applied}
 use Rattle.machine_laws.proofs.Refusals.{good-of, refused-too, refused-run}
-use Rattle.machine_laws.proofs.Kept.{Tag, csr-place, tags-stay}
+use Rattle.machine_laws.proofs.Kept.{Tag, tags-stay}
 use Rattle.machine_laws.proofs.Bytes.{bytes-stay}
 
 -- ---- the next effect
@@ -109,17 +109,8 @@ fit-rule =
     }
 
 fit-kept : (e : Effect) → FitsEffect e → Keeps Fit e
-fit-kept Advance h = tt
-fit-kept (Write rd value) h = λ b. fit (rd % generalCount) value (h .0)
-fit-kept (Store kind i value) h = tt
-fit-kept (StoreCapability i value) h = tt
-fit-kept (Jump rd link target mstatus) h =
-    (λ b. fit (rd % generalCount) link (h .0 .0), fit pccIndex target (h .0 .1), fit-above (csrIndex Mstatus) mstatus (omega arith) (h .1))
-fit-kept (WriteScr rd old scr value) h = (λ b. fit (rd % generalCount) old (h .0 .0), fit (scrIndex scr) value (h .0 .1))
-fit-kept (WriteCsr rd old csr value) h =
-    (λ b. fit (rd % generalCount) (integer old) (integer-good old (h .1 .0)), fit-above _ value (omega (arith, csr-place csr)) (h .1 .1))
-fit-kept (Trap cause value) h =
-    (fit-above (csrIndex Mcause) cause (omega arith) (h .1 .0), fit-above (csrIndex Mtval) value (omega arith) (h .1 .1))
+fit-kept e h =
+    keeps-of Fit Good Word (λ i c l b g. fit i c g) (λ i v l b w. fit-above i v l w) e (each-of Good Word (λ x w. integer-good x w) e (h .0) (h .1))
 
 -- a register file of words and good tags is one after a step
 pub words-stay : (board : Board) (revoked : List ℕ) (s : State) → FitsRegisters (s .regs) → Bytes (s .mem) → FitsRegisters (stepOf board revoked s .regs)

@@ -12,14 +12,13 @@ use borrow.Author.Tests.{eqb-true}
 use Rattle.capability.specs.Capability.{integer}
 use Rattle.capability.specs.declared.Capability.{Capability}
 use Rattle.instructions.specs.Decode.{decodeOf}
-use Rattle.instructions.specs.declared.Csr.{Csr}
 use Rattle.instructions.specs.declared.Instruction.{Instruction}
-use Rattle.state.specs.Layout.{capabilityWords, generalCount, registerWords, csrIndex}
+use Rattle.state.specs.Layout.{capabilityWords, generalCount, registerWords}
 use Rattle.state.specs.Registers.{capabilityAt, registerAt, setCapability, writeRegister}
 use Rattle.state.specs.Lent.{Lent, State}
 use Rattle.state.specs.Memory.{placeOf, loadWidth}
 use Rattle.state.specs.declared.Effect.{Effect}
-use Rattle.state.specs.declared.Effect.the-variants as Effect
+use Rattle.state.specs.Effects.{Stored, storedBy, Result, none, given, Next, onward, jumps, enters, writesOf}
 use Rattle.state.proofs.Laws.{checked-holds, placed}
 use Rattle.state.specs.declared.Board.{Board}
 use Rattle.integer_instructions.specs.Integer.{integerEffect}
@@ -27,28 +26,30 @@ use Rattle.memory_instructions.specs.Access.{loadAt, loadEffect, addressOf, mem
 use Rattle.capability_instructions.specs.Derivation.{combined, capabilityEffect}
 use Rattle.system_instructions.specs.System.{csrEffect, systemEffect}
 use Rattle.state.specs.Timer.{ticked}
-use Rattle.commit.proofs.Records.{ticked-below}
+use Rattle.commit.proofs.Views.{resulted, goesOn, retires-is}
+use Rattle.commit.proofs.Records.{ticked-below, marked-other}
 use Rattle.system_instructions.proofs.Laws.{csr-holds}
-use Rattle.commit.specs.Commit.{advanced, withCsr, applyEffect, retires}
+use Rattle.commit.specs.Commit.{registersAfter, markedBy, applyEffect, retires}
 use Rattle.execution.specs.Step.{effectAt, effectOf, fetchedIn, lengthIn, seen, stepOf}
 use Rattle.machine_laws.specs.Lent.{GoodState}
 use Rattle.machine_laws.specs.Steps.{lengthAt, standingAt, wordAt}
 use Rattle.machine_laws.specs.Integers.{WritesInteger, IsInteger, by-lui, by-op-imm, by-op, by-load, by-inspection, by-difference, by-subset}
 use Rattle.machine_laws.specs.Integers.{by-multiply, by-divide, by-equality, by-csr, by-csr-immediate}
 use Rattle.machine_laws.proofs.Fetch.{fetched-holds}
-use Rattle.machine_laws.proofs.Kept.{csr-place}
-use Rattle.machine_laws.proofs.Traps.{advanced-same}
+use Rattle.machine_laws.proofs.Traps.{general-after}
 
--- the effect writes an integer to register rd, or it is a trap
+-- the effect's result is an integer to register rd, or it is a trap
+abbrev Gives : (rd : ℕ) → Result → Type 0
+Gives rd none = ⊥
+Gives rd (given r value) = (r ≡ rd) × IsInteger value
+
+abbrev GivesOr : (rd : ℕ) → Next → Result → Type 0
+GivesOr rd onward r = Gives rd r
+GivesOr rd (jumps target mstatus) r = Gives rd r
+GivesOr rd (enters cause value) r = Unit {0}
+
 abbrev ToInteger : (rd : ℕ) → Effect → Type 0
-ToInteger rd Effect.Advance = ⊥
-ToInteger rd (Effect.Write r value) = (r ≡ rd) × IsInteger value
-ToInteger rd (Effect.Store kind i value) = ⊥
-ToInteger rd (Effect.StoreCapability i value) = ⊥
-ToInteger rd (Effect.Jump r link target mstatus) = ⊥
-ToInteger rd (Effect.WriteScr r old scr value) = ⊥
-ToInteger rd (Effect.WriteCsr r old csr value) = r ≡ rd
-ToInteger rd (Effect.Trap cause value) = Unit {0}
+ToInteger rd e = GivesOr rd (writesOf e .next) (writesOf e .result)
 
 plain : (x : ℕ) → IsInteger (integer x)
 plain x = record { no-metadata = refl; no-tag = refl }
@@ -68,9 +69,9 @@ effect-integer n i rd word regs m by-inspection = (refl, plain _)
 effect-integer n i rd word regs m by-difference = (refl, plain _)
 effect-integer n i rd word regs m by-subset = (refl, plain _)
 effect-integer n i rd word regs m by-equality = (refl, plain _)
-effect-integer n i rd word regs m by-csr = checked-holds (ToInteger rd) _ _ _ (λ n v. tt) (csr-holds (ToInteger rd) _ _ rd _ _ refl (refl, plain _))
+effect-integer n i rd word regs m by-csr = checked-holds (ToInteger rd) _ _ _ (λ n v. tt) (csr-holds (ToInteger rd) _ _ rd _ _ (refl, plain _) (refl, plain _))
 effect-integer n i rd word regs m by-csr-immediate =
-    checked-holds (ToInteger rd) _ _ _ (λ n v. tt) (csr-holds (ToInteger rd) _ _ rd _ _ refl (refl, plain _))
+    checked-holds (ToInteger rd) _ _ _ (λ n v. tt) (csr-holds (ToInteger rd) _ _ rd _ _ (refl, plain _) (refl, plain _))
 
 -- ---- what the register then holds
 
@@ -99,38 +100,31 @@ write-cleared l rd c h z k = go (eqb (rd % generalCount) 0) refl
     go true e = rw (eqb-true (rd % generalCount) 0 e) z
     go false e = set-cleared l (rd % generalCount) c (omega arith) k
 
-advanced-cleared : (n : ℕ) (l : List ℕ) (r : ℕ) → r < generalCount → Cleared r l → Cleared r (advanced n l)
-advanced-cleared n l r h k =
-    (advanced-same n l (r * capabilityWords + 1) (omega arith) ∙ k .0, advanced-same n l (r * capabilityWords + 2) (omega arith) ∙ k .1)
+gives-cleared : (rd : ℕ) (r : Result) (l : List ℕ) → length l ≡ registerWords → Cleared 0 l → Gives rd r → Cleared (rd % generalCount) (resulted r l)
+gives-cleared rd none l h z k = absurd k
+gives-cleared rd (given r value) l h z k = rw (sym (k .0)) (write-cleared l r value h z (k .1))
 
-csr-cleared : (l : List ℕ) (csr : Csr) (r v : ℕ) → r < generalCount → Cleared r l → Cleared r (set l (csrIndex csr) v)
-csr-cleared l csr r v h k =
-    let b = csr-place csr in (
-      getD-set-other l (csrIndex csr) (r * capabilityWords + 1) v 0 (λ e. absurd (omega arith)) ∙ k .0,
-      getD-set-other l (csrIndex csr) (r * capabilityWords + 2) v 0 (λ e. absurd (omega arith)) ∙ k .1,
-    )
+-- what retires gives it
+gives : (rd : ℕ) (x : Next) (r : Result) → goesOn x ≡ true → GivesOr rd x r → Gives rd r
+gives rd onward r h k = k
+gives rd (jumps target mstatus) r h k = k
+gives rd (enters cause value) r h k = absurd (true≢false (sym h))
 
-ticked-cleared : (l : List ℕ) (r : ℕ) → r < generalCount → Cleared r l → Cleared r (ticked l)
-ticked-cleared l r h k =
-    (ticked-below l (r * capabilityWords + 1) (omega arith) ∙ k .0, ticked-below l (r * capabilityWords + 2) (omega arith) ∙ k .1)
+-- neither the mark nor time is a general register's word
+left : (start : ℕ) (x : Stored) (l : List ℕ) (i : ℕ) → i < generalCount * capabilityWords → getD (ticked (markedBy start x l)) i 0 ≡ getD l i 0
+left start x l i h = ticked-below (markedBy start x l) i (omega arith) ∙ marked-other start x l i (λ q. omega arith)
 
 applied : (start n rd : ℕ) (e : Effect) (s : State) → ToInteger rd e → retires e ≡ true → length (s .regs) ≡ registerWords → Cleared 0 (s .regs)
     → Cleared (rd % generalCount) (applyEffect start n e s .regs)
-unfolding retires applyEffect withCsr
-applied start n rd Effect.Advance s i h l z = absurd i
-applied start n rd (Effect.Write r value) s i h l z =
-    rw (sym (i .0)) (ticked-cleared _ (r % generalCount) (omega arith)
-    (advanced-cleared n (writeRegister (s .regs) r value) (r % generalCount) (omega arith) (write-cleared (s .regs) r value l z (i .1))))
-applied start n rd (Effect.Store kind j value) s i h l z = absurd i
-applied start n rd (Effect.StoreCapability j value) s i h l z = absurd i
-applied start n rd (Effect.Jump r link target mstatus) s i h l z = absurd i
-applied start n rd (Effect.WriteScr r old scr value) s i h l z = absurd i
-applied start n rd (Effect.WriteCsr r old csr value) s i h l z =
-    rw (sym i) (ticked-cleared _ (r % generalCount) (omega arith)
-    (advanced-cleared n (set (writeRegister (s .regs) r (integer old)) (csrIndex csr) value) (r % generalCount) (omega arith)
-    (csr-cleared (writeRegister (s .regs) r (integer old)) csr (r % generalCount) value (omega arith)
-    (write-cleared (s .regs) r (integer old) l z (plain old)))))
-applied start n rd (Effect.Trap cause value) s i h l z = absurd (true≢false (sym h))
+unfolding applyEffect
+applied start n rd e s i h l z =
+    let r = rd % generalCount in
+    let g = gives rd (writesOf e .next) (writesOf e .result) (sym (retires-is e) ∙ h) i in
+    let k = gives-cleared rd (writesOf e .result) (s .regs) l z g in
+    let word : (j : ℕ) → j < generalCount * capabilityWords
+    → getD (ticked (markedBy start (storedBy e) (registersAfter n e (s .regs)))) j 0 ≡ getD (resulted (writesOf e .result) (s .regs)) j 0 =
+    λ j b. left start (storedBy e) (registersAfter n e (s .regs)) j b ∙ general-after n e (s .regs) j b in
+    (word (r * capabilityWords + 1) (omega arith) ∙ k .0, word (r * capabilityWords + 2) (omega arith) ∙ k .1)
 
 -- an integer result leaves no metadata and no tag
 pub integer-results : (board : Board) (revoked : List ℕ) (s : State) → GoodState board revoked s

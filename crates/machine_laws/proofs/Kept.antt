@@ -4,42 +4,25 @@ use mathlib.Core.Path.{_≡_, refl, _∙_}
 use mathlib.Core.List.{List}
 use Prim.Native.Nat.{ℕ, _+_, _*_, _%_, _≤_, _<_}
 use native.Mathlib.Omega.{arith}
-use Rattle.capability.specs.Capability.{integer, moveOf}
+use Rattle.capability.specs.Capability.{moveOf}
 use Rattle.capability.specs.declared.Capability.{Capability}
 use Rattle.capability.proofs.Laws.{move-kept}
-use Rattle.instructions.specs.declared.Csr.{Csr}
-use Rattle.instructions.specs.declared.Csr.the-variants.{Mstatus, Mcause, Mtval, Mshwm, Mshwmb}
-use Rattle.instructions.specs.declared.Scr.{Scr}
-use Rattle.instructions.specs.declared.Scr.the-variants.{Mtcc, Mtdc, Mscratchc, Mepcc}
-use Rattle.state.specs.Layout.{capabilityWords, generalCount, capabilityCount, controlStart, pccIndex, mtccIndex, mepccIndex, csrIndex, scrIndex}
+use Rattle.state.specs.Layout.{capabilityWords, capabilityCount, pccIndex, mtccIndex, mepccIndex}
 use Rattle.state.specs.Addresses.{vectorAlignment, returnAlignment, legalized}
 use Rattle.state.specs.Lent.{State}
 use Rattle.state.specs.Effects.{GoodTag, GoodTags, GoodEffect}
 use Rattle.state.specs.declared.Board.{Board}
 use Rattle.state.specs.declared.Effect.{Effect}
-use Rattle.state.specs.declared.Effect.the-variants.{Advance, Write, Store, StoreCapability, Jump, WriteScr, WriteCsr, Trap}
 use Rattle.state.proofs.Laws.{kept-good, legalized-tag}
 use Rattle.commit.specs.Commit.{applyEffect}
-use Rattle.commit.proofs.Registers.{Holds, Rule, Keeps, each-applied}
+use Rattle.commit.proofs.Views.{Any, any-of, each-capability-of}
+use Rattle.commit.proofs.Registers.{Holds, Rule, Keeps, keeps-of, each-applied}
 use Rattle.commit.proofs.Lengths.{SameLengths, applied-long}
 use Rattle.execution.specs.Step.{effectAt, fetchedIn, lengthIn, stepOf}
 use Rattle.machine.specs.Run.{stepRefusal}
 use Rattle.machine_laws.specs.Lent.{ZeroRegister, SoundRegisters, GoodState}
 use Rattle.machine_laws.proofs.Fetch.{next-good}
 use Rattle.machine_laws.proofs.Refusals.{good-of, of-good}
-
-scr-place : (scr : Scr) → (generalCount < scrIndex scr) × (scrIndex scr < capabilityCount)
-scr-place Mtcc = (omega arith, omega arith)
-scr-place Mtdc = (omega arith, omega arith)
-scr-place Mscratchc = (omega arith, omega arith)
-scr-place Mepcc = (omega arith, omega arith)
-
-pub csr-place : (csr : Csr) → controlStart ≤ csrIndex csr
-csr-place Mstatus = omega arith
-csr-place Mcause = omega arith
-csr-place Mtval = omega arith
-csr-place Mshwm = omega arith
-csr-place Mshwmb = omega arith
 
 -- ---- c0
 
@@ -66,14 +49,9 @@ null-rule =
     }
 
 null-kept : (e : Effect) → Keeps Null e
-null-kept Advance = tt
-null-kept (Write rd value) = elsewhere (rd % generalCount) value
-null-kept (Store kind i value) = tt
-null-kept (StoreCapability i value) = tt
-null-kept (Jump rd link target mstatus) = (elsewhere (rd % generalCount) link, elsewhere pccIndex target (omega arith), λ b. absurd (omega arith))
-null-kept (WriteScr rd old scr value) = (elsewhere (rd % generalCount) old, elsewhere (scrIndex scr) value (omega (arith, scr-place scr .0)))
-null-kept (WriteCsr rd old csr value) = (elsewhere (rd % generalCount) (integer old), λ b. absurd (omega (arith, csr-place csr)))
-null-kept (Trap cause value) = (λ b. absurd (omega arith), λ b. absurd (omega arith))
+null-kept e =
+    keeps-of Null (λ c. Unit {0}) Any (λ i c l b u. elsewhere i c l) (λ i v l b u k. absurd (omega arith)) e
+    (any-of (λ c. Unit {0}) Any (λ c. tt) (λ x. tt) e)
 
 -- a c0 that is NULL before a step is NULL after it
 pub c0-stays : (board : Board) (revoked : List ℕ) (s : State) → ZeroRegister (s .regs) → ZeroRegister (stepOf board revoked s .regs)
@@ -110,16 +88,9 @@ tag-rule =
     }
 
 tag-kept : (e : Effect) → GoodEffect e → Keeps Tag e
-tag-kept Advance h = tt
-tag-kept (Write rd value) h = λ b. tag-holds-of (rd % generalCount) value h
-tag-kept (Store kind i value) h = tt
-tag-kept (StoreCapability i value) h = tt
-tag-kept (Jump rd link target mstatus) h =
-    (λ b. tag-holds-of (rd % generalCount) link (h .0), tag-holds-of pccIndex target (h .1), λ k b e. absurd (omega arith))
-tag-kept (WriteScr rd old scr value) h = (λ b. tag-holds-of (rd % generalCount) old (h .0), tag-holds-of (scrIndex scr) value (h .1))
-tag-kept (WriteCsr rd old csr value) h =
-    (λ b. tag-holds-of (rd % generalCount) (integer old) (omega arith), λ k b e. absurd (omega (arith, csr-place csr)))
-tag-kept (Trap cause value) h = (λ k b e. absurd (omega arith), λ k b e. absurd (omega arith))
+tag-kept e h =
+    keeps-of Tag GoodTag Any (λ i c l b g. tag-holds-of i c g) (λ i v l b u k c q. absurd (omega arith)) e
+    (each-capability-of GoodTag (λ x. omega arith) e h)
 
 -- after a step each tag word is 0 or 1, as before
 pub tags-stay : (board : Board) (revoked : List ℕ) (s : State) → GoodTags (s .regs) → GoodTags (stepOf board revoked s .regs)

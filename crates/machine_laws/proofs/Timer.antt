@@ -8,7 +8,7 @@ use lib.Dec.{eqb, leb}
 use lib.ListN.{getD, length}
 use borrow.Author.Tests.{lt-leb}
 use Rattle.metadata.specs.Rights.{bit}
-use Rattle.capability.specs.Capability.{integer, moveOf}
+use Rattle.capability.specs.Capability.{moveOf}
 use Rattle.capability.specs.declared.Capability.{Capability}
 use Rattle.instructions.specs.declared.Csr.{Csr}
 use Rattle.instructions.specs.declared.Csr.the-variants.{Mstatus, Mcause, Mtval, Mshwm, Mshwmb}
@@ -19,14 +19,14 @@ use Rattle.state.specs.Status.{MIE}
 use Rattle.state.specs.Addresses.{vectorAlignment, returnAlignment, legalized}
 use Rattle.state.specs.Timer.{timeOf, compareOf, interrupted}
 use Rattle.state.specs.Lent.{State}
-use Rattle.state.specs.Effects.{storedBy}
+use Rattle.state.specs.Effects.{storedBy, Beside, neither, special, control, writesOf}
 use Rattle.state.specs.declared.Board.{Board}
 use Rattle.state.specs.declared.Effect.{Effect}
-use Rattle.state.specs.declared.Effect.the-variants.{Advance, Write, Store, StoreCapability, Jump, WriteScr, WriteCsr, Trap}
-use Rattle.system_instructions.proofs.Laws.{scr-in-file}
+use Rattle.state.proofs.Laws.{scr-place, csr-place}
 use Rattle.fetch.specs.Fetch.{fetchOf}
 use Rattle.commit.specs.Commit.{applyEffect, registersAfter, markedBy}
-use Rattle.commit.proofs.Registers.{Holds, Rule, Keeps, each-after}
+use Rattle.commit.proofs.Views.{Any, any-result, any-next}
+use Rattle.commit.proofs.Registers.{Holds, Rule, KeepsBeside, Keeps, result-kept, next-kept, each-after}
 use Rattle.commit.proofs.Lengths.{registers-long, written-long}
 use Rattle.commit.proofs.Records.{ticked-below, ticked-above, ticked-time, marked-other, mark-falls}
 use Rattle.execution.specs.Step.{lengthIn, fetchedIn, metOf, effectAt, stepOf}
@@ -58,37 +58,37 @@ module _ (Kind : ℕ → Type 0) (high : (i : ℕ) → Kind i → csrIndex Mtval
         status = λ m h k. absurd (omega (arith, high _ k));
       }
 
-  stays-kept : (e : Effect) → ((rd old : ℕ) (csr : Csr) (value : ℕ) → e ≡ WriteCsr rd old csr value → Stays (csrIndex csr) value) → Keeps Stays e
-  stays-kept Advance f = tt
-  stays-kept (Write rd value) f = λ b. below (rd % generalCount) value (omega arith)
-  stays-kept (Store kind i value) f = tt
-  stays-kept (StoreCapability i value) f = tt
-  stays-kept (Jump rd link target mstatus) f =
-      (λ b. below (rd % generalCount) link (omega arith), below pccIndex target (omega arith), λ k. absurd (omega (arith, high _ k)))
-  stays-kept (WriteScr rd old scr value) f = (λ b. below (rd % generalCount) old (omega arith), below (scrIndex scr) value (scr-in-file scr))
-  stays-kept (WriteCsr rd old csr value) f = (λ b. below (rd % generalCount) (integer old) (omega arith), f rd old csr value refl)
-  stays-kept (Trap cause value) f = (λ k. absurd (omega (arith, high _ k)), λ k. absurd (omega (arith, high _ k)))
+  -- of a CSR that an effect writes
+  abbrev StaysBeside : Beside → Type 0
+  StaysBeside b = (csr : Csr) (value : ℕ) → b ≡ control csr value → Stays (csrIndex csr) value
+
+  stays-beside : (b : Beside) → StaysBeside b → KeepsBeside Stays b
+  stays-beside neither f = tt
+  stays-beside (special scr value) f = below (scrIndex scr) value (scr-place scr .1)
+  stays-beside (control csr value) f = f csr value refl
+
+  stays-kept : (e : Effect) → StaysBeside (writesOf e .beside) → Keeps Stays e
+  stays-kept e f =
+      let C : Capability → Type 0 = λ c. Unit {0} in (
+        result-kept Stays C Any (λ i c l b u. below i c (omega arith)) (writesOf e .result) (any-result C Any (λ c. tt) (λ x. tt) (writesOf e .result)),
+        stays-beside (writesOf e .beside) f,
+        next-kept Stays C Any (λ i c l b u. below i c b) (λ i v l b u k. absurd (omega (arith, high i k))) (writesOf e .next)
+            (any-next C Any (λ c. tt) (λ x. tt) (writesOf e .next)),
+      )
 
   -- such a word, after an effect that writes none of its CSRs
-  word-stays : (n : ℕ) (e : Effect) → ((rd old : ℕ) (csr : Csr) (value : ℕ) → e ≡ WriteCsr rd old csr value → Stays (csrIndex csr) value)
+  word-stays : (n : ℕ) (e : Effect) → StaysBeside (writesOf e .beside)
       → (i : ℕ) → Kind i → getD (registersAfter n e regs) i 0 ≡ getD regs i 0
   word-stays n e f i k = each-after Stays stays-rule n e regs (stays-kept e f) (record { word = λ j q. refl }) .word i k
 
 -- ---- time
-
-csr-low : (csr : Csr) → csrIndex csr < timeIndex
-csr-low Mstatus = omega arith
-csr-low Mcause = omega arith
-csr-low Mtval = omega arith
-csr-low Mshwm = omega arith
-csr-low Mshwmb = omega arith
 
 -- no effect reaches a word of the timer
 timer-stays : (start n : ℕ) (e : Effect) (regs : List ℕ) (i : ℕ) → timeIndex ≤ i
     → getD (markedBy start (storedBy e) (registersAfter n e regs)) i 0 ≡ getD regs i 0
 timer-stays start n e regs i h =
     marked-other start (storedBy e) (registersAfter n e regs) i (λ q. omega arith)
-    ∙ word-stays (λ j. timeIndex ≤ j) (λ j k. omega arith) regs n e (λ rd old csr value q k. absurd (omega (arith, csr-low csr))) i h
+    ∙ word-stays (λ j. timeIndex ≤ j) (λ j k. omega arith) regs n e (λ csr value q k. absurd (omega (arith, csr-place csr .1))) i h
 
 module _ (board : Board) (revoked : List ℕ) where
   module _ (s : State) (long : length (s .regs) ≡ registerWords) where
@@ -135,9 +135,9 @@ module _ (board : Board) (revoked : List ℕ) where
         mark-or Mshwm f k = f tt
         mark-or Mshwmb f k = omega arith
 
-        other : (e : Effect) → (WritesMark e → ⊥) → (rd old : ℕ) (csr : Csr) (value : ℕ) → e ≡ WriteCsr rd old csr value → csrIndex csr ≡ csrIndex Mshwm
+        other : (e : Effect) → (WritesMark e → ⊥) → (csr : Csr) (value : ℕ) → writesOf e .beside ≡ control csr value → csrIndex csr ≡ csrIndex Mshwm
             → value ≡ getD (s .regs) (csrIndex csr) 0
-        other e f rd old csr value q k = absurd (mark-or csr (λ m. f (rw q m)) k)
+        other e f csr value q k = absurd (mark-or csr (λ m. f (rw q m)) k)
 
   -- n steps take time n on
   pub time-after : (n : ℕ) (r : Ran) → length (r .at .regs) ≡ registerWords → timeOf (r .at .regs) < 2 ^ 64

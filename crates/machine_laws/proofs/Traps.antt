@@ -1,5 +1,5 @@
 -- A trap changes no memory, no tag and no general register. Document 01, "Traps". Assumes nothing.
-use mathlib.Core.Path.{_≡_, refl, _∙_}
+use mathlib.Core.Path.{_≡_, refl, sym, _∙_}
 use mathlib.Core.Bool.{false, true≢false}
 use mathlib.Core.List.{List}
 use Prim.Native.Nat.{ℕ, _*_, _≤_, _<_}
@@ -11,13 +11,15 @@ use Rattle.state.specs.Addresses.{vectorAlignment, returnAlignment, legalized}
 use Rattle.state.specs.Layout.{capabilityWords, generalCount, pccIndex, mepccIndex}
 use Rattle.state.specs.declared.Board.{Board}
 use Rattle.state.specs.declared.Effect.{Effect}
-use Rattle.state.specs.declared.Effect.the-variants.{Advance, Write, Store, StoreCapability, Jump, WriteScr, WriteCsr, Trap}
-use Rattle.state.specs.Lent.{State}
-use Rattle.commit.specs.Commit.{advanced, applyEffect, retires, trapped}
+use Rattle.state.specs.Effects.{Stored, nothing, storedBy, Result, none, writesOf}
+use Rattle.state.specs.Lent.{State, state}
+use Rattle.state.specs.Timer.{ticked}
+use Rattle.commit.specs.Commit.{registersAfter, memoryAfter, tagsAfter, markedBy, applyEffect, retires}
 use Rattle.execution.specs.Step.{lengthIn, fetchedIn, effectAt, stepOf}
 use Rattle.commit.specs.Touched.{SameMemory}
 use Rattle.commit.proofs.Records.{ticked-below}
-use Rattle.commit.proofs.Registers.{Holds, Rule, each-advanced, each-trapped}
+use Rattle.commit.proofs.Views.{Any, any-beside, any-next, resulted, registers-are, trap-alone}
+use Rattle.commit.proofs.Registers.{Holds, Rule, beside-kept, next-kept, each-beyond}
 
 -- the words of c0 to c15 are those of a register file
 abbrev Same : List ℕ → ℕ → ℕ → Type 0
@@ -40,32 +42,39 @@ same-rule regs =
       status = λ m h b. absurd (omega arith);
     }
 
--- neither PCC's move nor a trap's entry changes a general register
-pub advanced-same : (n : ℕ) (regs : List ℕ) (i : ℕ) → i < pccIndex * capabilityWords → getD (advanced n regs) i 0 ≡ getD regs i 0
-advanced-same n regs i h = each-advanced (Same regs) (same-rule regs) n regs (record { word = λ j b. refl }) .word i h
-
-pub trapped-same : (regs : List ℕ) (cause value i : ℕ) → i < pccIndex * capabilityWords → getD (trapped regs cause value) i 0 ≡ getD regs i 0
-trapped-same regs cause value i h =
-    each-trapped (Same regs) (same-rule regs) regs cause value (λ b. absurd (omega arith)) (λ b. absurd (omega arith)) (record { word = λ j b. refl }) .word i h
+-- c0 to c15 after an effect are those after its result alone
+pub general-after : (n : ℕ) (e : Effect) (regs : List ℕ) (i : ℕ) → i < pccIndex * capabilityWords
+    → getD (registersAfter n e regs) i 0 ≡ getD (resulted (writesOf e .result) regs) i 0
+general-after n e regs i h =
+    let l = resulted (writesOf e .result) regs in
+    let C : Capability → Type 0 = λ c. Unit {0} in
+    rw (registers-are n e regs)
+    (each-beyond (Same l) (same-rule l) n (writesOf e .beside) (writesOf e .next) l
+    (beside-kept (Same l) C Any (λ i c g b u. special l i c g) (λ i v g b u k. absurd (omega arith)) (writesOf e .beside)
+    (any-beside C Any (λ c. tt) (λ x. tt) (writesOf e .beside)))
+    (next-kept (Same l) C Any (λ i c g b u. special l i c g) (λ i v g b u k. absurd (omega arith)) (writesOf e .next)
+    (any-next C Any (λ c. tt) (λ x. tt) (writesOf e .next)))
+    (record { word = λ j b. refl }) .word i h)
 
 pub record OnlySpecial (before after : State) : Type 0 where
   pub memory-stays : SameMemory before after
   pub registers-stay : (i : ℕ) → i < pccIndex * capabilityWords → getD (after .regs) i 0 ≡ getD (before .regs) i 0
 
-trap-applied : (start n : ℕ) (e : Effect) (s : State) → retires e ≡ false → OnlySpecial s (applyEffect start n e s)
-unfolding retires applyEffect
-trap-applied start n Advance s h = absurd (true≢false h)
-trap-applied start n (Write rd value) s h = absurd (true≢false h)
-trap-applied start n (Store kind i value) s h = absurd (true≢false h)
-trap-applied start n (StoreCapability i value) s h = absurd (true≢false h)
-trap-applied start n (Jump rd link target mstatus) s h = absurd (true≢false h)
-trap-applied start n (WriteScr rd old scr value) s h = absurd (true≢false h)
-trap-applied start n (WriteCsr rd old csr value) s h = absurd (true≢false h)
-trap-applied start n (Trap cause value) s h =
-    record {
+-- where the effect stores nothing and has no result, they and memory are the same
+alone : (x : Stored) (r : Result) (start : ℕ) (regs : List ℕ) (s : State) → x ≡ nothing → r ≡ none
+    → ((i : ℕ) → i < pccIndex * capabilityWords → getD regs i 0 ≡ getD (resulted r (s .regs)) i 0)
+    → OnlySpecial s (state (ticked (markedBy start x regs)) (memoryAfter x (s .mem)) (tagsAfter x (s .mem) (s .tags)))
+alone x r start regs s p q h =
+    rw p (record {
       memory-stays = record { same-bytes = refl; same-tags = refl };
-      registers-stay = λ i b. ticked-below (trapped (s .regs) cause value) i (omega arith) ∙ trapped-same (s .regs) cause value i b;
-    }
+      registers-stay = λ i b. ticked-below regs i (omega arith) ∙ (h i b ∙ rw q refl);
+    })
+
+trap-applied : (start n : ℕ) (e : Effect) (s : State) → retires e ≡ false → OnlySpecial s (applyEffect start n e s)
+unfolding applyEffect
+trap-applied start n e s h =
+    let t = trap-alone e (λ r. true≢false (sym r ∙ h)) in
+    alone (storedBy e) (writesOf e .result) start (registersAfter n e (s .regs)) s (t .1) (t .0) (general-after n e (s .regs))
 
 -- a step that does not retire leaves memory, tags and all three words of c0 to c15 as they are
 pub trap-changes-little : (board : Board) (revoked : List ℕ) (s : State) → retires (effectAt board revoked s) ≡ false → OnlySpecial s (stepOf board revoked s)

@@ -6,9 +6,9 @@ use Rattle.instructions.specs.declared.Csr.{Csr}
 use Rattle.instructions.specs.declared.Csr.the-variants.{Mstatus, Mcause, Mtval, Mshwm, Mshwmb}
 use Rattle.state.specs.Registers.{pccOf}
 use Rattle.state.specs.Lent.{State}
+use Rattle.state.specs.Effects.{Beside, neither, special, control, writesOf}
 use Rattle.state.specs.declared.Board.{Board}
 use Rattle.state.specs.declared.Effect.{Effect}
-use Rattle.state.specs.declared.Effect.the-variants.{Advance, Write, Store, StoreCapability, Jump, WriteScr, WriteCsr, Trap}
 use Rattle.fetch.specs.Fetch.{fetchOf}
 use Rattle.fetch.specs.declared.Fetched.{Fetched}
 use Rattle.commit.specs.Commit.{applyEffect, retires}
@@ -41,12 +41,10 @@ IsMark Mtval = ⊥
 IsMark Mshwm = Unit {0}
 IsMark Mshwmb = ⊥
 
+abbrev pub ToMark : Beside → Type 0
+ToMark neither = ⊥
+ToMark (special scr value) = ⊥
+ToMark (control csr value) = IsMark csr
+
 abbrev pub WritesMark : Effect → Type 0
-WritesMark Advance = ⊥
-WritesMark (Write rd value) = ⊥
-WritesMark (Store kind i value) = ⊥
-WritesMark (StoreCapability i value) = ⊥
-WritesMark (Jump rd link target mstatus) = ⊥
-WritesMark (WriteScr rd old scr value) = ⊥
-WritesMark (WriteCsr rd old csr value) = IsMark csr
-WritesMark (Trap cause value) = ⊥
+WritesMark e = ToMark (writesOf e .beside)

@@ -19,10 +19,10 @@ use Rattle.state.specs.Lent.{State}
 use Rattle.state.specs.Effects.{Stored, nothing, bytes, whole, storedBy, Within}
 use Rattle.state.specs.declared.Board.{Board}
 use Rattle.state.specs.declared.Effect.{Effect}
-use Rattle.state.specs.declared.Effect.the-variants.{Advance, Write, Store, StoreCapability, Jump, WriteScr, WriteCsr, Trap}
 use Rattle.commit.specs.Commit.{memoryAfter, applyEffect, retires}
 use Rattle.commit.specs.Kept.{watchAfter, keptAfter}
 use Rattle.commit.specs.declared.Kept.{Kept}
+use Rattle.commit.proofs.Views.{trap-alone}
 use Rattle.commit.proofs.Lengths.{applied-long}
 use Rattle.execution.specs.Step.{wordIn, effectAt, stepOf}
 use Rattle.machine.specs.Run.{Ran, ran, iterate, oneMore}
@@ -148,15 +148,7 @@ plain-counts board revoked s trapped t w left small e f = go (retires (effectAt 
 
 -- what does not retire stores nothing
 trap-stores : (f : Effect) (mem : List ℕ) → (retires f ≡ true → ⊥) → memoryAfter (storedBy f) mem ≡ mem
-unfolding retires
-trap-stores Advance mem h = refl
-trap-stores (Write rd value) mem h = refl
-trap-stores (Store kind i value) mem h = absurd (h refl)
-trap-stores (StoreCapability i value) mem h = absurd (h refl)
-trap-stores (Jump rd link target mstatus) mem h = refl
-trap-stores (WriteScr rd old scr value) mem h = refl
-trap-stores (WriteCsr rd old csr value) mem h = refl
-trap-stores (Trap cause value) mem h = refl
+trap-stores f mem h = rw (trap-alone f h .1) refl
 
 module _ (board : Board) (revoked : List ℕ) (n : ℕ) (s₀ : State) (w₀ : Watch) (s : State) (code : List Operation) (keys lens rows : List ℕ)
     (low high base limit : ℕ) (watch : Watch) (trapped k : ℕ) (r : Running board revoked n s₀ w₀ s code keys lens rows low high base limit watch trapped k)

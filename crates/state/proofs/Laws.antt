@@ -13,9 +13,13 @@ use Rattle.words.proofs.Word.{by-test}
 use Rattle.capability.specs.Capability.{capability}
 use Rattle.capability.specs.declared.Capability.{Capability}
 use Rattle.capability.proofs.Laws.{Kept, kept-le, move-kept}
+use Rattle.instructions.specs.declared.Csr.{Csr}
+use Rattle.instructions.specs.declared.Csr.the-variants.{Mstatus, Mcause, Mtval, Mshwm, Mshwmb}
+use Rattle.instructions.specs.declared.Scr.{Scr}
+use Rattle.instructions.specs.declared.Scr.the-variants.{Mtcc, Mtdc, Mscratchc, Mepcc}
 use Rattle.instructions.specs.declared.StoreKind.{StoreKind}
 use Rattle.instructions.specs.declared.StoreKind.the-variants.{Sb, Sh, Sw}
-use Rattle.state.specs.Layout.{generalCount, capabilityCount, pccIndex}
+use Rattle.state.specs.Layout.{generalCount, capabilityCount, controlStart, pccIndex, csrIndex, scrIndex, timeIndex}
 use Rattle.state.specs.Registers.{capabilityAt, registerAt, integerAt, pccOf}
 use Rattle.state.specs.Addresses.{legalized}
 use Rattle.state.specs.Memory.{placeOf, capabilityIn, storeWidth, granuleBytes}
@@ -138,6 +142,20 @@ placed P f m o a (At i) = a i
 pub integer-is : (regs : List ℕ) (r : ℕ) → integerAt regs r ≡ registerAt regs r .address
 unfolding integerAt capabilityAt
 integer-is regs r = refl
+
+-- the special registers stand behind the general ones and PCC, the control words between the capabilities and time
+pub scr-place : (scr : Scr) → (generalCount ≤ scrIndex scr) × (scrIndex scr < capabilityCount)
+scr-place Mtcc = (omega arith, omega arith)
+scr-place Mtdc = (omega arith, omega arith)
+scr-place Mscratchc = (omega arith, omega arith)
+scr-place Mepcc = (omega arith, omega arith)
+
+pub csr-place : (csr : Csr) → (controlStart ≤ csrIndex csr) × (csrIndex csr < timeIndex)
+csr-place Mstatus = (omega arith, omega arith)
+csr-place Mcause = (omega arith, omega arith)
+csr-place Mtval = (omega arith, omega arith)
+csr-place Mshwm = (omega arith, omega arith)
+csr-place Mshwmb = (omega arith, omega arith)
 
 -- ---- tags
 

@@ -1,9 +1,12 @@
--- Views of an effect: what it stores, and each capability and each word that it writes. What is said of all effects is said of a view, once.
--- Document 01, "What is lent"; CHERIoT report, 7.7. Assumes nothing.
+-- Views of an effect: what it stores, what it writes to the register file, and each capability and each word of both. What is said of all effects is said of
+-- a view, once. Document 01, "What is lent"; CHERIoT report, 7.7. Assumes nothing.
 use mathlib.Core.List.{List}
 use Prim.Native.Nat.{ℕ, _+_, _*_, _%_, _≤_, _<_}
 use lib.ListN.{getD}
+use Rattle.capability.specs.Capability.{integer}
 use Rattle.capability.specs.declared.Capability.{Capability}
+use Rattle.instructions.specs.declared.Csr.{Csr}
+use Rattle.instructions.specs.declared.Scr.{Scr}
 use Rattle.state.specs.Layout.{capabilityCount, capabilityWords}
 use Rattle.state.specs.Memory.{storeWidth, granuleBytes}
 use Rattle.state.specs.declared.Effect.{Effect}
@@ -51,7 +54,45 @@ Nothing (whole i value) = ⊥
 abbrev pub Storeless : Effect → Type 0
 Storeless e = Nothing (storedBy e)
 
--- ---- what an effect writes
+-- ---- what an effect writes to the register file
+
+-- a capability to a general register, or none
+pub data Result : Type 0 where
+  none : Result
+  given : (rd : ℕ) → Capability → Result
+
+-- a special register, a CSR, or neither
+pub data Beside : Type 0 where
+  neither : Beside
+  special : Scr → Capability → Beside
+  control : Csr → ℕ → Beside
+
+-- PCC: on by the instruction's length; where a jump goes, with mstatus; to a trap's entry, with mcause and mtval
+pub data Next : Type 0 where
+  onward : Next
+  jumps : (target : Capability) → (mstatus : ℕ) → Next
+  enters : (cause value : ℕ) → Next
+
+-- one after the other
+pub record Writes : Type 0 where
+  pub result : Result
+  pub beside : Beside
+  pub next : Next
+
+abbrev pub writes : Result → Beside → Next → Writes
+writes r b x = record { result = r; beside = b; next = x }
+
+abbrev pub writesOf : Effect → Writes
+writesOf Advance = writes none neither onward
+writesOf (Write rd value) = writes (given rd value) neither onward
+writesOf (Store kind i value) = writes none neither onward
+writesOf (StoreCapability i value) = writes none neither onward
+writesOf (Jump rd link target mstatus) = writes (given rd link) neither (jumps target mstatus)
+writesOf (WriteScr rd old scr value) = writes (given rd old) (special scr value) onward
+writesOf (WriteCsr rd old csr value) = writes (given rd (integer old)) (control csr value) onward
+writesOf (Trap cause value) = writes none neither (enters cause value)
+
+-- ---- each of what it writes
 
 -- each capability that an effect writes, to a register or to memory, has a property
 abbrev pub EachCapability : (Capability → Type 0) → Effect → Type 0

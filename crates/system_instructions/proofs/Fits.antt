@@ -6,7 +6,7 @@ use lib.Bits.{or-lt, and-lt}
 use lib.Dec.{eqb}
 use Rattle.capability.specs.declared.Capability.{Capability}
 use Rattle.capability.proofs.Laws.{integer-good}
-use Rattle.system_instructions.proofs.Laws.{scr-in-file, csr-holds}
+use Rattle.system_instructions.proofs.Laws.{csr-holds}
 use Rattle.capability.specs.Capability.{Good}
 use Rattle.instructions.specs.Range.{Word, SystemInRange}
 use Rattle.instructions.specs.declared.CsrKind.{CsrKind}
@@ -23,7 +23,7 @@ use Rattle.state.specs.Marks.{cleared}
 use Rattle.state.specs.Fits.{FitsRegisters, FitsEffect}
 use Rattle.state.specs.declared.Effect.the-variants.{Write, WriteScr}
 use Rattle.state.specs.Addresses.{vectorAlignment, returnAlignment}
-use Rattle.state.proofs.Laws.{cond-holds}
+use Rattle.state.proofs.Laws.{cond-holds, scr-place}
 use Rattle.state.proofs.Fits.{checked-fits, capability-fits, register-fits, integer-fits, csr-fits, legalized-fits, written-status-fits}
 use Rattle.system_instructions.specs.System.{csrAsked, csrWritten, csrEffect, scrValue, specialWrite, specialEffect, systemEffect}
 
@@ -54,7 +54,7 @@ write-fits scr rd rs1 old value g h = cond-holds FitsEffect (eqb (rs1 % generalC
 
 module _ (regs : List ℕ) (h : FitsRegisters regs) where
   special-fits : (scr : Scr) → Good (capabilityAt regs (scrIndex scr))
-  special-fits scr = capability-fits regs h (scrIndex scr) (scr-in-file scr)
+  special-fits scr = capability-fits regs h (scrIndex scr) (scr-place scr .1)
 
   effect-fits : (kind : CsrKind) (csr : Csr) (rd named operand : ℕ) → Word operand → FitsEffect (csrEffect kind csr rd named operand regs)
   unfolding csrEffect

@@ -1,7 +1,7 @@
 -- No instruction of this family stores, and none sets a tag other than 0 or 1. Assumes nothing.
 use mathlib.Core.Bool.{Bool, cond}
 use mathlib.Core.List.{List}
-use Prim.Native.Nat.{ℕ, _%_, _<_}
+use Prim.Native.Nat.{ℕ, _%_}
 use native.Mathlib.Omega.{arith}
 use lib.Dec.{eqb}
 use Rattle.capability.specs.Capability.{integer}
@@ -11,13 +11,13 @@ use Rattle.instructions.specs.declared.Scr.{Scr}
 use Rattle.instructions.specs.declared.Scr.the-variants.{Mtcc, Mtdc, Mscratchc, Mepcc}
 use Rattle.instructions.specs.declared.SystemInstruction.{SystemInstruction}
 use Rattle.instructions.specs.declared.SystemInstruction.the-variants.{Fence, Wfi, Ecall, Ebreak, CsrRegister, CsrImmediate, SpecialRw}
-use Rattle.state.specs.Layout.{generalCount, capabilityCount, scrIndex}
+use Rattle.state.specs.Layout.{generalCount, scrIndex}
 use Rattle.state.specs.Registers.{capabilityAt, registerAt}
 use Rattle.state.specs.Effects.{Storeless, GoodTag, GoodTags, GoodEffect}
 use Rattle.state.specs.declared.Effect.{Effect}
 use Rattle.state.specs.declared.Effect.the-variants.{Write, WriteScr, WriteCsr}
 use Rattle.state.specs.Addresses.{vectorAlignment, returnAlignment}
-use Rattle.state.proofs.Laws.{cond-holds, checked-holds, capability-tag, register-tag, legalized-tag}
+use Rattle.state.proofs.Laws.{cond-holds, checked-holds, capability-tag, register-tag, legalized-tag, scr-place}
 use Rattle.system_instructions.specs.System.{csrWrites, csrWrite, csrEffect, scrValue, specialWrite, specialEffect, systemEffect}
 
 write-storeless : (scr : Scr) (rd rs1 : ℕ) (old value : Capability) → Storeless (specialWrite scr rd rs1 old value)
@@ -40,12 +40,6 @@ system-storeless (CsrRegister kind csr rd rs1) regs = checked-holds Storeless _ 
 system-storeless (CsrImmediate kind csr rd value) regs = checked-holds Storeless _ _ _ (λ n v. tt) (csr-holds Storeless _ csr rd _ _ tt tt)
 system-storeless (SpecialRw scr rd rs1) regs = checked-holds Storeless _ _ _ (λ n v. tt) (write-storeless scr rd rs1 _ _)
 
-pub scr-in-file : (scr : Scr) → scrIndex scr < capabilityCount
-scr-in-file Mtcc = omega arith
-scr-in-file Mtdc = omega arith
-scr-in-file Mscratchc = omega arith
-scr-in-file Mepcc = omega arith
-
 scr-tag : (scr : Scr) (c : Capability) → GoodTag c → GoodTag (scrValue scr c)
 unfolding scrValue
 scr-tag Mtcc c h = legalized-tag vectorAlignment c h
@@ -67,5 +61,5 @@ system-good (CsrRegister kind csr rd rs1) regs h = checked-holds GoodEffect _ _ 
 system-good (CsrImmediate kind csr rd value) regs h = checked-holds GoodEffect _ _ _ (λ n v. tt) (csr-holds GoodEffect _ csr rd _ _ tt (omega arith))
 system-good (SpecialRw scr rd rs1) regs h =
     checked-holds GoodEffect _ _ _ (λ n v. tt)
-    (write-good scr rd rs1 _ _ (scr-tag scr (capabilityAt regs (scrIndex scr)) (capability-tag regs (scrIndex scr) (scr-in-file scr) h))
+    (write-good scr rd rs1 _ _ (scr-tag scr (capabilityAt regs (scrIndex scr)) (capability-tag regs (scrIndex scr) (scr-place scr .1) h))
     (scr-tag scr (registerAt regs rs1) (register-tag regs rs1 h)))
