@@ -13,8 +13,6 @@ use Rattle.capability.specs.Loading.{loadedOf}
 use Rattle.capability.specs.declared.Capability.{Capability}
 use Rattle.instructions.specs.declared.Scr.{Scr}
 use Rattle.instructions.specs.declared.Scr.the-variants.{Mtcc, Mtdc, Mscratchc, Mepcc}
-use Rattle.instructions.specs.declared.Combination.{Combination}
-use Rattle.instructions.specs.declared.Combination.the-variants as Combination
 use Rattle.instructions.specs.declared.IntegerInstruction.{IntegerInstruction}
 use Rattle.instructions.specs.declared.IntegerInstruction.the-variants as Integers
 use Rattle.instructions.specs.declared.JumpInstruction.{JumpInstruction}
@@ -45,7 +43,9 @@ use Rattle.integer_instructions.specs.Integer.{integerEffect}
 use Rattle.jump_instructions.specs.Jumps.{linkOf, aligned, jalEffect, jalrEffect, takenEffect, branchEffect, mretEffect, jumpEffect}
 use Rattle.memory_instructions.specs.Access.{loadAt, loadEffect, storeAt, storeEffect, revokedValue, filtered, loadCapabilityAt, loadCapabilityEffect}
 use Rattle.memory_instructions.specs.Access.{storeCapabilityAt, storeCapabilityEffect, addressOf, memoryEffect}
-use Rattle.capability_instructions.specs.Derivation.{combined, globalPointer, capabilityEffect}
+use Rattle.capability_instructions.specs.Derivation.{globalPointer, capabilityEffect}
+use Rattle.capability_instructions.proofs.Derived.{Derived, cut, cut-exactly, sealed, unsealed, narrowed, moved, untagged}
+use Rattle.capability_instructions.proofs.Laws.{combined-derived}
 use Rattle.system_instructions.specs.System.{csrEffect, scrValue, specialWrite, specialEffect, systemEffect}
 use Rattle.system_instructions.proofs.Laws.{csr-holds}
 use Rattle.execution.specs.Step.{effectOf}
@@ -84,19 +84,15 @@ module _ (P : Capability → Type 0) (closed : Carried P) where
   targeted r cause target e h =
       passes r cause (aligned target e) (cond-holds (EachCapability P) (eqb (target % targetAlignment) 0) e (Trap fetchMisaligned target) h tt)
 
-  combined-carried : (what : Combination) (c d : Capability) → Good c → P c → P (combined what c d)
-  unfolding combined
-  combined-carried Combination.SetBounds c d g h = closed .derived (set-bounds-made c (d .address) (g .address-fits)) h
-  combined-carried Combination.SetBoundsExact c d g h = closed .derived (set-bounds-exact-made c (d .address) (g .address-fits)) h
-  combined-carried Combination.Seal c d g h = closed .derived (seal-made c d) h
-  combined-carried Combination.Unseal c d g h = closed .derived (unseal-made c d) h
-  combined-carried Combination.AndPerm c d g h = closed .derived (narrow-made c (d .address)) h
-  combined-carried Combination.SetAddr c d g h = closed .derived (move-made c _) h
-  combined-carried Combination.IncAddr c d g h = closed .derived (move-made c _) h
-  combined-carried Combination.SubAddr c d g h = number _
-  combined-carried Combination.SetHigh c d g h = closed .untagged _ refl
-  combined-carried Combination.TestSubset c d g h = number _
-  combined-carried Combination.SetEqualExact c d g h = number _
+  -- by the operation that made it
+  derived-carried : (c d r : Capability) → Derived c d r → Good c → P c → P r
+  derived-carried c d r (cut n) g h = closed .derived (set-bounds-made c n (g .address-fits)) h
+  derived-carried c d r (cut-exactly n) g h = closed .derived (set-bounds-exact-made c n (g .address-fits)) h
+  derived-carried c d r sealed g h = closed .derived (seal-made c d) h
+  derived-carried c d r unsealed g h = closed .derived (unseal-made c d) h
+  derived-carried c d r (narrowed mask) g h = closed .derived (narrow-made c mask) h
+  derived-carried c d r (moved a w) g h = closed .derived (move-made c a) h
+  derived-carried c d r (untagged s t w) g h = closed .untagged s t
 
   scr-carried : (scr : Scr) (c : Capability) → P c → P (scrValue scr c)
   unfolding scrValue
@@ -152,7 +148,9 @@ module _ (P : Capability → Type 0) (closed : Carried P) where
     capability-carried (Capabilities.ClearTag rd rs1) = closed .untagged _ refl
     capability-carried (Capabilities.Inspect what rd rs1) = number _
     capability-carried (Capabilities.Combine what rd rs1 rs2) =
-        combined-carried what (registerAt regs rs1) (registerAt regs rs2) (register-fits regs fits rs1) (general rs1)
+        let c = registerAt regs rs1 in
+        let d = registerAt regs rs2 in
+        derived-carried c d _ (combined-derived what c d) (register-fits regs fits rs1) (general rs1)
 
     system-carried : (i : SystemInstruction) → EachCapability P (systemEffect i regs)
     unfolding systemEffect csrEffect specialEffect

@@ -1,26 +1,22 @@
 -- Every integer and capability that an instruction of this family writes fits. Assumes nothing.
-use mathlib.Core.Bool.{Bool, true, false}
 use mathlib.Core.List.{List}
 use Prim.Native.Nat.{ℕ}
 use native.Mathlib.Omega.{arith}
 use Rattle.bounds.proofs.Fits.{alignment-mask-word, representable-length-word}
 use Rattle.capability.specs.Capability.{Good, high}
 use Rattle.capability.specs.declared.Capability.{Capability}
-use Rattle.capability.proofs.Laws.{low-lt, rights-lt, object-type-lt, integer-good, clear-good, move-good, set-bounds-good, set-bounds-exact-good}
-use Rattle.capability.proofs.Laws.{narrow-good, seal-good, unseal-good}
+use Rattle.capability.proofs.Laws.{low-lt, rights-lt, object-type-lt, integer-good, clear-good, move-good, set-bounds-good}
 use Rattle.instructions.specs.Range.{Word}
 use Rattle.instructions.specs.declared.Inspection.{Inspection}
 use Rattle.instructions.specs.declared.Inspection.the-variants.{GetPerm, GetType, GetBase, GetLen, GetTag, RoundLength, AlignmentMask, GetAddr, GetHigh, GetTop}
-use Rattle.instructions.specs.declared.Combination.{Combination}
-use Rattle.instructions.specs.declared.Combination.the-variants.{SetBounds, SetBoundsExact, Seal, Unseal, AndPerm, SetAddr, IncAddr, SubAddr, SetHigh}
-use Rattle.instructions.specs.declared.Combination.the-variants.{TestSubset, SetEqualExact}
 use Rattle.instructions.specs.declared.CapabilityInstruction.{CapabilityInstruction}
 use Rattle.instructions.specs.declared.CapabilityInstruction.the-variants.{AuiPcc, AuiCgp, IncAddrImm, SetBoundsImm, Move, ClearTag, Inspect, Combine}
 use Rattle.state.specs.Registers.{registerAt, pccOf}
 use Rattle.state.specs.Fits.{FitsRegisters, FitsEffect}
 use Rattle.state.proofs.Fits.{register-fits, pcc-fits}
-use Rattle.capability_instructions.specs.Derivation.{movedBy, atMostWord, lengthOf, inspected, subset, equalExact, truth, combined, globalPointer}
-use Rattle.capability_instructions.specs.Derivation.{capabilityEffect}
+use Rattle.capability_instructions.specs.Derivation.{movedBy, atMostWord, lengthOf, inspected, globalPointer, capabilityEffect}
+use Rattle.capability_instructions.proofs.Derived.{derived-fits}
+use Rattle.capability_instructions.proofs.Laws.{combined-derived}
 
 at-most-word : (x : ℕ) → Word (atMostWord x)
 at-most-word x = omega arith
@@ -41,25 +37,6 @@ inspected-word GetTop c g = at-most-word (high c)
 moved-fits : (c : Capability) (offset : ℕ) → Good c → Good (movedBy c offset)
 moved-fits c offset g = move-good c _ g (omega arith)
 
-truth-fits : (b : Bool) → Good (truth b)
-truth-fits true = integer-good 1 (omega arith)
-truth-fits false = integer-good 0 (omega arith)
-
--- what two good capabilities combine to is good
-pub combined-fits : (what : Combination) (c d : Capability) → Good c → Good d → Good (combined what c d)
-unfolding combined
-combined-fits SetBounds c d g h = set-bounds-good c (d .address) g
-combined-fits SetBoundsExact c d g h = set-bounds-exact-good c (d .address) g
-combined-fits Seal c d g h = seal-good c d g
-combined-fits Unseal c d g h = unseal-good c d g
-combined-fits AndPerm c d g h = narrow-good c (d .address) g
-combined-fits SetAddr c d g h = move-good c (d .address) g (h .address-fits)
-combined-fits IncAddr c d g h = moved-fits c (d .address) g
-combined-fits SubAddr c d g h = integer-good _ (omega arith)
-combined-fits SetHigh c d g h = record { address-fits = g .address-fits; metadata-fits = h .address-fits; tag-fits = omega arith }
-combined-fits TestSubset c d g h = truth-fits (subset c d)
-combined-fits SetEqualExact c d g h = truth-fits (equalExact c d)
-
 -- whatever the immediate: a moved address wraps, and the request of a cut may be any number
 pub capability-fits : (i : CapabilityInstruction) (regs : List ℕ) → FitsRegisters regs → FitsEffect (capabilityEffect i regs)
 unfolding capabilityEffect
@@ -71,4 +48,6 @@ capability-fits (Move rd rs1) regs h = (register-fits regs h rs1, tt)
 capability-fits (ClearTag rd rs1) regs h = (clear-good (registerAt regs rs1) (register-fits regs h rs1), tt)
 capability-fits (Inspect what rd rs1) regs h = (integer-good _ (inspected-word what (registerAt regs rs1) (register-fits regs h rs1)), tt)
 capability-fits (Combine what rd rs1 rs2) regs h =
-    (combined-fits what (registerAt regs rs1) (registerAt regs rs2) (register-fits regs h rs1) (register-fits regs h rs2), tt)
+    let c = registerAt regs rs1 in
+    let d = registerAt regs rs2 in
+    (derived-fits c d _ (combined-derived what c d) (register-fits regs h rs1) (register-fits regs h rs2), tt)

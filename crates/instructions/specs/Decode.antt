@@ -1,6 +1,8 @@
 -- What a word means: trees of tests in the order of the tables. The report is CHERIoT's, the standard RISC-V's unprivileged one (RV32E, M, Zicsr).
 use Prim.Native.Nat.{ℕ}
 use mathlib.Core.Bool.{cond}
+use mathlib.Core.List.{List, [], _∷_}
+use mathlib.Core.Path.{_≡_}
 use lib.Dec.{ltb, eqb}
 use Rattle.instructions.specs.Fields.{opcode, rdOf, funct3, rs1Of, rs2Of, funct7, upper12, immediateI, immediateS, immediateB, immediateU, immediateJ}
 use Rattle.instructions.specs.Fields.{offsetAui}
@@ -21,6 +23,8 @@ use Rattle.instructions.specs.declared.Inspection.the-variants.{GetTop}
 use Rattle.instructions.specs.declared.Combination.{Combination}
 use Rattle.instructions.specs.declared.Combination.the-variants.{SetBounds, SetBoundsExact, Seal, Unseal, AndPerm, SetAddr, IncAddr, SubAddr, SetHigh}
 use Rattle.instructions.specs.declared.Combination.the-variants.{TestSubset, SetEqualExact}
+use Rattle.instructions.specs.declared.Selection.{Selection}
+use Rattle.instructions.specs.declared.Selection.the-variants.{Is, Nothing}
 use Rattle.instructions.specs.declared.IntegerInstruction.the-variants.{Lui, OpImm, Op, Multiply, Divide}
 use Rattle.instructions.specs.declared.JumpInstruction.the-variants.{Jal, Jalr, Branch, Mret}
 use Rattle.instructions.specs.declared.MemoryInstruction.the-variants.{Load, Store, LoadCapability, StoreCapability}
@@ -214,23 +218,59 @@ sourceDestOf func rd rs1 =
 unfoldable pub combineOf : Combination → ℕ → ℕ → ℕ → Instruction
 combineOf what rd rs1 rs2 = namingOf rs2 (Capability (Combine what rd rs1 rs2))
 
--- three registers, by funct7: report, 8.1.2 to 8.1.5 and 8.3
+-- two sources, by funct7: report, 8.1.2 to 8.1.5 and 8.3
+pub record Row : Type 0 where
+  pub code : ℕ
+  pub selects : Selection
+
+infix 6 _is_
+abbrev _is_ : ℕ → Combination → Row
+n is what = record { code = n; selects = Is what }
+
+abbrev pub rows : List Row
+rows =
+    (0x08 is SetBounds) ∷
+    (0x09 is SetBoundsExact) ∷
+    (0x0b is Seal) ∷
+    (0x0c is Unseal) ∷
+    (0x0d is AndPerm) ∷
+    (0x10 is SetAddr) ∷
+    (0x11 is IncAddr) ∷
+    (0x14 is SubAddr) ∷
+    (0x16 is SetHigh) ∷
+    (0x20 is TestSubset) ∷
+    (0x21 is SetEqualExact) ∷
+    []
+
+-- the row of the number, or else what comes last
+abbrev pub meant : Selection → ℕ → ℕ → ℕ → Instruction → Instruction
+meant (Is what) rd rs1 rs2 last = combineOf what rd rs1 rs2
+meant Nothing rd rs1 rs2 last = last
+
+abbrev pub rowOf : List Row → ℕ → ℕ → ℕ → ℕ → Instruction → Instruction
+rowOf [] f7 rd rs1 rs2 last = last
+rowOf (row ∷ rest) f7 rd rs1 rs2 last = cond (eqb f7 (row .code)) (meant (row .selects) rd rs1 rs2 last) (rowOf rest f7 rd rs1 rs2 last)
+
+-- three registers, by funct7: report, 8.1.5 and 8.3
 unfoldable pub twoSourceOf : ℕ → ℕ → ℕ → ℕ → Instruction
 twoSourceOf f7 rd rs1 rs2 =
     cond (eqb f7 0x01) (specialOf rs2 rd rs1)
-    (cond (eqb f7 0x08) (combineOf SetBounds rd rs1 rs2)
-    (cond (eqb f7 0x09) (combineOf SetBoundsExact rd rs1 rs2)
-    (cond (eqb f7 0x0b) (combineOf Seal rd rs1 rs2)
-    (cond (eqb f7 0x0c) (combineOf Unseal rd rs1 rs2)
-    (cond (eqb f7 0x0d) (combineOf AndPerm rd rs1 rs2)
-    (cond (eqb f7 0x10) (combineOf SetAddr rd rs1 rs2)
-    (cond (eqb f7 0x11) (combineOf IncAddr rd rs1 rs2)
-    (cond (eqb f7 0x14) (combineOf SubAddr rd rs1 rs2)
-    (cond (eqb f7 0x16) (combineOf SetHigh rd rs1 rs2)
-    (cond (eqb f7 0x20) (combineOf TestSubset rd rs1 rs2)
-    (cond (eqb f7 0x21) (combineOf SetEqualExact rd rs1 rs2)
+    (rowOf rows f7 rd rs1 rs2
     (cond (eqb f7 0x7f) (sourceDestOf rs2 rd rs1)
-    Illegal))))))))))))
+    Illegal))
+
+-- what a match over the rows tells of its answer: the row of the number, or that it is none of theirs
+abbrev pub foundIn : List Row → ℕ → Selection
+foundIn [] f7 = Nothing
+foundIn (row ∷ rest) f7 = cond (eqb f7 (row .code)) (row .selects) (foundIn rest f7)
+
+abbrev pub NoneOf : Type 0 → List Row → ℕ → Type 0
+NoneOf A [] f7 = A
+NoneOf A (row ∷ rest) f7 = NoneOf (A × (f7 ≡ row .code → ⊥)) rest f7
+
+abbrev pub Selected : ℕ → Selection → Type 0
+Selected f7 (Is what) = foundIn rows f7 ≡ Is what
+Selected f7 Nothing = NoneOf (Unit {0}) rows f7
 
 -- opcode 0x5b, by funct3: report, 8.3
 unfoldable pub capabilityOf : ℕ → ℕ → ℕ → ℕ → ℕ → ℕ → ℕ → Instruction

@@ -1,11 +1,10 @@
 // The decoder a second time, with the same leaves. A step of the plain machine has its decoder compiled in only while that has one caller: called by the second
 // engine too, it costs the plain one tens of the host's instructions a step. So the engine that keeps what it decodes has its own.
 use crate::CapabilityInstruction;
-use crate::Combination;
 use crate::Csr;
 use crate::Instruction;
 use crate::LAST_REGISTER;
-use crate::capabilities::combine;
+use crate::Selection;
 use crate::capabilities::decode_auicgp;
 use crate::capabilities::decode_auipcc;
 use crate::capabilities::decode_source_dest;
@@ -32,6 +31,7 @@ use crate::jumps::decode_jalr;
 use crate::memory::decode_load;
 use crate::memory::decode_store;
 use crate::opcodes;
+use crate::selected_again;
 use crate::system::MCAUSE;
 use crate::system::MSHWM;
 use crate::system::MSHWMB;
@@ -41,7 +41,30 @@ use crate::system::decode_csr;
 use crate::system::decode_fence;
 use crate::system::decode_whole;
 ghost use mathlib.Core.Path.{_≡_};
-ghost use Rattle.instructions.specs.Decode.{twoSourceOf, capabilityOf, systemOf, decodeOf};
+ghost use Rattle.instructions.specs.Decode.{rows, rowOf, twoSourceOf, capabilityOf, systemOf, decodeOf};
+
+// As two_sources.
+fn two_sources_again(f7: u32, rd: u32, rs1: u32, rs2: u32) -> Instruction
+    ensures { λ r. ⌜ r ≡ rowOf rows f7 rd rs1 rs2 Instruction.Illegal ⌝ }
+{
+    match rs2 {
+        0..=LAST_REGISTER => {
+            let selection = selected_again(f7);
+            match selection {
+                Selection::Is(what) => {
+                    return Instruction::Capability(CapabilityInstruction::Combine {
+                        what,
+                        rd,
+                        rs1,
+                        rs2,
+                    });
+                }
+                Selection::Nothing => return Instruction::Illegal,
+            }
+        }
+        _ => return Instruction::Illegal,
+    }
+}
 
 // As decode_two_source.
 fn two_source_again(f7: u32, rd: u32, rs1: u32, rs2: u32) -> Instruction
@@ -49,19 +72,8 @@ fn two_source_again(f7: u32, rd: u32, rs1: u32, rs2: u32) -> Instruction
 {
     match f7 {
         0x01 => return decode_special(rs2, rd, rs1),
-        0x08 => return combine(Combination::SetBounds, rd, rs1, rs2),
-        0x09 => return combine(Combination::SetBoundsExact, rd, rs1, rs2),
-        0x0b => return combine(Combination::Seal, rd, rs1, rs2),
-        0x0c => return combine(Combination::Unseal, rd, rs1, rs2),
-        0x0d => return combine(Combination::AndPerm, rd, rs1, rs2),
-        0x10 => return combine(Combination::SetAddr, rd, rs1, rs2),
-        0x11 => return combine(Combination::IncAddr, rd, rs1, rs2),
-        0x14 => return combine(Combination::SubAddr, rd, rs1, rs2),
-        0x16 => return combine(Combination::SetHigh, rd, rs1, rs2),
-        0x20 => return combine(Combination::TestSubset, rd, rs1, rs2),
-        0x21 => return combine(Combination::SetEqualExact, rd, rs1, rs2),
         0x7f => return decode_source_dest(rs2, rd, rs1),
-        _ => return Instruction::Illegal,
+        _ => return two_sources_again(f7, rd, rs1, rs2),
     }
 }
 

@@ -1,13 +1,14 @@
 // Capability instructions: opcodes CAPABILITY, AUIPCC and AUICGP.
 use crate::CapabilityInstruction;
-use crate::Combination;
 use crate::Inspection;
 use crate::Instruction;
 use crate::LAST_REGISTER;
 use crate::Scr;
+use crate::Selection;
 use crate::SystemInstruction;
+use crate::selected;
 ghost use mathlib.Core.Path.{_≡_};
-ghost use Rattle.instructions.specs.Decode.{specialOf, sourceDestOf, combineOf, twoSourceOf, capabilityOf, auipccOf, auicgpOf};
+ghost use Rattle.instructions.specs.Decode.{specialOf, sourceDestOf, rows, rowOf, twoSourceOf, capabilityOf, auipccOf, auicgpOf};
 
 // The numbers of the special capability registers.
 pub const MTCC: u32 = 28;
@@ -64,16 +65,25 @@ pub(crate) fn decode_source_dest(func: u32, rd: u32, rs1: u32) -> Instruction
     }
 }
 
-pub(crate) fn combine(what: Combination, rd: u32, rs1: u32, rs2: u32) -> Instruction
-    ensures { λ r. ⌜ r ≡ combineOf what rd rs1 rs2 ⌝ }
+// Two sources: the row of funct7 is looked up only where the second is a register, which costs the run less.
+fn two_sources(f7: u32, rd: u32, rs1: u32, rs2: u32) -> Instruction
+    ensures { λ r. ⌜ r ≡ rowOf rows f7 rd rs1 rs2 Instruction.Illegal ⌝ }
 {
     match rs2 {
-        0..=LAST_REGISTER => return Instruction::Capability(CapabilityInstruction::Combine {
-            what,
-            rd,
-            rs1,
-            rs2,
-        }),
+        0..=LAST_REGISTER => {
+            let selection = selected(f7);
+            match selection {
+                Selection::Is(what) => {
+                    return Instruction::Capability(CapabilityInstruction::Combine {
+                        what,
+                        rd,
+                        rs1,
+                        rs2,
+                    });
+                }
+                Selection::Nothing => return Instruction::Illegal,
+            }
+        }
         _ => return Instruction::Illegal,
     }
 }
@@ -84,19 +94,8 @@ fn decode_two_source(f7: u32, rd: u32, rs1: u32, rs2: u32) -> Instruction
 {
     match f7 {
         0x01 => return decode_special(rs2, rd, rs1),
-        0x08 => return combine(Combination::SetBounds, rd, rs1, rs2),
-        0x09 => return combine(Combination::SetBoundsExact, rd, rs1, rs2),
-        0x0b => return combine(Combination::Seal, rd, rs1, rs2),
-        0x0c => return combine(Combination::Unseal, rd, rs1, rs2),
-        0x0d => return combine(Combination::AndPerm, rd, rs1, rs2),
-        0x10 => return combine(Combination::SetAddr, rd, rs1, rs2),
-        0x11 => return combine(Combination::IncAddr, rd, rs1, rs2),
-        0x14 => return combine(Combination::SubAddr, rd, rs1, rs2),
-        0x16 => return combine(Combination::SetHigh, rd, rs1, rs2),
-        0x20 => return combine(Combination::TestSubset, rd, rs1, rs2),
-        0x21 => return combine(Combination::SetEqualExact, rd, rs1, rs2),
         0x7f => return decode_source_dest(rs2, rd, rs1),
-        _ => return Instruction::Illegal,
+        _ => return two_sources(f7, rd, rs1, rs2),
     }
 }
 

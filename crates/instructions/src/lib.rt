@@ -38,7 +38,7 @@ use memory::decode_store;
 use system::decode_fence;
 use system::decode_system;
 ghost use mathlib.Core.Path.{_≡_};
-ghost use Rattle.instructions.specs.Decode.{decodeOf};
+ghost use Rattle.instructions.specs.Decode.{Selected, decodeOf};
 
 // There are sixteen registers, so a field of five bits can name what is none.
 pub const LAST_REGISTER: u32 = 15;
@@ -143,6 +143,51 @@ pub enum Combination {
     SetHigh,
     TestSubset,
     SetEqualExact,
+}
+
+// What funct7 selects of them.
+pub enum Selection {
+    Is(Combination),
+    Nothing,
+}
+
+// The rows of the report's table, beside their enum: a row more is a row here. The match once more is the second decoder's (again.rt says why).
+pub(crate) fn selected(f7: u32) -> Selection
+    ensures { λ r. ⌜ Selected f7 r ⌝ }
+{
+    match f7 {
+        0x08 => return Selection::Is(Combination::SetBounds),
+        0x09 => return Selection::Is(Combination::SetBoundsExact),
+        0x0b => return Selection::Is(Combination::Seal),
+        0x0c => return Selection::Is(Combination::Unseal),
+        0x0d => return Selection::Is(Combination::AndPerm),
+        0x10 => return Selection::Is(Combination::SetAddr),
+        0x11 => return Selection::Is(Combination::IncAddr),
+        0x14 => return Selection::Is(Combination::SubAddr),
+        0x16 => return Selection::Is(Combination::SetHigh),
+        0x20 => return Selection::Is(Combination::TestSubset),
+        0x21 => return Selection::Is(Combination::SetEqualExact),
+        _ => return Selection::Nothing,
+    }
+}
+
+pub(crate) fn selected_again(f7: u32) -> Selection
+    ensures { λ r. ⌜ Selected f7 r ⌝ }
+{
+    match f7 {
+        0x08 => return Selection::Is(Combination::SetBounds),
+        0x09 => return Selection::Is(Combination::SetBoundsExact),
+        0x0b => return Selection::Is(Combination::Seal),
+        0x0c => return Selection::Is(Combination::Unseal),
+        0x0d => return Selection::Is(Combination::AndPerm),
+        0x10 => return Selection::Is(Combination::SetAddr),
+        0x11 => return Selection::Is(Combination::IncAddr),
+        0x14 => return Selection::Is(Combination::SubAddr),
+        0x16 => return Selection::Is(Combination::SetHigh),
+        0x20 => return Selection::Is(Combination::TestSubset),
+        0x21 => return Selection::Is(Combination::SetEqualExact),
+        _ => return Selection::Nothing,
+    }
 }
 
 pub enum IntegerInstruction {
