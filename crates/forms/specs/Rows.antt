@@ -1,4 +1,4 @@
--- The rows: of each instruction its name, the bits that all its words have, the format of its operands, and what is listed of it. All that one more
+-- The rows: of each instruction its name, the bits that all its words have, the format of its operands, and what is listed of it. All that one more long
 -- instruction adds to the listing is here. A row's number is its place in the three lists; a new one goes to their end.
 -- Loads, stores, jumps and address construction have the names that chapter 8 of the report gives them, capability instructions those of their pages;
 -- other long words have the standard's (RV32E, M, Zicsr), halves the standard's of extension C.

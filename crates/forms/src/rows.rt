@@ -1,4 +1,4 @@
-// The rows: of each instruction its name, fixed bits and format, and what is listed of it. All that one more instruction adds to the listing is here.
+// The rows: of each instruction its name, fixed bits and format, and what is listed of it. All that one more long instruction adds to the listing is here.
 // Only FENCE, LUI, AUIPCC and AUICGP take operands from the word itself.
 use crate::Shape;
 use crate::shapes::bare;

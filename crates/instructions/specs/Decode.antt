@@ -218,7 +218,7 @@ sourceDestOf func rd rs1 =
 unfoldable pub combineOf : Combination → ℕ → ℕ → ℕ → Instruction
 combineOf what rd rs1 rs2 = namingOf rs2 (Capability (Combine what rd rs1 rs2))
 
--- two sources, by funct7: report, 8.1.2 to 8.1.5 and 8.3
+-- two sources, by funct7: report, 8.1.2 to 8.1.4 and 8.3
 pub record Row : Type 0 where
   pub code : ℕ
   pub selects : Selection
@@ -251,7 +251,7 @@ abbrev pub rowOf : List Row → ℕ → ℕ → ℕ → ℕ → Instruction → 
 rowOf [] f7 rd rs1 rs2 last = last
 rowOf (row ∷ rest) f7 rd rs1 rs2 last = cond (eqb f7 (row .code)) (meant (row .selects) rd rs1 rs2 last) (rowOf rest f7 rd rs1 rs2 last)
 
--- three registers, by funct7: report, 8.1.5 and 8.3
+-- funct3 0, by funct7: CSpecialRW (report, 8.1.5), the rows, and one source by 0x7f (8.3)
 unfoldable pub twoSourceOf : ℕ → ℕ → ℕ → ℕ → Instruction
 twoSourceOf f7 rd rs1 rs2 =
     cond (eqb f7 0x01) (specialOf rs2 rd rs1)

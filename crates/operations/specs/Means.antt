@@ -87,7 +87,7 @@ Means (Operation.Address at from) x =
 Means (Operation.LoadByte kind at from offset) x =
     (rd : ℕ) × (rs1 : ℕ) × (x ≡ Memory (Load kind rd rs1 offset)) × (at ≡ placeOf rd) × (from ≡ placeOf rs1)
 
--- the places are those of registers, and offsets from PCC are even
+-- the places are those of registers
 abbrev pub Place : ℕ → Type 0
 Place p = (p ≤ 45) × (p % 3 ≡ 0)
 
@@ -103,6 +103,7 @@ OneByte Lh = ⊥
 OneByte Lhu = ⊥
 OneByte Lw = ⊥
 
+-- and offsets from PCC are even
 abbrev pub Placed : Operation → Type 0
 Placed Operation.Plain = Unit {0}
 Placed (Operation.Put at value) = Written at

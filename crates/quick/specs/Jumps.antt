@@ -19,7 +19,7 @@ use Rattle.quick.specs.Rows.{rowOfPcc, InRow, Reached}
 use Rattle.quick.specs.Turns.{wentOn, heldAt, pccAt, pccPlace, Stands, Turned}
 use Rattle.quick.specs.declared.Took.{Took}
 
--- a target is aligned and in PCC's row, and so is PCC's address
+-- a target is aligned and in PCC's row; PCC's own address is a word, and in the row
 pub record Lands (rows : List ℕ) (pcc : Capability) (to : ℕ) : Type 0 where
   pub is-even : to % targetAlignment ≡ 0
   pub own-fits : pcc .address < 2 ^ 32

@@ -1,5 +1,5 @@
--- What the second engine remembers of a register's reach, and what a remembered row is good for. CHERIoT report, 7.6 and 7.10 (bounds and checks of an
--- access); document 02, 14. Assumes nothing.
+-- What the second engine remembers of a register's reach, and what a remembered row is good for. CHERIoT report, 7.6, 7.13.3 and 7.13.5 (bounds and checks
+-- of an access); document 02, 14. Assumes nothing.
 use mathlib.Core.Bool.{Bool, true, false, cond}
 use mathlib.Core.List.{List}
 use mathlib.Core.Path.{_≡_}

@@ -16,7 +16,7 @@ ghost use Prim.Native.Nat.{_+_, _-_, _^_, _≤_, _<_};
 ghost use Rattle.quick.specs.Entries.{slots, entries, slotOf, slotAt, ReadyAt};
 ghost use Rattle.quick.specs.Entries.{OpenIf, FoundIf, FirstLook, FoundAs, ClearedUnless, clearedSlot, clearedNear, forgotten};
 
-// How many slots there are, and entries: each slot has two, so that two pieces of code at any distance are both kept.
+// How many slots there are, and entries: each slot has two, so that two pieces of code at any distance can both be kept.
 const SLOTS: usize = 1024;
 
 pub(crate) const ENTRIES: usize = 2048;
@@ -188,12 +188,20 @@ pub(crate) fn entry_for(k: u32, limit: u32, keys: &[u64; 2048], slot: usize, key
     ENTRIES
 }
 
-// The entry that new code of a slot takes: the first, unless that is in use.
-pub(crate) fn room_at(keys: &[u64; 2048], slot: usize) -> usize
+// What tosses between two entries: a number times MIX, in halves of 2^32.
+const MIX: u64 = 0x9E37_79B9;
+
+const HALF: u64 = 0x8000_0000;
+
+// The entry that new code of a slot takes: the first, unless that is in use; else either, by time, so that code which runs no more does not stay.
+pub(crate) fn room_at(keys: &[u64; 2048], slot: usize, time: u32) -> usize
     requires { ⌜ slot < slots ⌝ }
     ensures { λ r. ⌜ (slotAt r ≡ slot) × (r < entries) ⌝ }
 {
     if keys[slot] == 0 {
+        return slot;
+    }
+    if time as u64 * MIX / HALF % 2 == 0 {
         return slot;
     }
     slot + SLOTS

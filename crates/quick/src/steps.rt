@@ -10,6 +10,7 @@ use crate::turn;
 use machine::Tally;
 use operations::Operation;
 use state::Board;
+use state::TIME_INDEX;
 use std::num::wrapping_add_u32;
 use watch::Watch;
 ghost use mathlib.Core.Path.{_≡_};
@@ -95,7 +96,7 @@ pub(crate) fn take_quick(
         if f.bytes != 0 {
             let op = f.op;
             let at = entries::place_in(board.start, pc);
-            let j = entries::room_at(&keys, slot);
+            let j = entries::room_at(&keys, slot, regs[TIME_INDEX]);
             code[j] = op;
             keys[j] = entries::key_of(base, pc);
             lens[j] = f.bytes;

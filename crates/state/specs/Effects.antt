@@ -67,7 +67,7 @@ pub data Beside : Type 0 where
   special : Scr → Capability → Beside
   control : Csr → ℕ → Beside
 
--- PCC: on by the instruction's length; where a jump goes, with mstatus; to a trap's entry, with mcause and mtval
+-- PCC: on by the instruction's length; where a jump goes, with mstatus; to a trap's entry, with all that a trap writes, of which mcause and mtval are its own
 pub data Next : Type 0 where
   onward : Next
   jumps : (target : Capability) → (mstatus : ℕ) → Next

@@ -292,10 +292,16 @@ base-of-requires-3 c κs =
 place-in-requires : tie.Need-place-in-requires Inv-loop μ-loop
 place-in-requires c κs = search needs
 
+slice-read-room-at : tie.Need-slice-read-room-at Inv-loop μ-loop
+slice-read-room-at c =
+    let c8 = c .before .before .before .before .before .before .before .before in
+    let c16 = c8 .before .before .before .before .before .before .before .before in
+    omega (arith, c16 .before .before .loop .inv .0 .whole-file)
+
 room-at-requires : tie.Need-room-at-requires Inv-loop μ-loop
 room-at-requires c κs =
     let c8 = c .before .before .before .before .before .before .before .before in
-    c8 .before .before .before .before .before .before .slot-of .ensures .1
+    c8 .before .before .before .before .before .before .before .slot-of .ensures .1
 
 mul-code : tie.Need-mul-code Inv-loop μ-loop
 mul-code c =
@@ -309,7 +315,7 @@ key-of-requires-2 : tie.Need-key-of-requires-2 Inv-loop μ-loop
 key-of-requires-2 c κs =
     let c8 = c .before .before .before .before .before .before .before .before in
     let c16 = c8 .before .before .before .before .before .before .before .before in
-    omega (arith, c .before .before .before .before .before .base-of3 .ensures, c16 .slice-known4 .given 49)
+    omega (arith, c .before .before .before .before .before .before .base-of3 .ensures, c16 .before .slice-known4 .given 49)
 
 mul-keys : tie.Need-mul-keys Inv-loop μ-loop
 mul-keys c =
@@ -334,7 +340,7 @@ add-larger : tie.Need-add-larger Inv-loop μ-loop
 add-larger c =
     let c8 = c .before .before .before .before .before .before .before .before in
     let c16 = c8 .before .before .before .before .before .before .before .before in
-    omega (arith, c .before .before .before .before .place-in .ensures, c16 .before .before .slice-known4 .given 48)
+    omega (arith, c .before .before .before .before .before .place-in .ensures, c16 .before .before .before .slice-known4 .given 48)
 
 larger-requires : tie.Need-larger-requires Inv-loop μ-loop
 larger-requires c κs = search needs
@@ -343,24 +349,24 @@ loop-less-4 : tie.Need-loop-less-4 Inv-loop μ-loop
 loop-less-4 c =
     let c8 = c .before .before .before .before .before .before .before .before in
     let c16 = c8 .before .before .before .before .before .before .before .before in
-    let first = c8 .before .before .look .ensures .1 (c .before .before .before .before .before .before .if4 .taken) in
-    omega (arith, c16 .before .before .before .before .loop-test .taken, first)
+    let first = c8 .before .before .before .look .ensures .1 (c .before .before .before .before .before .before .before .if4 .taken) in
+    omega (arith, c16 .before .before .before .before .before .loop-test .taken, first)
 
 loop-again-4 : tie.Need-loop-again-4 Inv-loop μ-loop
 loop-again-4 c =
     let c8 = c .before .before .before .before .before .before .before .before in
     let c16 = c8 .before .before .before .before .before .before .before .before in
-    let loop = c16 .before .before .before .before .before .loop in
-    let slice-known4 = c16 .before .before .before .slice-known4 in
-    let slot-of = c16 .before .before .slot-of in
+    let loop = c16 .before .before .before .before .before .before .loop in
+    let slice-known4 = c16 .before .before .before .before .slice-known4 in
+    let slot-of = c16 .before .before .before .slot-of in
     let room-at = c .before .before .before .room-at in
-    let base-of3 = c8 .base-of3 in
-    let place-in = c .before .before .before .before .before .place-in in
+    let base-of3 = c8 .before .base-of3 in
+    let place-in = c .before .before .before .before .before .before .place-in in
     let smaller = c .before .smaller in
     let larger = c .larger in
-    let the-look = c8 .before .before .look in
-    let read-pcc2 = c8 .before .before .before .before .read-pcc2 in
-    let if4 = c .before .before .before .before .before .before .if4 in
+    let the-look = c8 .before .before .before .look in
+    let read-pcc2 = c8 .before .before .before .before .before .read-pcc2 in
+    let if4 = c .before .before .before .before .before .before .before .if4 in
     let key-of2 = c .before .before .key-of2 in
     let l = loop in
     let given = slice-known4 .given in
@@ -459,8 +465,8 @@ loop-again-5 c =
       omega (arith, l .3, c8 .before .tags3 .given),
     )
 
-sub-t102 : tie.Need-sub-t102 Inv-loop μ-loop
-sub-t102 c =
+sub-t104 : tie.Need-sub-t104 Inv-loop μ-loop
+sub-t104 c =
     let r = c .before .loop .inv .0 in
     omega (arith, r .few-trapped, r .in-run)
 
@@ -523,6 +529,7 @@ take-quick-spec =
     look-requires
     base-of-requires-3
     place-in-requires
+    slice-read-room-at
     room-at-requires
     mul-code
     array-set-from-code
@@ -544,7 +551,7 @@ take-quick-spec =
     limit-from-requires-3
     loop-less-5
     loop-again-5
-    sub-t102
+    sub-t104
     same-length
     same-length-2
     same-length-3
