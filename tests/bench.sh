@@ -1,5 +1,5 @@
 #!/usr/bin/env bash
-# The bench command: it builds, its lints and tests, how long a fit takes, the demonstration, that the demonstration's
+# The bench command: it builds, its tests, how long a fit takes, the demonstration, that the demonstration's
 # images are what their sources make, and what ./bench shows where it builds and where it does not. The proved
 # libraries are built by rt, or lie in the directory that ODDERSNOW_STATICLIB names.
 set -u
@@ -19,7 +19,7 @@ tests() {
 }
 
 image_files() {
-  need riscv64-unknown-elf-as binutils-riscv64-unknown-elf && examples/interlock_make.sh "$work" || return 1
+  need riscv64-unknown-elf-as && examples/interlock_make.sh "$work" || return 1
   local file
   for file in examples/interlock_*.hex examples/interlock_*.img; do cmp "$file" "$work/${file##*/}" || return 1; done
 }
@@ -58,7 +58,7 @@ print(run["end"], run["retired"], run["trapped"], run["state"]["registers"][10],
 # The demonstration's images, with short words and without: each is listed, its listing assembles to the bytes that binutils
 # has of the same HEX file, and these bytes have the same listing.
 round_trip() {
-  need riscv64-unknown-elf-objcopy binutils-riscv64-unknown-elf || return 1
+  need riscv64-unknown-elf-objcopy || return 1
   local bench=$PWD/host/bench/target/release/bench file
   for file in examples/interlock_image.hex examples/interlock_image_short.hex; do
     riscv64-unknown-elf-objcopy -I ihex -O binary "$file" "$work/bytes" && [ -s "$work/bytes" ] &&
@@ -69,7 +69,7 @@ round_trip() {
 
 # Which of the proved functions a run calls, by callgrind; the reports do not tell.
 by_engine() { # FUNCTION OTHER OPTION..: the one and not the other
-  need valgrind valgrind || return 1
+  need valgrind || return 1
   local wanted=$1 other=$2
   shift 2
   (cd examples && valgrind --tool=callgrind --callgrind-out-file="$work/calls" ../host/bench/target/release/bench run "$@" \
@@ -207,8 +207,6 @@ check "./bench shows its progress where something is missing" progress_shown
 check "./bench builds again what is older than its sources" older_than_sources
 check "./bench names a crate that is not proved" failure_named
 check "the command has no decoder of its own" asks_the_machine
-check "bench cargo fmt" in_bench cargo fmt --check
-check "bench cargo clippy" in_bench cargo clippy --release --all-targets -- -D warnings
 tests
 check "a fit of an image of 1 MiB takes less than 10 ms" quick_fit
 check "--engine plain runs by the plain engine" by_engine oddersnow_run_watched oddersnow_run_quick --engine plain

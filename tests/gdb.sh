@@ -6,7 +6,7 @@ set -u
 source "$(dirname "$0")/lib/check.sh"
 
 tools() {
-  need gdb-multiarch gdb-multiarch && need riscv64-unknown-elf-as binutils-riscv64-unknown-elf && gdb-multiarch --version
+  need gdb-multiarch riscv64-unknown-elf-as && gdb-multiarch --version
 }
 
 # Starts a bench on a free port, in the folder of the test: `pid` is its process, `place` where it listens.

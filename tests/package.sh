@@ -8,7 +8,7 @@ triplet=$(gcc -dumpmachine)
 own=usr/share/doc/oddersnow-bench
 shared=usr/share/oddersnow-bench
 
-tools() { need groff groff-base && need pkg-config pkg-config && need dpkg-shlibdeps dpkg-dev; }
+tools() { need groff pkg-config dpkg-shlibdeps; }
 built() { packaging/deb "$work/first" >"$work/path" && package=$(cat "$work/path") && dpkg-deb -x "$package" "$work/there"; }
 same_twice() { sleep 1.1; packaging/deb "$work/second" && cmp "$package" "$work/second/${package##*/}"; }
 
@@ -102,7 +102,7 @@ pages() {
   done
   python3 tests/package_words.py "$work/there/usr/bin/bench" page "$work/bench.txt"
 }
-linted() { need lintian lintian && lintian --fail-on error --tag-display-limit 0 "$package"; }
+linted() { need lintian && lintian --fail-on error --tag-display-limit 0 "$package"; }
 
 check "the package's tools" tools || exit 1
 check "the package is built" built || exit 1

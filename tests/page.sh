@@ -162,8 +162,8 @@ check "a page is written over no file that is read" places
 check "hostile names change nothing on a page" hostile_names
 check "a very long name is cut on a page" long_name
 check "what a page calls proved is in the crates" named_facts
-check "chromium is here" need chromium chromium || exit 1
-check "pdftotext is here" need pdftotext poppler-utils || exit 1
+check "chromium is here" need chromium || exit 1
+check "pdftotext is here" need pdftotext || exit 1
 check "a browser shows the page's text without a complaint" browser_text
 check "a browser shows hostile names as text" browser_hostile
 check "a browser draws the picture" browser_picture

@@ -12,9 +12,7 @@ part() { # NAME COMMAND..
   log=$out/$1.txt check "published $1" "${@:2}"
 }
 tools() {
-  need riscv64-unknown-elf-objdump binutils-riscv64-unknown-elf &&
-    need riscv64-unknown-elf-gcc gcc-riscv64-unknown-elf &&
-    need qemu-riscv32 qemu-user &&
+  need riscv64-unknown-elf-objdump riscv64-unknown-elf-gcc qemu-riscv32 &&
     riscv64-unknown-elf-gcc --version && riscv64-unknown-elf-objdump --version && qemu-riscv32 --version
 }
 build() {

@@ -162,7 +162,7 @@ stopped() {
 
 # A bar on a terminal, and nothing on a standard error that is none.
 bar_shown() {
-  need script bsdutils >/dev/null || return 1
+  need script >/dev/null || return 1
   script -qec "'$bench' shelf '$work/slow' ${large[*]} --steps $slow_steps >'$work/out'" "$work/terminal" >/dev/null
   grep -q 'of 61 images' "$work/terminal" && [ -s "$work/out" ]
 }
@@ -171,7 +171,7 @@ flat_memory() {
     python3 tests/shelf.py memory "$work/few" "$work/many" "$bench" shelf @ "${large[@]}" --steps 20000
 }
 browser_shows() {
-  need chromium chromium >/dev/null || return 1
+  need chromium >/dev/null || return 1
   local run=(timeout 60 chromium --headless --no-sandbox --disable-gpu --disable-dev-shm-usage --hide-scrollbars --user-data-dir="$work/profile")
   run+=(--enable-logging=stderr --v=0)
   "${run[@]}" --dump-dom "file://$work/broken.pages/index.html" >"$work/dom.html" 2>"$work/browser" && ! grep CONSOLE "$work/browser" &&

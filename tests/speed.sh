@@ -33,7 +33,7 @@ at_least() { # MB: every rate of the proved library in the table of sheets, of w
 
 check "the proved libraries" library bench_api label sheet_api listing_api
 check "the speed program builds" build
-check "valgrind is here" need valgrind valgrind
+check "valgrind is here" need valgrind
 
 # Instructions a step of an engine, in hundredths: those of some thousand steps less those of none.
 thousands=200
@@ -61,7 +61,7 @@ engines() { # PROGRAM NAME: every engine's, and a line of a table of them
 
 # Code of others: routines of GCC's library, without compressed code and with it, and the demonstration on its large board.
 routines() { # ARCHITECTURE
-  need riscv64-unknown-elf-objcopy binutils-riscv64-unknown-elf && need riscv64-unknown-elf-gcc gcc-riscv64-unknown-elf || return 1
+  need riscv64-unknown-elf-objcopy riscv64-unknown-elf-gcc || return 1
   riscv64-unknown-elf-gcc -march="$1" -mabi=ilp32e -nostdlib -Wl,-Ttext=0x20000000 -o "$work/$1.elf" host/speed/routines.S -lgcc &&
     riscv64-unknown-elf-objcopy -O binary -j .text "$work/$1.elf" "$work/$1.bin"
 }

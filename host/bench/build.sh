@@ -1,6 +1,7 @@
 #!/usr/bin/env bash
 # Builds the bench command: the Debian crates where they are missing, the proved libraries by rt (or those
-# in the directory that ODDERSNOW_STATICLIB names), the command. It is then target/release/bench.
+# in the directory that ODDERSNOW_STATICLIB names), the command. It is then target/release/bench. With the word
+# crates, the Debian crates alone.
 set -eu
 cd "$(dirname "$0")"
 
@@ -12,6 +13,7 @@ if [ ${#missing[@]} -gt 0 ]; then
   apt-get -o DPkg::Lock::Timeout=300 update -qq
   apt-get -o DPkg::Lock::Timeout=300 install -y -qq --no-install-recommends "${missing[@]}"
 fi
+[ "${1:-}" != crates ] || exit 0
 if [ -z "${ODDERSNOW_STATICLIB:-}" ]; then
   (cd ../.. && for name in label bench_api sheet_api listing_api; do rt staticlib "$name"; done)
 fi
