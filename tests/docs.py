@@ -6,7 +6,8 @@
     cited      docs/GUARANTEE.md has something in brackets behind each sentence, and each name in them stands in the file beside it
     promises   docs/PROMISES.md has a row for every public function, and names every edit, of must-fail and of tried
     sizes      counts of mutants are those of the tree, and counts of lines are within a tenth of them
-    lines      no line is longer than 160 characters
+    lines      no line of a document is longer than 160 characters
+    widths     no line of code, definitions or proofs is, but one that is a literal alone
     bits       a file is executable exactly if it starts with #!
     starts     a file of definitions, laws or proofs begins with a comment that says what is in it
     itself     the parts above find what is wrong in a made-up document
@@ -30,6 +31,8 @@ import sys
 
 ROOT = os.path.dirname(os.path.dirname(os.path.abspath(__file__)))
 WIDTH = 160
+CODE = ("rt", "antt", "rs", "sh", "py", "c", "h", "S")
+LITERAL = re.compile(r'\s*\*?b?"[^"]*"[;,]?')
 
 # Names in backticks that are not of this repository, by what they are. One that no document uses is reported.
 ALLOWED = {
@@ -354,6 +357,17 @@ def bits():
                 yield f"{path}:1: {'not executable' if script else 'executable, and no script'}"
 
 
+def widths():
+    for path in files(*(f"{folder}/**/*.{kind}" for folder in ("crates", "host", "tests", "include", "examples") for kind in CODE)):
+        yield from width_faults(path, read(path))
+
+
+def width_faults(path, text):
+    for number, line in enumerate(text.splitlines(), 1):
+        if len(line) > WIDTH and not LITERAL.fullmatch(line):
+            yield f"{path}:{number}: {len(line)} characters"
+
+
 def starts():
     for path in files("crates/*/specs/**/*.antt", "crates/*/proofs/**/*.antt"):
         yield from start_faults(path, read(path))
@@ -365,7 +379,7 @@ def start_faults(path, text):
 
 
 PARTS = {"names": names, "paths": paths, "cited": cited, "promises": promises, "sizes": sizes, "lines": lines}
-WHOLE_TREE = {"bits": bits, "starts": starts}
+WHOLE_TREE = {"bits": bits, "widths": widths, "starts": starts}
 
 # ---- the check of the checks
 
@@ -419,6 +433,10 @@ def itself(tree):
     for want in (f"no row for the public function {crate}::{function}", f"the edit {crate}/{name} is not named"):
         if want not in said:
             yield f"tests/docs.py:1: not found: {want}"
+    wide = "x" * WIDTH
+    said = list(width_faults("made-up.rt", f'{wide}\n{wide}x\n    *b"{wide}";\n"{wide}" + x\n'))
+    if said != [f"made-up.rt:{number}: {WIDTH + more} characters" for number, more in ((2, 1), (4, 6))]:
+        yield f"tests/docs.py:1: of lines that are too wide was found: {said}"
     for text in ("", "use a.B\n-- late\n", "--\n", "-- \n"):
         if not list(start_faults("made-up.antt", text)):
             yield f"tests/docs.py:1: taken for a start: {text!r}"

@@ -23,12 +23,14 @@ use Rattle.commit.specs.Commit.{markedBy}
 pub ticked-below : (l : List ℕ) (i : ℕ) → i < timeIndex → getD (ticked l) i 0 ≡ getD l i 0
 unfolding ticked
 ticked-below l i h =
-    getD-set-other (set l timeIndex (nextTime l % 2 ^ 32)) (timeIndex + 1) i (nextTime l / 2 ^ 32) 0 (λ e. omega arith) ∙ getD-set-other l timeIndex i (nextTime l % 2 ^ 32) 0 (λ e. omega arith)
+    getD-set-other (set l timeIndex (nextTime l % 2 ^ 32)) (timeIndex + 1) i (nextTime l / 2 ^ 32) 0 (λ e. omega arith)
+    ∙ getD-set-other l timeIndex i (nextTime l % 2 ^ 32) 0 (λ e. omega arith)
 
 pub ticked-above : (l : List ℕ) (i : ℕ) → compareIndex ≤ i → getD (ticked l) i 0 ≡ getD l i 0
 unfolding ticked
 ticked-above l i h =
-    getD-set-other (set l timeIndex (nextTime l % 2 ^ 32)) (timeIndex + 1) i (nextTime l / 2 ^ 32) 0 (λ e. omega arith) ∙ getD-set-other l timeIndex i (nextTime l % 2 ^ 32) 0 (λ e. omega arith)
+    getD-set-other (set l timeIndex (nextTime l % 2 ^ 32)) (timeIndex + 1) i (nextTime l / 2 ^ 32) 0 (λ e. omega arith)
+    ∙ getD-set-other l timeIndex i (nextTime l % 2 ^ 32) 0 (λ e. omega arith)
 
 pub ticked-time : (l : List ℕ) → length l ≡ registerWords → timeOf (ticked l) ≡ nextTime l
 unfolding timeOf ticked

@@ -110,42 +110,49 @@ module _ (w : ℕ) where
     abbrev Two : (b c : ℕ) → Type 0
     Two b c = instructionShape w i ≡ two (rowOf i) b c
 
-    rowR : Three (rdOf w) (rs1Of w) (rs2Of w) → stands i 0 (opcode (fixedOf i) + funct3 (fixedOf i) * 2 ^ 12 + funct7 (fixedOf i) * 2 ^ 25) ≡ true → opcode w ≡ opcode (fixedOf i) → funct3 w ≡ funct3 (fixedOf i) → funct7 w ≡ funct7 (fixedOf i)
+    rowR : Three (rdOf w) (rs1Of w) (rs2Of w) → stands i 0 (opcode (fixedOf i) + funct3 (fixedOf i) * 2 ^ 12 + funct7 (fixedOf i) * 2 ^ 25) ≡ true
+        → opcode w ≡ opcode (fixedOf i) → funct3 w ≡ funct3 (fixedOf i) → funct7 w ≡ funct7 (fixedOf i)
         → Good w w i
     unfolding placeOf
     rowR s t o p q =
         good i 0 _ _ s t (fit3 (rowOf i) (rdOf w) (rs1Of w) (rs2Of w) (omega arith) (omega arith) (omega arith))
         (λ h e. formatR w h (fixedOf i) (omega arith))
 
-    rowP : Two (rdOf w) (rs1Of w) → stands i 6 (opcode (fixedOf i) + funct3 (fixedOf i) * 2 ^ 12 + rs2Of (fixedOf i) * 2 ^ 20 + funct7 (fixedOf i) * 2 ^ 25) ≡ true → opcode w ≡ opcode (fixedOf i) → funct3 w ≡ funct3 (fixedOf i) → rs2Of w ≡ rs2Of (fixedOf i) → funct7 w ≡ funct7 (fixedOf i)
+    rowP : Two (rdOf w) (rs1Of w)
+        → stands i 6 (opcode (fixedOf i) + funct3 (fixedOf i) * 2 ^ 12 + rs2Of (fixedOf i) * 2 ^ 20 + funct7 (fixedOf i) * 2 ^ 25) ≡ true
+        → opcode w ≡ opcode (fixedOf i) → funct3 w ≡ funct3 (fixedOf i) → rs2Of w ≡ rs2Of (fixedOf i) → funct7 w ≡ funct7 (fixedOf i)
         → Good w w i
     unfolding placeOf
     rowP s t o p q r =
         good i 6 _ _ s t (fit2 (rowOf i) (rdOf w) (rs1Of w) (omega arith) (omega arith))
         (λ h e. formatP w h (fixedOf i) (omega arith))
 
-    rowN : Three (rdOf w) (rs1Of w) (upper12 w) → stands i 1 (opcode (fixedOf i) + funct3 (fixedOf i) * 2 ^ 12) ≡ true → opcode w ≡ opcode (fixedOf i) → funct3 w ≡ funct3 (fixedOf i)
+    rowN : Three (rdOf w) (rs1Of w) (upper12 w) → stands i 1 (opcode (fixedOf i) + funct3 (fixedOf i) * 2 ^ 12) ≡ true → opcode w ≡ opcode (fixedOf i)
+        → funct3 w ≡ funct3 (fixedOf i)
         → Good w w i
     unfolding placeOf
     rowN s t o p =
         good i 1 _ _ s t (fit3 (rowOf i) (rdOf w) (rs1Of w) (upper12 w) (omega arith) (omega arith) (omega arith))
         (λ h e. formatN w h (fixedOf i) (omega arith))
 
-    rowI : Three (rdOf w) (rs1Of w) (immediateI w) → stands i 1 (opcode (fixedOf i) + funct3 (fixedOf i) * 2 ^ 12) ≡ true → opcode w ≡ opcode (fixedOf i) → funct3 w ≡ funct3 (fixedOf i)
+    rowI : Three (rdOf w) (rs1Of w) (immediateI w) → stands i 1 (opcode (fixedOf i) + funct3 (fixedOf i) * 2 ^ 12) ≡ true
+        → opcode w ≡ opcode (fixedOf i) → funct3 w ≡ funct3 (fixedOf i)
         → Good w w i
     unfolding placeOf
     rowI s t o p =
         good i 1 _ _ s t (fit3 (rowOf i) (rdOf w) (rs1Of w) (immediateI w) (omega arith) (omega arith) wordI)
         (λ h e. formatI w h (fixedOf i) (omega arith))
 
-    rowS : Three (rs1Of w) (rs2Of w) (immediateS w) → stands i 2 (opcode (fixedOf i) + funct3 (fixedOf i) * 2 ^ 12) ≡ true → opcode w ≡ opcode (fixedOf i) → funct3 w ≡ funct3 (fixedOf i)
+    rowS : Three (rs1Of w) (rs2Of w) (immediateS w) → stands i 2 (opcode (fixedOf i) + funct3 (fixedOf i) * 2 ^ 12) ≡ true
+        → opcode w ≡ opcode (fixedOf i) → funct3 w ≡ funct3 (fixedOf i)
         → Good w w i
     unfolding placeOf
     rowS s t o p =
         good i 2 _ _ s t (fit3 (rowOf i) (rs1Of w) (rs2Of w) (immediateS w) (omega arith) (omega arith) wordS)
         (λ h e. formatS w h (fixedOf i) (omega arith))
 
-    rowB : Three (rs1Of w) (rs2Of w) (immediateB w) → stands i 3 (opcode (fixedOf i) + funct3 (fixedOf i) * 2 ^ 12) ≡ true → opcode w ≡ opcode (fixedOf i) → funct3 w ≡ funct3 (fixedOf i)
+    rowB : Three (rs1Of w) (rs2Of w) (immediateB w) → stands i 3 (opcode (fixedOf i) + funct3 (fixedOf i) * 2 ^ 12) ≡ true
+        → opcode w ≡ opcode (fixedOf i) → funct3 w ≡ funct3 (fixedOf i)
         → Good w w i
     unfolding placeOf
     rowB s t o p =
@@ -172,21 +179,25 @@ module _ (w : ℕ) where
     rowW s t o = good i 8 _ _ s t (fit0 (rowOf i)) (λ h e. omega arith)
 
     -- an operand that is a number of its own, and not a field of the word: of a CSR, before or after the source; of a special register
-    rowC : Three (rdOf w) (rs1Of w) (instructionShape w i .c) → stands i 1 (opcode (fixedOf i) + funct3 (fixedOf i) * 2 ^ 12) ≡ true → upper12 w ≡ instructionShape w i .c → opcode w ≡ opcode (fixedOf i) → funct3 w ≡ funct3 (fixedOf i)
+    rowC : Three (rdOf w) (rs1Of w) (instructionShape w i .c) → stands i 1 (opcode (fixedOf i) + funct3 (fixedOf i) * 2 ^ 12) ≡ true
+        → upper12 w ≡ instructionShape w i .c → opcode w ≡ opcode (fixedOf i) → funct3 w ≡ funct3 (fixedOf i)
         → Good w w i
     unfolding placeOf
     rowC s t n o p =
         good i 1 _ _ s t (fit3 (rowOf i) (rdOf w) (rs1Of w) _ (omega arith) (omega arith) (omega arith))
         (λ h e. ap (λ (m : ℕ). wrap (fixedOf i + placeI (rdOf w) (rs1Of w) m)) (sym n) ∙ formatN w h (fixedOf i) (omega arith))
 
-    rowV : Three (rdOf w) (instructionShape w i .b) (rs1Of w) → stands i 7 (opcode (fixedOf i) + funct3 (fixedOf i) * 2 ^ 12) ≡ true → upper12 w ≡ instructionShape w i .b → opcode w ≡ opcode (fixedOf i) → funct3 w ≡ funct3 (fixedOf i)
+    rowV : Three (rdOf w) (instructionShape w i .b) (rs1Of w) → stands i 7 (opcode (fixedOf i) + funct3 (fixedOf i) * 2 ^ 12) ≡ true
+        → upper12 w ≡ instructionShape w i .b → opcode w ≡ opcode (fixedOf i) → funct3 w ≡ funct3 (fixedOf i)
         → Good w w i
     unfolding placeOf
     rowV s t n o p =
         good i 7 _ _ s t (fit3 (rowOf i) (rdOf w) _ (rs1Of w) (omega arith) (omega arith) (omega arith))
         (λ h e. ap (λ (m : ℕ). wrap (fixedOf i + placeI (rdOf w) (rs1Of w) m)) (sym n) ∙ formatN w h (fixedOf i) (omega arith))
 
-    rowQ : Three (rdOf w) (rs1Of w) (instructionShape w i .c) → stands i 0 (opcode (fixedOf i) + funct3 (fixedOf i) * 2 ^ 12 + funct7 (fixedOf i) * 2 ^ 25) ≡ true → rs2Of w ≡ instructionShape w i .c → opcode w ≡ opcode (fixedOf i) → funct3 w ≡ funct3 (fixedOf i) → funct7 w ≡ funct7 (fixedOf i)
+    rowQ : Three (rdOf w) (rs1Of w) (instructionShape w i .c)
+        → stands i 0 (opcode (fixedOf i) + funct3 (fixedOf i) * 2 ^ 12 + funct7 (fixedOf i) * 2 ^ 25) ≡ true → rs2Of w ≡ instructionShape w i .c
+        → opcode w ≡ opcode (fixedOf i) → funct3 w ≡ funct3 (fixedOf i) → funct7 w ≡ funct7 (fixedOf i)
         → Good w w i
     unfolding placeOf
     rowQ s t n o p q =

@@ -1,4 +1,5 @@
--- Names are apart: Apart. Operands that fit: Fit. Words and halves made again of what is listed: Formats, Back, Halves. What is listed of any word: Legal, Listed.
+-- Names are apart: Apart. Operands that fit: Fit. Words and halves made again of what is listed: Formats, Back, Halves. What is listed of any word: Legal,
+-- Listed.
 pub mod Apart
 pub mod Formats
 pub mod Fit

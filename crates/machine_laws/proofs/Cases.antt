@@ -40,7 +40,8 @@ use Rattle.machine_laws.specs.Cases.{all, holds, found, put, before, cas
 
 pub cases-hold : T (all cases)
 unfolding all holds found put before cases top-of-memory untagged-load environment-call stepAnswer stepAfter refusalOf goodMemory goodTags goodZero
-    goodWords goodWindow goodBits goodEdition sound soundIfTagged goodBounds stepOf metOf interrupted timeOf compareOf ticked cleared belowMark marked csrRegisterOf csrOf csrAsked
+    goodWords goodWindow goodBits goodEdition sound soundIfTagged goodBounds stepOf metOf interrupted timeOf compareOf ticked cleared belowMark marked
+    csrRegisterOf csrOf csrAsked
     csrWritten csrWrites csrWrite csrEffect effectIn trapOr lengthIn instructionIn wordIn fetchOf fetchedAt standsOf secondOf shutOut shortOf quadrant0
     quadrant1 quadrant2 twoOf arithmeticOf unlessHint immediateWide jalrCause accepts linkType reportStatus jumpStatus jalrEffect jalrOf isSentry
     addi4spnOf movesOf registersOf

@@ -1,7 +1,7 @@
 -- Which lent buffers are refused: Refusals. The window of the revocation bits: Windows. The editions: Editions. What a step keeps, and that a run is its
--- single steps: Kept, Runs, Bytes, Fits; where it is not: Unsound. What a trap changes: Traps. What a step changes in memory, and where a tag comes from: Stores. Integer results:
--- Integers. Time, the mark and runs without an interrupt: Timer. Which wrong programs the promises of a step and a run shut out: ShutOut. The others serve
--- them; the worked cases of specs/Cases hold: Cases.
+-- single steps: Kept, Runs, Bytes, Fits; where it is not: Unsound. What a trap changes: Traps. What a step changes in memory, and where a tag comes from:
+-- Stores. Integer results: Integers. Time, the mark and runs without an interrupt: Timer. Which wrong programs the promises of a step and a run shut out:
+-- ShutOut. The others serve them; the worked cases of specs/Cases hold: Cases.
 pub mod Fetch
 pub mod Refusals
 pub mod Windows

@@ -179,7 +179,8 @@ module _ (board : Board) (revoked : List ℕ) where
       let first = counted-accepted s (omega (arith, h, counted-most n (stepAfter board revoked s))) in
       let after : retiredIn n board revoked (stepAfter board revoked s) + trappedIn n board revoked (stepAfter board revoked s) ≡ n =
       omega (arith, h, step-counted s, counted-most n (stepAfter board revoked s)) in
-      let rest : retiredIn n board revoked (stepOf board revoked s) + trappedIn n board revoked (stepOf board revoked s) ≡ n = rw (good-step s first) at after in
+      let rest : retiredIn n board revoked (stepOf board revoked s) + trappedIn n board revoked (stepOf board revoked s) ≡ n =
+      rw (good-step s first) at after in
       at first (all-accepted n (stepOf board revoked s) rest) k b
     where
       at : stepRefusal board revoked s ≡ 0 → Accepted n (stepOf board revoked s) → (k : ℕ) → k < suc n

@@ -56,7 +56,8 @@ module _ (regs after mem tags : List ℕ) (start m a n to : ℕ) (s : Stands reg
         turned-write (effectOf n x word regs l) at rd (integer (aluOf op (getD regs from 0) (getD regs other 0))) (rw (e, f, o) refl) p h
 
     pub turned-multiply : (kind : MultiplyKind) (at from other rd rs1 rs2 : ℕ) → x ≡ Instruction.Integer (Multiply kind rd rs1 rs2) → at ≡ rd % 16 * 3
-        → from ≡ rs1 % 16 * 3 → other ≡ rs2 % 16 * 3 → after ≡ wentOn to (writtenAt at (integer (multipliedOf kind (getD regs from 0) (getD regs other 0))) regs)
+        → from ≡ rs1 % 16 * 3 → other ≡ rs2 % 16 * 3
+        → after ≡ wentOn to (writtenAt at (integer (multipliedOf kind (getD regs from 0) (getD regs other 0))) regs)
         → Turns (effectOf n x word regs l)
     unfolding effectOf integerEffect integerAt
     turned-multiply kind at from other rd rs1 rs2 e p f o h =

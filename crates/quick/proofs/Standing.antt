@@ -66,7 +66,8 @@ module _ (board : Board) (revoked : List ℕ) (s : State) (m a n : ℕ) (x : Ins
       rw (due, pcc) (fetched-there (pccAt m a) (board .start) (s .mem) (o .allowed) (o .is-even) (o .is-above) (o .is-inside))
 
   no-fault : (b : Bool) (l h : ℕ) (regs : List ℕ) → effectIn (cond b (Long l) (Half h)) regs (seen board revoked s)
-      ≡ effectOf (lengthIn (cond b (Long l) (Half h))) (instructionIn (cond b (Long l) (Half h))) (wordIn (cond b (Long l) (Half h))) regs (seen board revoked s)
+      ≡ effectOf (lengthIn (cond b (Long l) (Half h))) (instructionIn (cond b (Long l) (Half h))) (wordIn (cond b (Long l) (Half h))) regs
+      (seen board revoked s)
   unfolding effectIn trapOr
   no-fault true l h regs = refl
   no-fault false l h regs = refl

@@ -36,7 +36,8 @@ returns c =
     let r = at-loop .before .before .args .regs .now in
     let i = at-loop .loop .i in
     let found : soundIfTagged (capabilityAt r i) ≡ false =
-    rw (← (c .before .before .capability-at .ensures)) (sym (c .before .is-sound-if-tagged .ensures) ∙ not-true (c .before .is-sound-if-tagged .result) (c .if1 .taken)) in
+    rw (← (c .before .before .capability-at .ensures))
+    (sym (c .before .is-sound-if-tagged .ensures) ∙ not-true (c .before .is-sound-if-tagged .result) (c .if1 .taken)) in
     sym (rw found at (laws.bounds-turn r i (c .before .before .before .loop-test .taken))) ∙ at-loop .loop .inv .1
 
 add-i : tie.Need-add-i Inv-loop μ-loop
@@ -51,7 +52,8 @@ loop-again c =
     let r = at-loop .before .before .args .regs .now in
     let i = at-loop .loop .i in
     let found : soundIfTagged (capabilityAt r i) ≡ true =
-    rw (← (c .before .before .capability-at .ensures)) (sym (c .before .is-sound-if-tagged .ensures) ∙ not-false (c .before .is-sound-if-tagged .result) (c .if1 .left)) in
+    rw (← (c .before .before .capability-at .ensures))
+    (sym (c .before .is-sound-if-tagged .ensures) ∙ not-false (c .before .is-sound-if-tagged .result) (c .if1 .left)) in
     (search needs, sym (rw found at (laws.bounds-turn r i (c .before .before .before .loop-test .taken))) ∙ at-loop .loop .inv .1)
 
 returns-2 : tie.Need-returns-2 Inv-loop μ-loop

@@ -6,45 +6,42 @@ use Rattle.machine_laws.proofs.Refusals.{good-for}
 use Rattle.quick.proofs.run_quick.Statement.{statement}
 use Rattle.quick.proofs.run_quick.Tie as tie
 
--- src/lib.rt:47:9
 refusal-requires : tie.Need-refusal-requires
 refusal-requires c κs = search needs
 
--- src/lib.rt:49:9
 same-length : tie.Need-same-length
 same-length c = search needs
 
--- src/lib.rt:49:9
 same-length-2 : tie.Need-same-length-2
 same-length-2 c = search needs
 
--- src/lib.rt:49:9
 same-length-3 : tie.Need-same-length-3
 same-length-3 c = search needs
 
--- src/lib.rt:49:9
 returns : tie.Need-returns
 returns c = laws.watched-refused _ _ _ _ _ _ (c .before .refusal .ensures) (c .if1 .taken)
 
--- src/lib.rt:54:9
 take-steps-requires : tie.Need-take-steps-requires
-take-steps-requires c κs = let g = good-for _ _ _ _ (sym (c .before .before .before .before .refusal .ensures) ∙ c .before .before .before .if1 .left) in (g .registers, g .memory .start-aligned)
+take-steps-requires c κs =
+    let judged = c .before .before .before in
+    let g = good-for _ _ _ _ (sym (judged .before .refusal .ensures) ∙ judged .if1 .left) in
+    (g .registers, g .memory .start-aligned)
 
--- src/lib.rt:35:1
 same-length-4 : tie.Need-same-length-4
 same-length-4 c = search needs
 
--- src/lib.rt:35:1
 same-length-5 : tie.Need-same-length-5
 same-length-5 c = search needs
 
--- src/lib.rt:35:1
 same-length-6 : tie.Need-same-length-6
 same-length-6 c = search needs
 
--- src/lib.rt:35:1
 returns-2 : tie.Need-returns-2
-returns-2 c = let stepped = c .before .before .before .before .before .before .before in let judged = stepped .before .before .before .before in let done = stepped .take-steps .ensures in laws.watched-done _ _ _ _ _ _ _ _ _ (sym (judged .if1 .left) ∙ judged .before .refusal .ensures) (done .0) (done .1)
+returns-2 c =
+    let stepped = c .before .before .before .before .before .before .before in
+    let judged = stepped .before .before .before .before in
+    let done = stepped .take-steps .ensures in
+    laws.watched-done _ _ _ _ _ _ _ _ _ (sym (judged .if1 .left) ∙ judged .before .refusal .ensures) (done .0) (done .1)
 
 pub run-quick-spec : {M : Type 1} → statement M
 run-quick-spec =

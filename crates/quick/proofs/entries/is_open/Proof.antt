@@ -10,41 +10,40 @@ use Rattle.quick.proofs.entries.is_open.Reads as reads
 use Rattle.quick.proofs.entries.is_open.Lts as lts
 use Rattle.state.proofs.access_cause.Reads as access-cause-reads
 
--- src/entries.rt:31:9
 returns : tie.Need-returns
 returns c = λ h. absurd (true≢false (sym h))
 
--- src/entries.rt:34:9
 returns-2 : tie.Need-returns-2
 returns-2 c = λ h. absurd (true≢false (sym h))
 
--- src/entries.rt:37:9
 returns-3 : tie.Need-returns-3
 returns-3 c = λ h. absurd (true≢false (sym h))
 
--- src/entries.rt:39:15
 cast-if4 : tie.Need-cast-if4
 cast-if4 c = search needs
 
--- src/entries.rt:39:48
 cast-if4-2 : tie.Need-cast-if4-2
 cast-if4-2 c = search needs
 
--- src/entries.rt:39:15
 add-if4 : tie.Need-add-if4
 add-if4 c = search needs
 
--- src/entries.rt:40:9
 returns-4 : tie.Need-returns-4
 returns-4 c = λ h. absurd (true≢false (sym h))
 
--- src/entries.rt:42:5
 access-cause-requires : tie.Need-access-cause-requires
 access-cause-requires c κs = search needs
 
--- src/entries.rt:27:1
 returns-5 : tie.Need-returns-5
-returns-5 c = λ h. record { is-tagged = c .before .before .before .before .before .before .before .if1 .left; is-even = c .before .before .before .before .before .if2 .left; is-above = omega (arith, c .before .before .before .if3 .left); is-inside = omega (arith, c .before .before .before .if3 .left, c .before .if4 .left); allowed = sym (c .access-cause .ensures) ∙ eqb-true _ 0 h }
+returns-5 c =
+    let above = c .before .before .before in
+    λ h. record {
+      is-tagged = above .before .before .before .before .if1 .left;
+      is-even = above .before .before .if2 .left;
+      is-above = omega (arith, above .if3 .left);
+      is-inside = omega (arith, above .if3 .left, c .before .if4 .left);
+      allowed = sym (c .access-cause .ensures) ∙ eqb-true _ 0 h;
+    }
 
 pub is-open-spec : {M : Type 1} → statement M
 is-open-spec =

@@ -5,11 +5,9 @@ use borrow.Author.Tests.{eqb-true, not-false}
 use Rattle.quick.proofs.entries.is_silent.Statement.{statement}
 use Rattle.quick.proofs.entries.is_silent.Tie as tie
 
--- src/entries.rt:126:9
 returns : tie.Need-returns
 returns c = λ h. absurd (true≢false (sym h))
 
--- src/entries.rt:122:1
 returns-2 : tie.Need-returns-2
 returns-2 c = λ h. (not-false _ (c .before .if1 .left), eqb-true _ _ h)
 

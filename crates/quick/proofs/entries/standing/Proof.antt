@@ -18,27 +18,31 @@ use Rattle.operations.proofs.operation_of.Reads as operation-of-reads
 use Rattle.quick.proofs.entries.absent.Reads as absent-reads
 use Rattle.std.proofs.num.wrapping_add_u32.Reads as wrapping-add-u32-reads
 
--- src/entries.rt:58:46
 wrapping-add-u32-requires : tie.Need-wrapping-add-u32-requires
 wrapping-add-u32-requires c κs = search needs
 
--- src/entries.rt:58:9
 move-address-requires : tie.Need-move-address-requires
 move-address-requires c κs = search needs
 
--- src/entries.rt:62:17
 operation-of-requires : tie.Need-operation-of-requires
 operation-of-requires c κs = search needs
 
--- src/entries.rt:65:9
 absent-requires : tie.Need-absent-requires
 absent-requires c κs = search needs
 
--- src/entries.rt:55:1
 returns : tie.Need-returns
-returns c = let a = c .before .before .before .before .before .args in let m : _≡_ {A = Capability} (c .before .before .before .move-address .result) (moveOf (a .pcc) (wrap (a .pcc .address + a .bytes))) = c .before .before .before .move-address .ensures ∙ ap (λ (x : ℕ). moveOf (a .pcc) x) (c .before .before .before .before .wrapping-add-u32 .ensures) in λ n. record { bytes-are = refl; is-itself = ap (λ x. x .tag) (sym m) ∙ c .before .if1 .taken; op-means = c .operation-of .ensures .0; op-placed = c .operation-of .ensures .1 }
+returns c =
+    let moved = c .before .before .before in
+    let a = moved .before .before .args in
+    let m : _≡_ {A = Capability} (moved .move-address .result) (moveOf (a .pcc) (wrap (a .pcc .address + a .bytes))) =
+    moved .move-address .ensures ∙ ap (λ (x : ℕ). moveOf (a .pcc) x) (moved .before .wrapping-add-u32 .ensures) in
+    λ n. record {
+      bytes-are = refl;
+      is-itself = ap (λ x. x .tag) (sym m) ∙ c .before .if1 .taken;
+      op-means = c .operation-of .ensures .0;
+      op-placed = c .operation-of .ensures .1;
+    }
 
--- src/entries.rt:55:1
 returns-2 : tie.Need-returns-2
 returns-2 c = λ n. absurd (n (c .absent .ensures))
 

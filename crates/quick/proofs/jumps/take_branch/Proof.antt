@@ -20,8 +20,8 @@ returns c =
     let to = wrapping-add-u32 in
     let call = go-to in
     let takes = rw (is-taken .ensures, read2 .ensures, read .ensures) at (if1 .taken) in (
-      branch-turned (a .regs .now) (call .last .1 .0) (a .start) (a .size) (a .offset) (to .result) (call .result) (to .ensures) (pre .4) (call .ensures) (a .kind)
-          (a .from) (a .other) (a .to) takes,
+      branch-turned (a .regs .now) (call .last .1 .0) (a .start) (a .size) (a .offset) (to .result) (call .result) (to .ensures) (pre .4) (call .ensures)
+          (a .kind) (a .from) (a .other) (a .to) takes,
       went-steady (a .regs .now) (call .last .1 .0) (a .start) (a .size) (to .result) (call .result) (pre .0) (call .ensures),
     )
 

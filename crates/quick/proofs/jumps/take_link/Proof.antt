@@ -30,7 +30,8 @@ returns-2 c =
     let lands = is-landing .ensures (passed _ (if1 .left)) in
     link-turned (a .regs .now) _ (a .start) (a .size) (a .edition) (a .rd) (a .offset) (a .next) (to .result) _ (done .result) (pre .0)
     (done .ensures) (to .ensures) (lands .is-even)
-    (landed (a .start) (a .size) (a .rows .now) (a .regs .now) (read-pcc .result) (to .result) (pre .1) (read-pcc .ensures) (omega (arith, to .ensures)) (lands .own-fits, lands .in-row))
+    (landed (a .start) (a .size) (a .rows .now) (a .regs .now) (read-pcc .result) (to .result) (pre .1) (read-pcc .ensures) (omega (arith, to .ensures))
+    (lands .own-fits, lands .in-row))
     (place-of .ensures) (rw (link-at .ensures, read-pcc .ensures) at (write .ensures))
 
 pub take-link-spec : {M : Type 1} → statement M

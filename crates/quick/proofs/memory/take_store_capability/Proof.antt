@@ -86,7 +86,8 @@ returns-4 c =
     let read-capability = c24 .before .before .read-capability in (
       reaches .ensures .0,
       store-capability-done _ _ _ _ _ _ _ (read-capability .ensures) (wrapping-add-u32 .ensures)
-          (omega (arith, wrapping-sub-u32 .ok)) (wrapping-sub-u32 .ensures) _ _ _ _ _ _ _ _ _ _ (read-capability2 .ensures) (if1 .left) (may-hold .ensures (passed _ (if2 .left)))
+          (omega (arith, wrapping-sub-u32 .ok)) (wrapping-sub-u32 .ensures) _ _ _ _ _ _ _ _ _ _ (read-capability2 .ensures) (if1 .left)
+          (may-hold .ensures (passed _ (if2 .left)))
           (reaches .ensures .1 (passed _ (if3 .left))) (store-capability .ensures .0) (store-capability .ensures .1) (mark .ensures) (go-on .ensures)
           (c .done .ensures),
     )

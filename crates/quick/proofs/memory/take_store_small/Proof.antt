@@ -75,7 +75,8 @@ returns-3 c =
     let read-capability = c24 .before .before .before .read-capability in (
       reaches .ensures .0,
       store-done _ _ _ _ _ _ _ (read-capability .ensures) (wrapping-add-u32 .ensures)
-          (omega (arith, wrapping-sub-u32 .ok)) (wrapping-sub-u32 .ensures) _ _ _ _ _ _ _ _ _ _ _ _ (store-width .ensures) (read .ensures) (is-small-store .ensures (passed _ (if1 .left)))
+          (omega (arith, wrapping-sub-u32 .ok)) (wrapping-sub-u32 .ensures) _ _ _ _ _ _ _ _ _ _ _ _ (store-width .ensures) (read .ensures)
+          (is-small-store .ensures (passed _ (if1 .left)))
           (reaches .ensures .1 (passed _ (if2 .left))) (put-small .ensures) (clear-tag .ensures) (mark .ensures) (go-on .ensures) (c .done .ensures),
     )
 

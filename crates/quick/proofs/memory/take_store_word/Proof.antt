@@ -57,8 +57,8 @@ returns-3 c =
     let read-capability = c24 .before .read-capability in (
       reaches .ensures .0,
       store-done _ _ _ _ _ _ _ (read-capability .ensures) (wrapping-add-u32 .ensures)
-          (omega (arith, wrapping-sub-u32 .ok)) (wrapping-sub-u32 .ensures) _ _ _ _ _ _ _ _ _ _ _ _ refl (read .ensures) (if1 .left) (reaches .ensures .1 (passed _ (if2 .left))) (store32 .ensures)
-          (clear-tag .ensures) (mark .ensures) (go-on .ensures) (c .done .ensures),
+          (omega (arith, wrapping-sub-u32 .ok)) (wrapping-sub-u32 .ensures) _ _ _ _ _ _ _ _ _ _ _ _ refl (read .ensures) (if1 .left)
+          (reaches .ensures .1 (passed _ (if2 .left))) (store32 .ensures) (clear-tag .ensures) (mark .ensures) (go-on .ensures) (c .done .ensures),
     )
 
 pub take-store-word-spec : {M : Type 1} → statement M

@@ -16,82 +16,77 @@ use Rattle.quick.proofs.pace.long_of.Reads as long-of-reads
 use Rattle.state.proofs.mie_of.Reads as mie-of-reads
 
 -- steps that end before compare, by the two numbers
-before-compare : (regs : List ℕ) (time compare left : ℕ) → time ≡ getD regs (timeIndex + 1) 0 * 2 ^ 32 + getD regs timeIndex 0 → compare ≡ getD regs (compareIndex + 1) 0 * 2 ^ 32 + getD regs compareIndex 0
+before-compare : (regs : List ℕ) (time compare left : ℕ) → time ≡ getD regs (timeIndex + 1) 0 * 2 ^ 32 + getD regs timeIndex 0
+    → compare ≡ getD regs (compareIndex + 1) 0 * 2 ^ 32 + getD regs compareIndex 0
     → time + left ≤ compare → timeOf regs + left ≤ compareOf regs
 unfolding timeOf compareOf
 before-compare regs time compare left t c h = rw (t, c) at h
 
--- src/pace.rt:40:22
 shared-slice-read-mie-of : tie.Need-shared-slice-read-mie-of
 shared-slice-read-mie-of c = search needs
 
--- src/pace.rt:40:8
 mie-of-requires : tie.Need-mie-of-requires
 mie-of-requires c κs = search needs
 
--- src/pace.rt:41:9
 returns : tie.Need-returns
 returns c = (omega arith, inr (inl (sym (c .before .mie-of .ensures) ∙ c .if1 .taken)))
 
--- src/pace.rt:43:24
 shared-slice-read-long-of : tie.Need-shared-slice-read-long-of
 shared-slice-read-long-of c = search needs
 
--- src/pace.rt:43:47
 add-long-of : tie.Need-add-long-of
 add-long-of c = search needs
 
--- src/pace.rt:43:42
 mul-long-of : tie.Need-mul-long-of
 mul-long-of c = search needs
 
--- src/pace.rt:43:42
 shared-slice-read-long-of-2 : tie.Need-shared-slice-read-long-of-2
 shared-slice-read-long-of-2 c = search needs
 
--- src/pace.rt:43:9
 long-of-requires : tie.Need-long-of-requires
 long-of-requires c κs = search needs
 
--- src/pace.rt:44:27
 shared-slice-read-long-of-3 : tie.Need-shared-slice-read-long-of-3
 shared-slice-read-long-of-3 c = search needs
 
--- src/pace.rt:44:53
 add-long-of-2 : tie.Need-add-long-of-2
 add-long-of-2 c = search needs
 
--- src/pace.rt:44:48
 mul-long-of-2 : tie.Need-mul-long-of-2
 mul-long-of-2 c = search needs
 
--- src/pace.rt:44:48
 shared-slice-read-long-of-4 : tie.Need-shared-slice-read-long-of-4
 shared-slice-read-long-of-4 c = search needs
 
--- src/pace.rt:44:9
 long-of-requires-2 : tie.Need-long-of-requires-2
 long-of-requires-2 c κs = search needs
 
--- src/pace.rt:46:9
 returns-2 : tie.Need-returns-2
 returns-2 c = (omega arith, inl refl)
 
--- src/pace.rt:48:16
 sub-left : tie.Need-sub-left
 sub-left c = search needs
 
--- src/pace.rt:50:16
 cast-result : tie.Need-cast-result
 cast-result c = search needs
 
--- src/pace.rt:50:9
 returns-3 : tie.Need-returns-3
-returns-3 c = (omega (arith, c .if3 .taken), inr (inr (before-compare (c .before .before .before .before .before .before .before .before .before .before .before .before .args .regs .now) (c .before .before .before .before .before .long-of .result) (c .before .before .long-of2 .result) _ (c .before .before .before .before .before .long-of .ensures) (c .before .before .long-of2 .ensures) (omega (arith, c .before .if2 .left)))))
+returns-3 c =
+    let second = c .before .before in
+    let first = second .before .before .before in (
+      omega (arith, c .if3 .taken),
+      inr (inr (before-compare (first .before .before .before .before .before .before .before .args .regs .now) (first .long-of .result)
+          (second .long-of2 .result) _ (first .long-of .ensures) (second .long-of2 .ensures) (omega (arith, c .before .if2 .left)))),
+    )
 
--- src/pace.rt:36:1
 returns-4 : tie.Need-returns-4
-returns-4 c = (omega arith, inr (inr (before-compare (c .before .before .before .before .before .before .before .before .before .before .before .before .args .regs .now) (c .before .before .before .before .before .long-of .result) (c .before .before .long-of2 .result) _ (c .before .before .before .before .before .long-of .ensures) (c .before .before .long-of2 .ensures) (omega (arith, c .before .if2 .left, c .if3 .left)))))
+returns-4 c =
+    let second = c .before .before in
+    let first = second .before .before .before in (
+      omega arith,
+      inr (inr (before-compare (first .before .before .before .before .before .before .before .args .regs .now) (first .long-of .result)
+          (second .long-of2 .result) _ (first .long-of .ensures) (second .long-of2 .ensures) (omega (arith, c .before .if2 .left, c .if3 .left)))),
+    )
 
 pub quiet-steps-spec : {M : Type 1} → statement M
 quiet-steps-spec =

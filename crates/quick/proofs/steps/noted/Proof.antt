@@ -7,19 +7,15 @@ use borrow.Author.Needs.{needs}
 use Rattle.quick.proofs.steps.noted.Statement.{statement}
 use Rattle.quick.proofs.steps.noted.Tie as tie
 
--- src/steps.rt:30:9
 returns : tie.Need-returns
 returns c = rw (eq-eqb _ 0 (c .if1 .taken)) refl
 
--- src/steps.rt:32:15
 wrapping-add-u32-requires : tie.Need-wrapping-add-u32-requires
 wrapping-add-u32-requires c κs = search needs
 
--- src/steps.rt:32:5
 touched-requires : tie.Need-touched-requires
 touched-requires c κs = search needs
 
--- src/steps.rt:26:1
 returns-2 : tie.Need-returns-2
 returns-2 c =
     let a = c .before .before .before .args in
