@@ -31,7 +31,7 @@ import sys
 
 ROOT = os.path.dirname(os.path.dirname(os.path.abspath(__file__)))
 WIDTH = 160
-CODE = ("rt", "antt", "rs", "sh", "py", "c", "h", "S")
+CODE = ("rt", "antt", "rs", "sh", "py", "c", "h", "S", "s", "inc")
 LITERAL = re.compile(r'\s*\*?b?"[^"]*"[;,]?')
 
 # Names in backticks that are not of this repository, by what they are. One that no document uses is reported.
@@ -358,7 +358,9 @@ def bits():
 
 
 def widths():
-    for path in files(*(f"{folder}/**/*.{kind}" for folder in ("crates", "host", "tests", "include", "examples") for kind in CODE)):
+    folders = ("crates", "host", "tests", "include", "examples", "packaging")
+    scripts = ("bench", ".ci/run", "packaging/*", "tests/lib/*")
+    for path in files(*scripts, *(f"{folder}/**/*.{kind}" for folder in folders for kind in CODE)):
         yield from width_faults(path, read(path))
 
 

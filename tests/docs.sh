@@ -1,5 +1,5 @@
 #!/usr/bin/env bash
-# What the documents name is there, their lines are not too long, and files of proofs say what is in them: the parts of tests/docs.py, a check each.
+# What the documents name is there, no line is too long, and files of proofs say what is in them: the parts of tests/docs.py, a check each.
 set -u
 source "$(dirname "$0")/lib/check.sh"
 for part in names paths cited promises sizes lines widths bits starts itself; do

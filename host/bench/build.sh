@@ -10,8 +10,7 @@ for crate in addr2line clap clap_complete csv gimli indicatif object serde serde
   compgen -G "/usr/share/cargo/registry/$crate-[0-9]*" >/dev/null || missing+=("librust-${crate/_/-}-dev")
 done
 if [ ${#missing[@]} -gt 0 ]; then
-  apt-get -o DPkg::Lock::Timeout=300 update -qq
-  apt-get -o DPkg::Lock::Timeout=300 install -y -qq --no-install-recommends "${missing[@]}"
+  ../../packaging/install "${missing[@]}"
 fi
 [ "${1:-}" != crates ] || exit 0
 if [ -z "${ODDERSNOW_STATICLIB:-}" ]; then

@@ -3,7 +3,8 @@
 root=$(cd "$(dirname "${BASH_SOURCE[0]}")/../.." && pwd)
 cd "$root" || exit 1
 work=$(mktemp -d)
-trap 'rm -rf "$work" "${memory:-}"' EXIT
+memory=
+trap 'rm -rf "$work" "$memory"' EXIT
 bad=0
 
 # Prints 'ok NAME', or the end of what the command wrote and 'FAIL NAME'; `bad` is 1 from then on. The command's output is
@@ -21,29 +22,29 @@ check() { # NAME COMMAND..
   fi
 }
 
-# Installs what is missing of some commands: tests/lib/packages.txt has the Debian package that brings each. One script at a time.
+# Installs what is missing of some commands: tests/lib/packages.txt has the Debian package that brings each.
 need() { # COMMAND..
   local command missing=()
   for command; do
     command -v "$command" >/dev/null ||
       missing+=("$(awk -v command="$command" '$1 == command { print $2 }' "$root/tests/lib/packages.txt")")
   done
-  if [ ${#missing[@]} -gt 0 ]; then
-    flock "$root/tests/lib/packages.txt" bash -c 'apt-get -o DPkg::Lock::Timeout=300 update -qq &&
-      apt-get -o DPkg::Lock::Timeout=300 install -y -qq --no-install-recommends "$@"' install "${missing[@]}"
-  fi
+  [ ${#missing[@]} -eq 0 ] || "$root/packaging/install" "${missing[@]}"
   command -v "$@" && [ "$(command -v "$@" | wc -l)" -eq $# ]
 }
 
-# Has rt work quicker. It waits for all that it began before it begins more, so it is given more at a time than there are
-# processors. The prover makes and removes thousands of files for a crate: they are in memory where the machine has 8 GiB for
-# them, in a folder that a program which rt runs as nobody can reach.
+# Has rt work quicker from here on. It waits for all that it began before it begins more, so it is given more at a time than
+# there are processors. The prover makes and removes thousands of files for a crate: they are in memory where the machine has
+# enough, 16 GiB for all and 8 for them, in a folder that a program which rt runs as nobody can reach.
 hurry_rt() {
-  local free
-  export RT_JOBS=${RT_JOBS:-$((2 * $(nproc)))}
-  free=$(df --output=avail /dev/shm 2>/dev/null | tail -n 1)
-  [ "${free:-0}" -ge 8388608 ] || return 0
-  memory=$(mktemp -d -p /dev/shm) && chmod 711 "$memory" && export TMPDIR=$memory
+  local jobs=$((2 * $(nproc))) free room
+  at_once=$((jobs < 8 ? jobs : 8))
+  free=$(awk '$1 == "MemAvailable:" { print int($2 / 1048576) }' /proc/meminfo)
+  room=$(df --output=avail -B 1G /dev/shm 2>/dev/null | tail -n 1)
+  if [ "${free:-0}" -ge 16 ] && [ "${room:-0}" -ge 8 ] && ! grep -q ' /dev/shm .*noexec' /proc/mounts; then
+    memory=$(mktemp -d -p /dev/shm) && chmod 711 "$memory"
+  fi
+  rt() { RT_JOBS=${RT_JOBS:-$at_once} TMPDIR=${memory:-${TMPDIR:-/tmp}} command rt "$@"; }
 }
 
 # Builds static libraries by rt, unless ODDERSNOW_STATICLIB names the directory where they lie.
