@@ -9,12 +9,12 @@ use native.Mathlib.Numerals.{add-one}
 use native.Mathlib.Omega.{arith}
 use borrow.Author.Tests.{eq-eqb, ne-eqb, ltb-true}
 use lib.Dec.{eqb, ltb}
-use lib.ListN.{length, take, drop, set, drop-of-length-le, length-take, length-drop, length-set, take-append-drop}
-use lib.Seq.{append-snoc, drop-append-le, drop-drop, take-append-le, take-suc-set}
+use lib.ListN.{length, take, drop, set, replicate, drop-of-length-le, length-take, length-drop, length-set, take-append-drop}
+use lib.Seq.{append-snoc, drop-append-le, drop-drop, drop-set-lt, take-append-le, take-suc-set}
 use Rattle.text.specs.Writing.{newline}
 use Rattle.sheets.specs.Sheet.{admitted, sheet, bad}
 use Rattle.sheets.specs.Scanning.{whole, namePlace, regionIn, scanOf, regionOf, takes, isEmpty, ended, atEnd, atNewline, readFrom, readOf, firstLine}
-use Rattle.sheets.specs.Scanning.{Lined, refusedAt, closedAt, answerOf, Reads}
+use Rattle.sheets.specs.Scanning.{Lined, nowhere, refusedAt, closedAt, answerOf, readingOf, Reads}
 use Rattle.sheets.specs.declared.Scan.{Scan}
 use Rattle.sheets.specs.declared.Region.{Region}
 use Rattle.sheets.specs.declared.Reading.{Reading}
@@ -109,6 +109,35 @@ closed-answer text regions count end h = go (eqb count 0) refl
     go true e = rw (l, e)
     go false e = rw (l, e)
 
+-- and the reading of the answer, whole, where no region stands in the places after those counted
+abbrev Blank : (regions : List Region) (count : ℕ) → Type 0
+Blank regions count = drop count regions ≡ replicate (64 - count) nowhere
+
+blank-turn : (regions : List Region) (count : ℕ) (r : Region) → count < 64 → Blank regions count → Blank (set regions count r) (suc count)
+blank-turn regions count r h e =
+    let n : 64 - count ≡ suc (64 - suc count) = omega arith in
+    let t : drop 1 (drop count regions) ≡ replicate (64 - suc count) nowhere = ap (drop 1) e ∙ rw n in
+    drop-set-lt (suc count) regions count r (omega arith) ∙ ap (λ (k : ℕ). drop k regions) (sym (add-one count)) ∙ sym (drop-drop 1 count regions) ∙ t
+
+closed-reading : (text : List ℕ) (regions : List Region) (count end : ℕ) → count ≤ length regions → Blank regions count → end ≤ length text
+    → closedAt regions count end ≡ readingOf text (ended (take count regions) (drop end text))
+unfolding closedAt ended readingOf
+closed-reading text regions count end h e k = go (eqb count 0) refl
+  where
+    l : length (take count regions) ≡ count
+    l = simp length-take (omega arith)
+
+    all : take count regions ++ replicate (64 - count) nowhere ≡ regions
+    all = ap (λ (x : List Region). take count regions ++ x) (sym e) ∙ take-append-drop count regions
+
+    place : length text - length (drop end text) ≡ end
+    place = omega (arith, length-drop end text)
+
+    go : (t : Bool) → eqb count 0 ≡ t → cond t (refusedAt 1) (record { regions = regions; count = count; bad = 0; end = end })
+        ≡ readingOf text (cond (eqb (length (take count regions)) 0) (bad 1) (sheet (take count regions) (drop end text)))
+    go true f = rw (l, f)
+    go false f = rw (l, f, l, all, place)
+
 closed-fits : (regions : List Region) (count end n : ℕ) → count ≤ 64 → end ≤ n
     → (closedAt regions count end .count ≤ 64) × (closedAt regions count end .end ≤ n)
 unfolding closedAt
@@ -126,11 +155,12 @@ pub record Going (image : Bool) (text : List ℕ) (regions : List Region) (count
   pub within : i ≤ length text
   pub few : count ≤ 64
   pub long : length regions ≡ 64
+  pub blank : Blank regions count
   pub rest : readFrom image (take count regions) [] (drop i text) ≡ readOf image text
 
-pub going-start : (image : Bool) (text : List ℕ) (regions : List Region) → length regions ≡ 64 → Going image text regions 0 0
+pub going-start : (image : Bool) (text : List ℕ) (regions : List Region) → regions ≡ replicate 64 nowhere → Going image text regions 0 0
 unfolding readOf
-going-start image text regions e = record { within = omega arith; few = omega arith; long = e; rest = refl }
+going-start image text regions e = record { within = omega arith; few = omega arith; long = rw e; blank = e; rest = refl }
 
 -- an empty line ends where it begins
 empty-there : (l : List ℕ) (i end : ℕ) → end ≡ i + length l → eqb i end ≡ isEmpty l
@@ -154,12 +184,25 @@ module _ {image : Bool} {text : List ℕ} {regions : List Region} {count i : ℕ
   line = firstLine (drop i text)
 
   bad-here : readOf image text ≡ bad (count + 1) → Reads image text (refusedAt (count + 1))
-  bad-here e = record { answer-is = refused-answer text count ∙ sym e; count-fits = omega arith; end-fits = omega arith }
+  unfolding readingOf
+  bad-here e =
+      record {
+        reading-is = ap (readingOf text) (sym e);
+        answer-is = refused-answer text count ∙ sym e;
+        count-fits = omega arith;
+        end-fits = omega arith;
+      }
 
   closed-here : (end : ℕ) → end ≤ length text → ended (take count regions) (drop end text) ≡ readOf image text → Reads image text (closedAt regions count end)
   closed-here end h e =
       let f = closed-fits regions count end (length text) (g .few) h in
-      record { answer-is = closed-answer text regions count end (omega (arith, g .few, g .long)) ∙ e; count-fits = f .0; end-fits = f .1 }
+      let n : count ≤ length regions = omega (arith, g .few, g .long) in
+      record {
+        reading-is = closed-reading text regions count end n (g .blank) h ∙ ap (readingOf text) e;
+        answer-is = closed-answer text regions count end n ∙ e;
+        count-fits = f .0;
+        end-fits = f .1;
+      }
 
   pub line-short : {s : Scan} {end : ℕ} → Lined text i s end → end ≤ length text
   line-short l = omega (arith, l .end-is, line-le (drop i text), left-length, g .within)
@@ -241,6 +284,7 @@ module _ {image : Bool} {text : List ℕ} {regions : List Region} {count i : ℕ
           within = omega (arith, line-short l);
           few = omega arith;
           long = simp length-set (g .long);
+          blank = rw (add-one count) (blank-turn regions count r k (g .blank));
           rest =
               rw (add-one count, take-suc-set regions count r (omega (arith, g .long)), e ∙ told w .2) (rw (sym stop-is ∙ f, takes-is w e a) at at-newline);
         }

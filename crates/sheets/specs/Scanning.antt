@@ -157,8 +157,15 @@ closedAt regions count end = cond (eqb count 0) (refusedAt 1) (record { regions 
 unfoldable pub answerOf : (text : List ℕ) → Reading → Answer
 answerOf text r = cond (eqb (r .bad) 0) (sheet (take (r .count) (r .regions)) (drop (r .end) text)) (bad (r .bad))
 
--- what `read` promises: its answer, and that it counts no more than there are
+-- the reading of an answer, whole: a sheet's regions, and no region in each place after them; of a bad line no region at all
+unfoldable pub readingOf : (text : List ℕ) → Answer → Reading
+readingOf text (sheet rs rest) =
+    record { regions = rs ++ replicate (mostRegions - length rs) nowhere; count = length rs; bad = 0; end = length text - length rest }
+readingOf text (bad n) = refusedAt n
+
+-- what `read` promises: its reading, whole; what that says; and that it counts no more than there are
 pub record Reads (image : Bool) (text : List ℕ) (r : Reading) : Type 0 where
+  pub reading-is : r ≡ readingOf text (readOf image text)
   pub answer-is : answerOf text r ≡ readOf image text
   pub count-fits : r .count ≤ mostRegions
   pub end-fits : r .end ≤ length text

@@ -1,10 +1,10 @@
 -- `read`: the loop keeps `Going`, that what is left reads, after the regions so far, as the whole text. Each way out is one of its laws. Assumes nothing.
-use mathlib.Core.Path.{_≡_, refl, sym, _∙_}
+use mathlib.Core.Path.{_≡_, sym, ap, _∙_}
 use Prim.Native.Nat.{_-_, _≤_, _<_}
 use native.Mathlib.Omega.{arith}
 use borrow.Author.Needs.{needs}
 use borrow.Author.Tests.{not-true, not-false}
-use lib.ListN.{length}
+use lib.ListN.{length, replicate}
 use denote.Ref.{now}
 use Rattle.sheets.specs.Scanning.{Lined}
 use Rattle.sheets.proofs.Walk.{Going, line-short, room, going-start, refused-last, refused-shape, refused-region, refused-end, stopped, told}
@@ -20,7 +20,9 @@ abbrev μ-loop : tie.MeasureT-loop
 μ-loop text image regions₀ count₀ i₀ regions count i = length text - i
 
 loop-holds : tie.Need-loop-holds Inv-loop μ-loop
-loop-holds c = going-start (c .before .before .args .image) (now (c .before .before .args .text)) _ refl
+loop-holds c =
+    let start = c .before .before in
+    going-start (start .args .image) (now (start .args .text)) _ (ap (replicate 64) (c .nothing .ensures))
 
 -- the line from the loop's index on
 abbrev LinedAt : tie.After-first-line Inv-loop μ-loop → Type 0
