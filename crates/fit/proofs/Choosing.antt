@@ -16,7 +16,7 @@ use Rattle.sheets.proofs.Lengths.{sheet-le}
 use Rattle.sheets.proofs.Readings.{said-bad, said-sheet}
 use Rattle.text.specs.Writing.{newline}
 use Rattle.fit.specs.Fit.{fits, Outcome, first, second, neither, badBoard, badFirst, badSecond, chosen, orBad, regionsOf, restOf, judged, outcome}
-use Rattle.fit.specs.Fit.{payloadOf, choiceOf, partOf}
+use Rattle.fit.specs.Fit.{payloadOf, choiceOf, partOf, verdictOf, Handed}
 use Rattle.fit.specs.declared.Choice.{Choice}
 use Rattle.fit.specs.declared.Choice.the-variants.{First, Second, Neither, BadBoard, BadFirst, BadSecond}
 
@@ -98,3 +98,18 @@ part-payload board one two = go (readOf false board) (readOf true one) refl (rea
     go (sheet b x) (bad n) e s k = refl
     go (sheet b x) (sheet f p) e (bad n) k = refl
     go (sheet b x) (sheet f p) e (sheet s q) k = pick (fits b f) (fits b s) p q (payload-end one f p e) (payload-end two s q k)
+
+-- so it is no longer than its image
+pub part-fits : {board one two part : List ℕ} {number line : ℕ} → Handed board one two part number line
+    → (number ≡ 1 → length part ≤ length one) × (number ≡ 2 → length part ≤ length two)
+unfolding verdictOf choiceOf partOf
+part-fits {board} {one} {two} {part} h = go (outcome board one two) (h .number-is) (h .part-is ∙ sym (part-payload board one two))
+  where
+    go : (o : Outcome) → {number : ℕ} → number ≡ verdictOf (choiceOf one two o) → part ≡ partOf one two (choiceOf one two o)
+        → (number ≡ 1 → length part ≤ length one) × (number ≡ 2 → length part ≤ length two)
+    go (first p) e f = (λ k. rw f (rw (length-drop (length one - length p) one) (omega arith)), λ k. absurd (omega (arith, e)))
+    go (second p) e f = (λ k. absurd (omega (arith, e)), λ k. rw f (rw (length-drop (length two - length p) two) (omega arith)))
+    go neither e f = (λ k. absurd (omega (arith, e)), λ k. absurd (omega (arith, e)))
+    go (badBoard n) e f = (λ k. absurd (omega (arith, e)), λ k. absurd (omega (arith, e)))
+    go (badFirst n) e f = (λ k. absurd (omega (arith, e)), λ k. absurd (omega (arith, e)))
+    go (badSecond n) e f = (λ k. absurd (omega (arith, e)), λ k. absurd (omega (arith, e)))

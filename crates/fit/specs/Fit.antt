@@ -90,7 +90,8 @@ partOf image image2 (BadBoard n) = []
 partOf image image2 (BadFirst n) = []
 partOf image image2 (BadSecond n) = []
 
--- as a number: the image's, 1 or 2, or why there is none
+-- a choice's number and values. The number is the image's, 1 or 2, or why there is none: 16 neither fits, 17 to 19 a bad sheet, the board's, the first
+-- image's, the second's
 unfoldable pub verdictOf : Choice → ℕ
 verdictOf (First at) = 1
 verdictOf (Second at) = 2
@@ -99,7 +100,26 @@ verdictOf (BadBoard n) = 17
 verdictOf (BadFirst n) = 18
 verdictOf (BadSecond n) = 19
 
--- what is handed back: the part and the number
-pub record Handed (board image image2 part : List ℕ) (number : ℕ) : Type 0 where
+-- the payload's place in its image, 0 where there is none
+unfoldable pub placeOf : Choice → ℕ
+placeOf (First at) = at
+placeOf (Second at) = at
+placeOf Neither = 0
+placeOf (BadBoard n) = 0
+placeOf (BadFirst n) = 0
+placeOf (BadSecond n) = 0
+
+-- the first bad line, 0 where no sheet is bad
+unfoldable pub lineOf : Choice → ℕ
+lineOf (First at) = 0
+lineOf (Second at) = 0
+lineOf Neither = 0
+lineOf (BadBoard n) = n
+lineOf (BadFirst n) = n
+lineOf (BadSecond n) = n
+
+-- what is handed back: the part, the number and a bad sheet's line
+pub record Handed (board image image2 part : List ℕ) (number line : ℕ) : Type 0 where
   pub part-is : part ≡ payloadOf (outcome board image image2)
   pub number-is : number ≡ verdictOf (choiceOf image image2 (outcome board image image2))
+  pub line-is : line ≡ lineOf (choiceOf image image2 (outcome board image image2))

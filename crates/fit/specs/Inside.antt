@@ -26,6 +26,10 @@ pub record Inside (r : Region) (board : List Region) : Type 0 where
   pub addresses : (a : ℕ) → Has r a → Has place a
   pub rights : (k : ℕ) → Grants r k → Grants place k
 
+-- each region of an image is inside one of the board's
+abbrev pub EachInside : (board image : List Region) → Type 0
+EachInside board image = (r : Region) → Among r image → Inside r board
+
 -- the answer with the images' numbers exchanged
 unfoldable pub swapped : Outcome → Outcome
 swapped (first p) = second p

@@ -4,7 +4,7 @@ use sheets::Region;
 ghost use mathlib.Core.Path.{_≡_};
 ghost use Prim.Native.Nat.{_≤_, _<_, _^_};
 ghost use lib.ListN.{take};
-ghost use Rattle.fit.specs.Fit.{Handed, choiceOf, outcome, partOf, verdictOf};
+ghost use Rattle.fit.specs.Fit.{Handed, choiceOf, lineOf, outcome, partOf, verdictOf};
 ghost use Rattle.fit.specs.Fit.{within as Fit·within};
 ghost use Rattle.fit.specs.Fit.{held as Fit·held};
 ghost use Rattle.fit.specs.Fit.{fits as Fit·fits};
@@ -80,7 +80,7 @@ fn fits_on(board: Reading, image: Reading) -> bool
 
 // Judges the board's sheet, then the first image's, then the second's, and chooses the first image
 // that fits.
-pub fn choose(board: &[u8], first: &[u8], second: &[u8]) -> Choice
+fn choose(board: &[u8], first: &[u8], second: &[u8]) -> Choice
     ensures { λ r. ⌜ r ≡ choiceOf (now (first .entry)) (now (second .entry)) (outcome (now (board .entry)) (now (first .entry)) (now (second .entry))) ⌝ }
 {
     let b = sheets::read(board, false);
@@ -105,7 +105,7 @@ pub fn choose(board: &[u8], first: &[u8], second: &[u8]) -> Choice
 }
 
 // The part that a choice names, in place; empty where it names none.
-pub fn part<'a>(first: &'a [u8], second: &'a [u8], choice: Choice) -> &'a [u8]
+fn part<'a>(first: &'a [u8], second: &'a [u8], choice: Choice) -> &'a [u8]
     ensures { λ r. ⌜ now r ≡ partOf (now (first .entry)) (now (second .entry)) choice ⌝ }
 {
     match choice {
@@ -131,7 +131,7 @@ pub fn part<'a>(first: &'a [u8], second: &'a [u8], choice: Choice) -> &'a [u8]
 }
 
 // A choice as a number.
-pub fn verdict(choice: Choice) -> u64
+fn verdict(choice: Choice) -> u64
     ensures { λ r. ⌜ r ≡ verdictOf choice ⌝ }
 {
     match choice {
@@ -144,12 +144,33 @@ pub fn verdict(choice: Choice) -> u64
     }
 }
 
+// A bad sheet's first bad line, 0 where none is bad.
+fn bad_line(choice: Choice) -> usize
+    ensures { λ r. ⌜ r ≡ lineOf choice ⌝ }
+{
+    match choice {
+        Choice::First(_) => 0,
+        Choice::Second(_) => 0,
+        Choice::Neither => 0,
+        Choice::BadBoard(n) => n,
+        Choice::BadFirst(n) => n,
+        Choice::BadSecond(n) => n,
+    }
+}
+
 // The payload of the image that fits the board, a part of that image itself and no copy; beside it
-// the image's number, 1 or 2, or why there is none.
-pub fn fit<'a>(board: &[u8], first: &'a [u8], second: &'a [u8], number: &mut u64) -> &'a [u8]
-    ensures { λ r. ⌜ Handed (now (board .entry)) (now (first .entry)) (now (second .entry)) (now r) (now (number .exit)) ⌝ }
+// the image's number, 1 or 2, or why there is none, and a bad sheet's line.
+pub fn fit<'a>(
+    board: &[u8],
+    first: &'a [u8],
+    second: &'a [u8],
+    number: &mut u64,
+    line: &mut usize,
+) -> &'a [u8]
+    ensures { λ r. ⌜ Handed (now (board .entry)) (now (first .entry)) (now (second .entry)) (now r) (now (number .exit)) (now (line .exit)) ⌝ }
 {
     let choice = choose(board, first, second);
     *number = verdict(choice);
+    *line = bad_line(choice);
     part(first, second, choice)
 }

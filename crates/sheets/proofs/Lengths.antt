@@ -37,6 +37,13 @@ follows-both rs r h =
     let t = (and-eq-true-iff (formed r) _) .0 h in
     (t .0, ltb-true (length rs) 64 ((and-eq-true-iff (ltb (length rs) 64) _) .0 (t .1) .0))
 
+pub follows-some : (rs : List Region) (r : Region) → follows rs r ≡ true → 0 < r .size
+unfolding follows admitted
+follows-some rs r h =
+    let t = (and-eq-true-iff (formed r) _) .0 h in
+    let u = (and-eq-true-iff (ltb (length rs) 64) _) .0 (t .1) in
+    ltb-true 0 (r .size) ((and-eq-true-iff (ltb 0 (r .size)) _) .0 (u .1) .0)
+
 pub regions-few : {rs : List Region} → Regions rs → length rs ≤ 64
 regions-few none = omega arith
 regions-few (more {rs} r g f) = simp length-append (omega (arith, follows-both rs r f .1))
