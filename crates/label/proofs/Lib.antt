@@ -1,0 +1,2 @@
+-- Which wrong cutters the promises of the functions for C shut out: ShutOut.
+pub mod ShutOut
