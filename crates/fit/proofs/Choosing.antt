@@ -5,6 +5,7 @@ use mathlib.Core.List.{List, [], _∷_, _++_, append-assoc}
 use mathlib.Core.Path.{_≡_, refl, sym, ap, _∙_}
 use Prim.Native.Nat.{ℕ, _+_, _-_, _≤_}
 use native.Mathlib.Omega.{arith}
+use lib.Dec.{eqb}
 use lib.ListN.{length, take, drop, length-append, length-drop}
 use lib.Seq.{drop-at}
 use Rattle.sheets.specs.Sheet.{Answer, sheet, bad, IsSheet, Says, ending, sheetText}
@@ -16,7 +17,7 @@ use Rattle.sheets.proofs.Lengths.{sheet-le}
 use Rattle.sheets.proofs.Readings.{said-bad, said-sheet}
 use Rattle.text.specs.Writing.{newline}
 use Rattle.fit.specs.Fit.{fits, Outcome, first, second, neither, badBoard, badFirst, badSecond, chosen, orBad, regionsOf, restOf, judged, outcome}
-use Rattle.fit.specs.Fit.{payloadOf, choiceOf, partOf, verdictOf, Handed}
+use Rattle.fit.specs.Fit.{payloadOf, choiceOf, partOf, verdictOf, placeOf, Handed}
 use Rattle.fit.specs.declared.Choice.{Choice}
 use Rattle.fit.specs.declared.Choice.the-variants.{First, Second, Neither, BadBoard, BadFirst, BadSecond}
 
@@ -113,3 +114,31 @@ part-fits {board} {one} {two} {part} h = go (outcome board one two) (h .number-i
     go (badBoard n) e f = (λ k. absurd (omega (arith, e)), λ k. absurd (omega (arith, e)))
     go (badFirst n) e f = (λ k. absurd (omega (arith, e)), λ k. absurd (omega (arith, e)))
     go (badSecond n) e f = (λ k. absurd (omega (arith, e)), λ k. absurd (omega (arith, e)))
+
+-- and where it begins is told by its length and the number
+pub part-place : {board one two part : List ℕ} {number line : ℕ} → Handed board one two part number line
+    → cond (eqb number 1) (length one - length part) (cond (eqb number 2) (length two - length part) 0) ≡ placeOf (choiceOf one two (outcome board one two))
+unfolding verdictOf choiceOf payloadOf placeOf
+part-place {board} {one} {two} h = rw (h .number-is, h .part-is) (go (outcome board one two))
+  where
+    go : (o : Outcome) → cond (eqb (verdictOf (choiceOf one two o)) 1) (length one - length (payloadOf o))
+        (cond (eqb (verdictOf (choiceOf one two o)) 2) (length two - length (payloadOf o)) 0) ≡ placeOf (choiceOf one two o)
+    go (first p) = refl
+    go (second p) = refl
+    go neither = refl
+    go (badBoard n) = refl
+    go (badFirst n) = refl
+    go (badSecond n) = refl
+
+-- and no number is larger than 19
+verdict-le : (c : Choice) → verdictOf c ≤ 19
+unfolding verdictOf
+verdict-le (First at) = omega arith
+verdict-le (Second at) = omega arith
+verdict-le Neither = omega arith
+verdict-le (BadBoard n) = omega arith
+verdict-le (BadFirst n) = omega arith
+verdict-le (BadSecond n) = omega arith
+
+pub number-le : {board one two part : List ℕ} {number line : ℕ} → Handed board one two part number line → number ≤ 19
+number-le {board} {one} {two} h = omega (arith, h .number-is, verdict-le (choiceOf one two (outcome board one two)))

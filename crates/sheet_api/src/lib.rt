@@ -1,12 +1,13 @@
 // Map sheets and images for C: numbers and slices only.
-use fit::Choice;
 use sheet_compare::CompareAnswer;
 use sheet_reader::ReadAnswer;
 use sheet_writer::WriteAnswer;
+ghost use mathlib.Core.Bool.{cond};
 ghost use mathlib.Core.Path.{_≡_};
-ghost use Prim.Native.Nat.{_<_};
+ghost use Prim.Native.Nat.{_-_, _≤_, _<_};
+ghost use lib.Dec.{eqb};
 ghost use Rattle.sheet_api.specs.Numbers.{CompareNumbered, FitNumbered, ReadNumbered, WriteNumbered};
-ghost use Rattle.sheet_api.specs.Numbers.{compareNumber, fitNumber, placedAt, readNumber, writeNumber};
+ghost use Rattle.sheet_api.specs.Numbers.{compareNumber, fitPacked, placedAt, readNumber, writeNumber};
 ghost use Rattle.sheet_api.specs.Numbers.{numbered as Numbers·numbered};
 
 // The place of a number in an answer, 2^48.
@@ -19,14 +20,12 @@ const BAD_LINE: u64 = 13;
 
 const BAD_SECOND: u64 = 14;
 
-// No image fits; a bad sheet of the board, of the first image, of the second.
+// The images' numbers, and the first number of an answer that chooses none.
+const FIRST_IMAGE: u64 = 1;
+
+const SECOND_IMAGE: u64 = 2;
+
 const NO_FIT: u64 = 16;
-
-const BAD_BOARD: u64 = 17;
-
-const BAD_FIRST_IMAGE: u64 = 18;
-
-const BAD_SECOND_IMAGE: u64 = 19;
 
 // The place of an image's number in an answer, 2^40.
 pub const IMAGE_PLACE: u64 = 0x100_0000_0000;
@@ -78,16 +77,27 @@ fn compare_number(a: CompareAnswer) -> u64
     }
 }
 
-fn fit_number(a: Choice) -> u64
-    ensures { λ r. ⌜ r ≡ fitNumber a ⌝ }
+// Where the part begins in its image, of whose end it is so many bytes.
+fn place_of(image: u64, first: usize, second: usize, part: usize) -> usize
+    requires { ⌜ (image ≡ 1 → part ≤ first) × (image ≡ 2 → part ≤ second) ⌝ }
+    ensures { λ r. ⌜ r ≡ cond (eqb image 1) (first - part) (cond (eqb image 2) (second - part) 0) ⌝ }
 {
-    match a {
-        Choice::First(at) => placed(1, at),
-        Choice::Second(at) => placed(2, at),
-        Choice::Neither => numbered(NO_FIT, 0),
-        Choice::BadBoard(n) => numbered(BAD_BOARD, n),
-        Choice::BadFirst(n) => numbered(BAD_FIRST_IMAGE, n),
-        Choice::BadSecond(n) => numbered(BAD_SECOND_IMAGE, n),
+    match image {
+        FIRST_IMAGE => first - part,
+        SECOND_IMAGE => second - part,
+        _ => 0,
+    }
+}
+
+// An image and the payload's place; or why there is none, with a bad sheet's line.
+fn fit_number(number: u64, place: usize, line: usize) -> u64
+    requires { ⌜ number < 256 ⌝ }
+    ensures { λ r. ⌜ r ≡ fitPacked number place line ⌝ }
+{
+    if number < NO_FIT {
+        placed(number, place)
+    } else {
+        numbered(number, line)
     }
 }
 
@@ -117,8 +127,12 @@ pub extern "C" fn oddersnow_sheet_compare(first: &[u8], second: &[u8], out: &mut
 
 // Which of two images fits a board, and where its payload begins.
 #[no_mangle]
-pub extern "C" fn oddersnow_fit(board: &[u8], first: &[u8], second: &[u8]) -> u64
+pub extern "C" fn oddersnow_fit<'a>(board: &[u8], first: &'a [u8], second: &'a [u8]) -> u64
     ensures { λ r. ⌜ FitNumbered (now (board .entry)) (now (first .entry)) (now (second .entry)) r ⌝ }
 {
-    fit_number(fit::choose(board, first, second))
+    let mut number: u64 = 0;
+    let mut line: usize = 0;
+    let part = fit::fit(board, first, second, &mut number, &mut line);
+    let place = place_of(number, first.len(), second.len(), part.len());
+    fit_number(number, place, line)
 }

@@ -8,6 +8,7 @@ use Prim.Native.Nat.{ℕ, zero, suc}
 use lib.Dec.{ltb, eqb}
 use lib.ListN.{length}
 use Rattle.text.specs.Writing.{newline, fitsIn, delivered}
+use Rattle.sheets.specs.Numbers.{badLine, badSecond, noRoom}
 use Rattle.sheets.specs.Scanning.{noName, readOf}
 use Rattle.sheets.specs.Sheet.{lettersOf, same, Answer, sheet, bad}
 use Rattle.sheets.specs.declared.Region.{Region}
@@ -85,6 +86,32 @@ compareAfter (bad n) second out = out
 compareAfter (sheet a rest) (bad n) out = out
 compareAfter (sheet a rest) (sheet b rest2) out = delivered (listText a b) out
 
+-- an answer's number and its value: how many bytes, or which line
+abbrev pub answerNumber : CompareAnswer → ℕ
+answerNumber (Listed n) = 0
+answerNumber (BadFirst n) = badLine
+answerNumber (BadSecond n) = badSecond
+answerNumber NoRoom = noRoom
+
+abbrev pub answerValue : CompareAnswer → ℕ
+answerValue (Listed n) = n
+answerValue (BadFirst n) = n
+answerValue (BadSecond n) = n
+answerValue NoRoom = 0
+
+-- both of what the sheets were read as
+unfoldable pub numberOf : Answer → Answer → (buffer : List ℕ) → ℕ
+numberOf (bad n) second out = badLine
+numberOf (sheet a rest) (bad n) out = badSecond
+numberOf (sheet a rest) (sheet b rest2) out = cond (fitsIn (listText a b) out) 0 noRoom
+
+unfoldable pub valueOf : Answer → Answer → (buffer : List ℕ) → ℕ
+valueOf (bad n) second out = n
+valueOf (sheet a rest) (bad n) out = n
+valueOf (sheet a rest) (sheet b rest2) out = cond (fitsIn (listText a b) out) (length (listText a b)) 0
+
 pub record Compares (first second before after : List ℕ) (answer : CompareAnswer) : Type 0 where
   pub answer-is : answer ≡ compareAnswer (readOf false first) (readOf false second) before
+  pub number-is : answerNumber answer ≡ numberOf (readOf false first) (readOf false second) before
+  pub value-is : answerValue answer ≡ valueOf (readOf false first) (readOf false second) before
   pub after-is : after ≡ compareAfter (readOf false first) (readOf false second) before
