@@ -3,3 +3,4 @@ pub mod Laws
 pub mod Fits
 pub mod Lengths
 pub mod Editions
+pub mod Compared

@@ -1,5 +1,4 @@
--- The worked cases hold: antt computes each step from the definitions. Assumes nothing.
-use lib.Dec.{T}
+-- The worked cases hold: antt computes each row's step from the definitions. Assumes nothing.
 use Rattle.words.specs.Words.{signExtend, leBytes, setBytes, bitAt, withBit, putBit}
 use Rattle.metadata.specs.Word.{permissionsOf, typeOf, scaleOf, topOf, baseOf, withType}
 use Rattle.metadata.specs.Rights.{rightsOf}
@@ -36,21 +35,25 @@ use Rattle.capability.specs.Capability.{low}
 use Rattle.state.specs.Registers.{setCapability}
 use Rattle.commit.specs.Commit.{retires}
 use Rattle.machine.specs.Run.{stepAnswer, stepAfter}
-use Rattle.machine_laws.specs.Cases.{all, holds, found, put, before, cases, top-of-memory, untagged-load, environment-call}
+use Rattle.machine_laws.specs.Cases.{Hold, end, _&_, holds, found, put, before, cases, short-cases, token-cases, timer-cases}
+use Rattle.machine_laws.specs.Cases.{top-of-memory, untagged-load, environment-call}
 
-pub cases-hold : T (all cases)
-unfolding all holds found put before cases top-of-memory untagged-load environment-call stepAnswer stepAfter refusalOf goodMemory goodTags goodZero
-    goodWords goodWindow goodBits goodEdition sound soundIfTagged goodBounds stepOf metOf interrupted timeOf compareOf ticked cleared belowMark marked
-    csrRegisterOf csrOf csrAsked
-    csrWritten csrWrites csrWrite csrEffect effectIn trapOr lengthIn instructionIn wordIn fetchOf fetchedAt standsOf secondOf shutOut shortOf quadrant0
-    quadrant1 quadrant2 twoOf arithmeticOf unlessHint immediateWide jalrCause accepts linkType reportStatus jumpStatus jalrEffect jalrOf isSentry
-    addi4spnOf movesOf registersOf
-    immediateSix offsetJump longForm longOf wordR wordI wordJ capabilityOf op32Of opByOf opOf Derivations.capabilityEffect effectOf applyEffect
-    retires setCapability writeRegister advanced trapped jumped withCsr stored retagged storedCapability systemEffect linkOf aligned targetCause jalEffect
-    jumpEffect loadAt loadEffect storeAt storeEffect revokedValue filtered loadCapabilityAt loadCapabilityEffect storeCapabilityCheck
-    storeCapabilityAt storeCapabilityEffect memoryEffect Integers.aluOf Integers.integerEffect checked accessCause systemAccess placeOf capabilityIn
-    revocationAt
-    capabilityAt integerAt trapStatus legalized loadOf storeOf aluOf opImmOf jalOf wholeOf systemOf decodeOf immediateI immediateS immediateJ
-    loseGlobal loseMutable loseTag loadedOf revocable withObjectType low high rights sealed tagged covers sameBounds moveOf exponentOf lowOf highOf
-    lowAt highAt rightsOf permissionsOf typeOf scaleOf topOf baseOf withType signExtend leBytes setBytes bitAt withBit putBit
-cases-hold = tt
+pub cases-hold : Hold cases × Hold short-cases × Hold token-cases × Hold timer-cases
+unfolding holds found put before cases short-cases token-cases timer-cases top-of-memory untagged-load environment-call stepAnswer stepAfter refusalOf
+    goodMemory goodTags goodZero goodWords goodWindow goodBits goodEdition sound soundIfTagged goodBounds stepOf metOf interrupted timeOf compareOf ticked
+    cleared belowMark marked csrRegisterOf csrOf csrAsked csrWritten csrWrites csrWrite csrEffect effectIn trapOr lengthIn instructionIn wordIn fetchOf
+    fetchedAt standsOf secondOf shutOut shortOf quadrant0 quadrant1 quadrant2 twoOf arithmeticOf unlessHint immediateWide jalrCause accepts linkType
+    reportStatus jumpStatus jalrEffect jalrOf isSentry addi4spnOf movesOf registersOf immediateSix offsetJump longForm longOf wordR wordI wordJ capabilityOf
+    op32Of opByOf opOf Derivations.capabilityEffect effectOf applyEffect retires setCapability writeRegister advanced trapped jumped withCsr stored retagged
+    storedCapability systemEffect linkOf aligned targetCause jalEffect jumpEffect loadAt loadEffect storeAt storeEffect revokedValue filtered
+    loadCapabilityAt loadCapabilityEffect storeCapabilityCheck storeCapabilityAt storeCapabilityEffect memoryEffect Integers.aluOf Integers.integerEffect
+    checked accessCause systemAccess placeOf capabilityIn revocationAt capabilityAt integerAt trapStatus legalized loadOf storeOf aluOf opImmOf jalOf
+    wholeOf systemOf decodeOf immediateI immediateS immediateJ loseGlobal loseMutable loseTag loadedOf revocable withObjectType low high rights sealed
+    tagged covers sameBounds moveOf exponentOf lowOf highOf lowAt highAt rightsOf permissionsOf typeOf scaleOf topOf baseOf withType signExtend leBytes
+    setBytes bitAt withBit putBit
+cases-hold = (
+  tt & tt & tt & tt & tt & tt & tt & tt & tt & tt & tt & tt & end,
+  tt & tt & tt & tt & tt & tt & tt & tt & tt & tt & tt & end,
+  tt & tt & end,
+  tt & tt & tt & tt & tt & tt & tt & tt & tt & tt & tt & tt & end,
+)

@@ -9,7 +9,8 @@ use Rattle.state.specs.Lent.{State}
 use Rattle.machine.specs.declared.StepAnswer.{StepAnswer}
 use Rattle.machine.specs.Run.{stepAnswer, stepAfter, stepNumber, stepRetired}
 use Rattle.machine_laws.proofs.Cases.{cases-hold}
-use Rattle.machine_laws.specs.Cases.{Word, Case, boardIn, before, found, holds, all, cases, top-of-memory, untagged-load, environment-call}
+use Rattle.machine_laws.specs.Cases.{Word, Case, boardIn, before, found, holds, Hold, _&_, cases, top-of-memory, untagged-load}
+use Rattle.machine_laws.specs.Cases.{environment-call}
 
 -- ---- what a case answers and leaves
 
@@ -53,20 +54,19 @@ HoldsAt [] i = Unit {0}
 HoldsAt (c ∷ cs) zero = Worked c
 HoldsAt (c ∷ cs) (suc i) = HoldsAt cs i
 
-case-at : (cs : List Case) (i : ℕ) → T (all cs) → HoldsAt cs i
-unfolding all
+case-at : (cs : List Case) (i : ℕ) → Hold cs → HoldsAt cs i
 case-at [] i h = tt
-case-at (c ∷ cs) zero h = worked c (and-left (holds c) (all cs) h)
-case-at (c ∷ cs) (suc i) h = case-at cs i (and-right (holds c) (all cs) h)
+case-at (c ∷ cs) zero (h & hs) = worked c h
+case-at (c ∷ cs) (suc i) (h & hs) = case-at cs i hs
 
 pub top-worked : Worked top-of-memory
 unfolding cases
-top-worked = case-at cases 0 cases-hold
+top-worked = case-at cases 0 (cases-hold .0)
 
 pub load-worked : Worked untagged-load
 unfolding cases
-load-worked = case-at cases 7 cases-hold
+load-worked = case-at cases 7 (cases-hold .0)
 
 pub call-worked : Worked environment-call
 unfolding cases
-call-worked = case-at cases 10 cases-hold
+call-worked = case-at cases 10 (cases-hold .0)

@@ -1,10 +1,10 @@
--- Single steps, with the answer, the registers and the tag byte that they leave, in one table with one statement. Document 01, "Cases" and "Tempting
--- mistakes"; document 02, 3, 4 and 6. Memory is 64 bytes, one tag byte.
+-- Single steps, with the answer, the registers and the tag byte that they leave: a table for each page that asks for them, and one statement of all. Document
+-- 01, "Cases" and "Tempting mistakes"; document 02, 3, 4 and 6. Memory is 64 bytes, one tag byte.
 -- Assumes nothing.
 use mathlib.Core.Bool.{Bool, true, _&&_}
 use mathlib.Core.List.{List, [], _∷_}
 use Prim.Native.Nat.{ℕ, _+_, _-_, _*_}
-use lib.Dec.{eqb}
+use lib.Dec.{T, eqb}
 use lib.ListN.{getD, set, replicate}
 use Rattle.words.specs.Words.{set32}
 use Rattle.capability.specs.Capability.{capability, integer}
@@ -89,9 +89,11 @@ holds c =
     && (found (c .after) (stepAfter (boardIn c) (c .revoked ∷ []) (before c) .regs)
     && eqb (getD (stepAfter (boardIn c) (c .revoked ∷ []) (before c) .tags) 0 0) (c .tagsAfter))))
 
-unfoldable pub all : List Case → Bool
-all [] = true
-all (c ∷ cs) = holds c && all cs
+-- each row of a table holds: a part for each, so that the check names the row that does not
+infixr 5 _&_
+pub data Hold : List Case → Type 0 where
+  end : Hold []
+  _&_ : {c : Case} {cs : List Case} → T (holds c) → Hold cs → Hold (c ∷ cs)
 
 -- compare out of time's reach
 abbrev later : List Word
@@ -185,6 +187,7 @@ untagged-load = plain (integer 0x20000000) (integer 0) 0 0 0x0000A103 0 (trap (e
 unfoldable pub environment-call : Case
 environment-call = plain (integer 0) (integer 0) 0 0 0x00000073 0 (trap (execute 0x20000000) 11 0) 0
 
+-- document 01
 unfoldable pub cases : List Case
 cases =
     top-of-memory
@@ -206,8 +209,13 @@ cases =
     ∷ environment-call
     -- a word that is no instruction
     ∷ plain (integer 0) (integer 0) 0 0 0xFFFFFFFF 0 (trap (execute 0x20000000) 2 0xFFFFFFFF) 0
+    ∷ []
+
+-- document 02, 3
+unfoldable pub short-cases : List Case
+short-cases =
     -- C.LI c10, 1: PCC goes on by two bytes, and what follows the half does not count
-    ∷ plain (integer 0) (integer 0) 0 0 0xFFFF4505 1 (register 10 (integer 1) (register pccIndex (execute 0x20000002) [])) 0
+    plain (integer 0) (integer 0) 0 0 0xFFFF4505 1 (register 10 (integer 1) (register pccIndex (execute 0x20000002) [])) 0
     -- C.JAL 8: the link is two bytes on
     ∷ plain (integer 0) (integer 0) 0 0 0x2021 1 (register 1 (capability 0x20000002 0x5EFE0000 1) (register pccIndex (execute 0x20000008) [])) 0
     -- C.MV c2, c1 is ADD and loses the tag; the hint C.ADDI c1, 0 keeps it
@@ -224,11 +232,21 @@ cases =
     ∷ standing (capability 0x20000000 0x5E000400 1) (integer 0) (integer 0) 0 0 0x00000013 0 (trap (capability 0x20000000 0x5E000400 1) 28 (32 * 32 + 1)) 0
     ∷ standing (execute 0x2000003E) (integer 0) (integer 0) 0 0 0x00000013 0 (trap (execute 0x2000003E) 1 0x20000040) 0
     ∷ standing (execute 0x20000001) (integer 0) (integer 0) 0 0 0x00000001 0 (trap (execute 0x20000000) 0 0x20000001) 0
-    -- CLC c2, 8(c1) of a token in a revoked granule: U0 spares it, and one without is revoked (document 02, 4)
-    ∷ plain (data-at 0x20000000) (token 0x48002210 1) 2 4 0x0080B103 1 (register 2 (token 0x48002210 1) []) 2
+    ∷ []
+
+-- document 02, 4
+unfoldable pub token-cases : List Case
+token-cases =
+    -- CLC c2, 8(c1) of a token in a revoked granule: U0 spares it, and one without is revoked
+    plain (data-at 0x20000000) (token 0x48002210 1) 2 4 0x0080B103 1 (register 2 (token 0x48002210 1) []) 2
     ∷ plain (data-at 0x20000000) (token 0x40002210 1) 2 4 0x0080B103 1 (register 2 (token 0x40002210 0) []) 2
-    -- the timer's interrupt, before a fetch that would fail: time at compare; one below it; and with MIE clear (document 02, 6)
-    ∷ timed (integer 0x20000000) (integer 0) 8 (time-at 7 1 (compare-at 7 1 [])) 0x00000013 0
+    ∷ []
+
+-- document 02, 6
+unfoldable pub timer-cases : List Case
+timer-cases =
+    -- the timer's interrupt, before a fetch that would fail: time at compare; one below it; and with MIE clear
+    timed (integer 0x20000000) (integer 0) 8 (time-at 7 1 (compare-at 7 1 [])) 0x00000013 0
     (time-at 8 1 (trap (integer 0x20000000) 0x80000007 0))
     ∷ timed (execute 0x20000000) (integer 0) 8 (time-at 0xFFFFFFFF 0 (compare-at 0 1 [])) 0x00000013 1 (time-at 0 1 (register pccIndex (execute 0x20000004) []))
     ∷ timed (execute 0x20000000) (integer 0) 0 (time-at 7 1 (compare-at 7 1 [])) 0x00000013 1 (time-at 8 1 (register pccIndex (execute 0x20000004) []))

@@ -1,4 +1,4 @@
--- What is lent: Lent, Window, Fits. Steps and what they change: Steps, Memory, Integers, Short, Timer, Editions. Worked steps: Cases, Unsound.
+-- What is lent: Lent, Window, Fits. Steps and what they change: Steps, Memory, Integers, Short, Hints, Timer, Editions. Worked steps: Cases, Unsound.
 pub mod Lent
 pub mod Window
 pub mod Editions
@@ -9,4 +9,5 @@ pub mod Integers
 pub mod Cases
 pub mod Fits
 pub mod Short
+pub mod Hints
 pub mod Timer
