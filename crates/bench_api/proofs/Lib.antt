@@ -1,3 +1,4 @@
--- A pass through the function for C: Passes. A run's promise with a watch record, in plain numbers: Watches.
+-- A pass through the function for C: Passes. A run with its watch record, computed: Worked. Which wrong machines the promises for C shut out: ShutOut.
 pub mod Passes
-pub mod Watches
+pub mod Worked
+pub mod ShutOut

@@ -8,11 +8,6 @@ use Rattle.state.specs.declared.Board.{Board}
 use Rattle.machine.specs.Watching.{watchLeft}
 use Rattle.bench_api.specs.Packing.{RunPacked}
 
--- the record of plain numbers
-abbrev pub watchOf : (start1 length1 count1 start2 length2 count2 : ℕ) → Watch
-watchOf start1 length1 count1 start2 length2 count2 =
-    record { first = record { start = start1; length = length1; count = count1 }; second = record { start = start2; length = length2; count = count2 } }
-
 -- what a run with a record promises: all that oddersnow_run does, and both counts as it leaves them
 pub record WatchPacked (n : ℕ) (board : Board) (revoked : List ℕ) (before after : State) (lent : Watch) (count1 count2 answer : ℕ) : Type 0 where
   pub run-is : RunPacked n board revoked before after answer

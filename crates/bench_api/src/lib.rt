@@ -5,15 +5,14 @@ ghost use Rattle.state.specs.Lent.{state, reportEdition};
 ghost use Rattle.machine.specs.Run.{stepNumber, stepRetired, stepTrapped, runNumber, runRetired, runTrapped};
 ghost use Rattle.sweep.specs.Visits.{visitNumber};
 ghost use Rattle.bench_api.specs.Packing.{packed, boardOf, StepPacked, RunPacked, packedVisit, VisitPacked};
-ghost use Rattle.bench_api.specs.Watches.{watchOf, WatchPacked};
+ghost use Rattle.bench_api.specs.Watches.{WatchPacked};
+ghost use Rattle.machine.specs.Watching.{watchOf};
 use machine::RunAnswer;
 use machine::StepAnswer;
 use state::Board;
 use state::REPORT_EDITION;
 use state::Window;
 use sweep::SweepAnswer;
-use watch::Range;
-use watch::Watch;
 
 // The places of a number, 2^48, of the trapped steps, 2^24, and of the word that says which granule was the last, 2^32, in an answer.
 pub const NUMBER_PLACE: u64 = 0x1_0000_0000_0000;
@@ -151,24 +150,6 @@ pub extern "C" fn oddersnow_run(
     pack(run_number(a), run_trapped(a), run_retired(a))
 }
 
-// The watch record of plain numbers.
-fn watch_of(start1: u32, length1: u32, count1: u32, start2: u32, length2: u32, count2: u32) -> Watch
-    ensures { λ r. ⌜ r ≡ watchOf start1 length1 count1 start2 length2 count2 ⌝ }
-{
-    Watch {
-        first: Range {
-            start: start1,
-            length: length1,
-            count: count1,
-        },
-        second: Range {
-            start: start2,
-            length: length2,
-            count: count2,
-        },
-    }
-}
-
 // A run of some steps with a watch record: two ranges, and their counts, which rise in place.
 #[no_mangle]
 pub extern "C" fn oddersnow_run_watched(
@@ -200,12 +181,20 @@ pub extern "C" fn oddersnow_run_watched(
         },
         edition,
     };
-    let w = watch_of(start1, length1, *count1, start2, length2, *count2);
-    let done = machine::watched_run(regs, board, mem, tags, revoked, steps, w);
-    let left = done.watch;
-    *count1 = left.first.count;
-    *count2 = left.second.count;
-    let a = done.answer;
+    let a = machine::run_counting(
+        regs,
+        board,
+        mem,
+        tags,
+        revoked,
+        steps,
+        start1,
+        length1,
+        count1,
+        start2,
+        length2,
+        count2,
+    );
     pack(run_number(a), run_trapped(a), run_retired(a))
 }
 
@@ -240,14 +229,20 @@ pub extern "C" fn oddersnow_run_quick(
         },
         edition,
     };
-    let first = *count1;
-    let second = *count2;
-    let w = watch_of(start1, length1, first, start2, length2, second);
-    let done = quick::run_quick(regs, board, mem, tags, revoked, steps, w);
-    let after = done.watch;
-    *count1 = after.first.count;
-    *count2 = after.second.count;
-    let a = done.answer;
+    let a = quick::run_quick_counting(
+        regs,
+        board,
+        mem,
+        tags,
+        revoked,
+        steps,
+        start1,
+        length1,
+        count1,
+        start2,
+        length2,
+        count2,
+    );
     pack(run_number(a), run_trapped(a), run_retired(a))
 }
 

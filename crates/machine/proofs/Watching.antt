@@ -1,6 +1,6 @@
 -- One turn of a run with what it keeps, and the promise of a run with a watch record. Assumes nothing.
 use Prim.Native.Nat.{ℕ, zero, suc, _+_, _-_, _%_, _^_, _≤_, _<_}
-use mathlib.Core.Path.{_≡_, refl, sym, _∙_}
+use mathlib.Core.Path.{_≡_, refl, sym, ap, _∙_}
 use mathlib.Core.Bool.{Bool, true, false, cond}
 use mathlib.Core.List.{List}
 use native.Mathlib.Omega.{arith}
@@ -17,7 +17,8 @@ use Rattle.commit.specs.declared.Kept.{Kept}
 use Rattle.execution.specs.Step.{effectAt, stepOf}
 use Rattle.machine.specs.Refusals.{refusalOf}
 use Rattle.machine.specs.Run.{ran, iterate}
-use Rattle.machine.specs.Watching.{watchStep, watchedBy, watchLeft, WatchPromise, SameRanges}
+use Rattle.machine.specs.Watching.{watchStep, watchedBy, watchLeft, WatchPromise, CountPromise, SameRanges}
+use Rattle.machine.specs.declared.RunAnswer.{RunAnswer}
 use Rattle.machine.specs.declared.RunAnswer.the-variants as RunAnswer
 use Rattle.machine.proofs.Laws as laws
 
@@ -68,6 +69,15 @@ module _ (n : ℕ) (board : Board) (revoked : List ℕ) (s : State) (w : Watch) 
   watched-done after left r t e g h =
       let f : eqb (refusalOf n board revoked s) 0 ≡ true = eq-eqb (refusalOf n board revoked s) 0 (sym e) in
       record { run-is = laws.run-done n board revoked s after r t e g; watch-is = rw f h }
+
+-- and so of a run whose ranges are plain numbers and whose counts are lent
+pub counts-of : (n : ℕ) (board : Board) (revoked : List ℕ) (before after : State) (w left : Watch) (answer : RunAnswer)
+    → WatchPromise n board revoked before after w left answer → CountPromise n board revoked before after w (left .first .count) (left .second .count) answer
+counts-of n board revoked before after w left answer p = record {
+  run-is = p .run-is;
+  first-is = ap (λ (x : Watch). x .first .count) (p .watch-is);
+  second-is = ap (λ (x : Watch). x .second .count) (p .watch-is);
+}
 
 -- ---- the ranges stay
 

@@ -32,6 +32,18 @@ pub record WatchPromise (n : ℕ) (board : Board) (revoked : List ℕ) (before a
   pub run-is : RunPromise n board revoked before after answer
   pub watch-is : left ≡ watchLeft n board revoked before lent
 
+-- the record of plain numbers
+abbrev pub watchOf : (start1 length1 count1 start2 length2 count2 : ℕ) → Watch
+watchOf start1 length1 count1 start2 length2 count2 =
+    record { first = record { start = start1; length = length1; count = count1 }; second = record { start = start2; length = length2; count = count2 } }
+
+-- what a run with ranges as numbers and lent counts promises: all that a run does, and both counts
+pub record CountPromise (n : ℕ) (board : Board) (revoked : List ℕ) (before after : State) (lent : Watch) (count1 count2 : ℕ) (answer : RunAnswer) : Type 0
+  where
+    pub run-is : RunPromise n board revoked before after answer
+    pub first-is : count1 ≡ watchLeft n board revoked before lent .first .count
+    pub second-is : count2 ≡ watchLeft n board revoked before lent .second .count
+
 -- a record's ranges are those of another: a run moves its counts alone (law `ranges-stay`)
 pub record SameRanges (lent left : Watch) : Type 0 where
   pub first-start : left .first .start ≡ lent .first .start

@@ -8,6 +8,7 @@ use state::GRANULE_BYTES;
 use state::LATER_EDITION;
 use state::REGISTER_WORDS;
 use state::REPORT_EDITION;
+use watch::Range;
 use watch::Watch;
 ghost use mathlib.Core.Path.{_≡_};
 ghost use mathlib.Core.Bool.{not, _&&_};
@@ -19,7 +20,7 @@ ghost use Rattle.state.specs.Checks.{failIf};
 ghost use Rattle.machine.specs.Refusals.{blockBytes, goodMemory, goodWindow, goodTags, goodZero, goodWords, goodEdition};
 ghost use Rattle.machine.specs.Refusals.{sound, soundIfTagged, goodBounds, refusalOf};
 ghost use Rattle.machine.specs.Run.{StepPromise, ran, iterate, RunPromise};
-ghost use Rattle.machine.specs.Watching.{watchedBy, WatchPromise};
+ghost use Rattle.machine.specs.Watching.{watchedBy, WatchPromise, watchOf, CountPromise};
 
 // The answer to a step.
 pub enum StepAnswer {
@@ -365,4 +366,59 @@ pub fn watched_run(
         },
         watch,
     }
+}
+
+// The same run with the record in place: it stores the record that the run by value gives.
+pub fn run_in_place(
+    regs: &mut [u32],
+    board: Board,
+    mem: &mut [u8],
+    tags: &mut [u8],
+    revoked: &[u8],
+    n: u32,
+    watch: &mut Watch,
+) -> RunAnswer
+    ensures { λ r. ⌜ WatchPromise n board (now (revoked .entry)) (state (now (regs .entry)) (now (mem .entry)) (now (tags .entry)))
+        (state (now (regs .exit)) (now (mem .exit)) (now (tags .exit))) (now (watch .entry)) (now (watch .exit)) r ⌝ }
+{
+    let done = watched_run(regs, board, mem, tags, revoked, n, *watch);
+    *watch = done.watch;
+    done.answer
+}
+
+// The same run for callers who have no record: ranges as numbers, and their counts, which rise in place.
+pub fn run_counting(
+    regs: &mut [u32],
+    board: Board,
+    mem: &mut [u8],
+    tags: &mut [u8],
+    revoked: &[u8],
+    n: u32,
+    start1: u32,
+    length1: u32,
+    count1: &mut u32,
+    start2: u32,
+    length2: u32,
+    count2: &mut u32,
+) -> RunAnswer
+    ensures { λ r. ⌜ CountPromise n board (now (revoked .entry)) (state (now (regs .entry)) (now (mem .entry)) (now (tags .entry)))
+        (state (now (regs .exit)) (now (mem .exit)) (now (tags .exit)))
+        (watchOf start1 length1 (now (count1 .entry)) start2 length2 (now (count2 .entry))) (now (count1 .exit)) (now (count2 .exit)) r ⌝ }
+{
+    let mut w = Watch {
+        first: Range {
+            start: start1,
+            length: length1,
+            count: *count1,
+        },
+        second: Range {
+            start: start2,
+            length: length2,
+            count: *count2,
+        },
+    };
+    let answer = run_in_place(regs, board, mem, tags, revoked, n, &mut w);
+    *count1 = w.first.count;
+    *count2 = w.second.count;
+    answer
 }

@@ -20,7 +20,7 @@ use Rattle.memory_instructions.proofs.Laws.{untagged-unrevoked}
 use Rattle.machine.specs.Refusals.{blockBytes, mostMemory, goodMemory, goodWindow, goodBits}
 use Rattle.machine.proofs.Laws.{good-size, good-tag-bytes, bits-alike}
 use Rattle.sweep.specs.Visits.{granulesIn, storedIn, visitRefusal, sweptTags, nextAfter, visitAnswer, tagsAfter, VisitPromise}
-use Rattle.sweep.specs.Visits.{visitNumber, visitLast, visitNext}
+use Rattle.sweep.specs.Visits.{visitNumber, visitLast, visitNext, lastTold, nextTold}
 use Rattle.sweep.specs.declared.SweepAnswer.{SweepAnswer}
 use Rattle.sweep.specs.declared.SweepAnswer.the-variants.{Next, Last, Refused}
 
@@ -163,12 +163,57 @@ module _ (board : Board) (revoked mem tags : List ℕ) (k : ℕ) where
 -- ---- a visit by its promise
 
 module _ (board : Board) (revoked mem before : List ℕ) (g : ℕ) where
+  abbrev no : ℕ
+  no = visitRefusal board revoked mem before g
+
+  abbrev told : (good last : Bool) → SweepAnswer
+  told good last = cond good (cond last Last (Next (g + 1))) (Refused no)
+
+  -- number and values of the answer
+  number-of : visitNumber (visitAnswer board revoked mem before g) ≡ no
+  unfolding visitAnswer nextAfter
+  number-of = go (eqb no 0) refl (eqb (g + 1) (granulesIn (length mem)))
+    where
+      go : (a : Bool) → eqb no 0 ≡ a → (b : Bool) → visitNumber (told a b) ≡ no
+      go true q true = sym (eqb-true no 0 q)
+      go true q false = sym (eqb-true no 0 q)
+      go false q b = refl
+
+  last-of : visitLast (visitAnswer board revoked mem before g) ≡ lastTold board revoked mem before g
+  unfolding visitAnswer nextAfter
+  last-of = go (eqb no 0) (eqb (g + 1) (granulesIn (length mem)))
+    where
+      go : (a b : Bool) → visitLast (told a b) ≡ cond a (cond b 1 0) 0
+      go true true = refl
+      go true false = refl
+      go false b = refl
+
+  next-of : visitNext (visitAnswer board revoked mem before g) ≡ nextTold board revoked mem before g
+  unfolding visitAnswer nextAfter
+  next-of = go (eqb no 0) (eqb (g + 1) (granulesIn (length mem)))
+    where
+      go : (a b : Bool) → visitNext (told a b) ≡ cond a (cond b 0 (g + 1)) 0
+      go true true = refl
+      go true false = refl
+      go false b = refl
+
+  -- so the answer and the tags are all that is to be shown
+  pub visit-promised : (after : List ℕ) (answer : SweepAnswer) → answer ≡ visitAnswer board revoked mem before g → after ≡ tagsAfter board revoked mem before g
+      → VisitPromise board revoked mem g before after answer
+  visit-promised after answer a t = record {
+    answer-is = a;
+    number-is = ap visitNumber a ∙ number-of;
+    last-is = ap visitLast a ∙ last-of;
+    next-is = ap visitNext a ∙ next-of;
+    tags-are = t;
+  }
+
   -- refused: nothing changes
   pub visit-refused : (n : ℕ) → n ≡ visitRefusal board revoked mem before g → (n ≡ 0 → ⊥) → VisitPromise board revoked mem g before before (Refused n)
   unfolding visitAnswer tagsAfter
   visit-refused n e h =
       let f : eqb (visitRefusal board revoked mem before g) 0 ≡ false = rw (← e) (ne-eqb n 0 h) in
-      record { answer-is = rw (f, e); tags-are = rw f }
+      visit-promised before (Refused n) (rw (f, e)) (rw f)
 
   -- not refused
   pub visit-done : (after : List ℕ) (answer : SweepAnswer) → 0 ≡ visitRefusal board revoked mem before g → after ≡ sweptTags board revoked mem before g
@@ -176,18 +221,12 @@ module _ (board : Board) (revoked mem before : List ℕ) (g : ℕ) where
   unfolding visitAnswer tagsAfter
   visit-done after answer e t a =
       let f : eqb (visitRefusal board revoked mem before g) 0 ≡ true = eq-eqb (visitRefusal board revoked mem before g) 0 (sym e) in
-      record { answer-is = rw f a; tags-are = rw f t }
+      visit-promised after answer (rw f a) (rw f t)
 
   module _ (after : List ℕ) (answer : SweepAnswer) (p : VisitPromise board revoked mem g before after answer) where
     -- its number is that of the refusal
     pub number-small : visitNumber answer ≤ 9
-    unfolding visitAnswer nextAfter
-    number-small = rw (p .answer-is) (go (eqb (visitRefusal board revoked mem before g) 0) (eqb (g + 1) (granulesIn (length mem))))
-      where
-        go : (a b : Bool) → visitNumber (cond a (cond b Last (Next (g + 1))) (Refused (visitRefusal board revoked mem before g))) ≤ 9
-        go true true = omega arith
-        go true false = omega arith
-        go false b = refusal-small board revoked mem before g
+    number-small = omega (arith, p .number-is, refusal-small board revoked mem before g)
 
   -- what any visit leaves, refused or not
   module _ (after : List ℕ) (left : after ≡ tagsAfter board revoked mem before g) where

@@ -67,7 +67,19 @@ visitNext (Next n) = n
 visitNext Last = 0
 visitNext (Refused n) = 0
 
--- what a visit promises: its answer, and the tags as it leaves them
+-- the values that a visit tells: 1 where the granule was the last, and the number of the one to visit next; 0 and 0 where the visit is refused
+abbrev pub lastTold : Board → (revoked mem tags : List ℕ) → (granule : ℕ) → ℕ
+lastTold board revoked mem tags granule =
+    cond (eqb (visitRefusal board revoked mem tags granule) 0) (cond (eqb (granule + 1) (granulesIn (length mem))) 1 0) 0
+
+abbrev pub nextTold : Board → (revoked mem tags : List ℕ) → (granule : ℕ) → ℕ
+nextTold board revoked mem tags granule =
+    cond (eqb (visitRefusal board revoked mem tags granule) 0) (cond (eqb (granule + 1) (granulesIn (length mem))) 0 (granule + 1)) 0
+
+-- what a visit promises: its answer, with its number and values, and the tags as it leaves them
 pub record VisitPromise (board : Board) (revoked mem : List ℕ) (granule : ℕ) (before after : List ℕ) (answer : SweepAnswer) : Type 0 where
   pub answer-is : answer ≡ visitAnswer board revoked mem before granule
+  pub number-is : visitNumber answer ≡ visitRefusal board revoked mem before granule
+  pub last-is : visitLast answer ≡ lastTold board revoked mem before granule
+  pub next-is : visitNext answer ≡ nextTold board revoked mem before granule
   pub tags-are : after ≡ tagsAfter board revoked mem before granule

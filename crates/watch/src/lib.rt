@@ -82,11 +82,4 @@ impl Watch {
             second: self.second.touched(address, width),
         }
     }
-
-    // The record in place after a store of some bytes at an address.
-    pub fn touch(&mut self, address: u32, width: u32)
-        ensures { λ _. ⌜ now (self .exit) ≡ touchedAt (now (self .entry)) address width ⌝ }
-    {
-        *self = (*self).touched(address, width);
-    }
 }
