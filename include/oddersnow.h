@@ -190,7 +190,7 @@ static inline uint32_t oddersnow_next(uint64_t answer) { return (uint32_t)answer
  *   15  (list) the code ends inside a word: rest is that word's byte offset
  *
  * In every case but 0 nothing is written. The listing of whole words assembles to the same bytes, but for FENCE, where fm, rd and
- * rs1 are 0 then; text that assembles lists as the same text.
+ * rs1 are 0 then, and FENCE.TSO, where rd and rs1 are; text that assembles lists as the same text.
  */
 uint64_t oddersnow_list(const uint8_t *code, size_t code_len, uint8_t *out, size_t out_len);
 uint64_t oddersnow_assemble(const uint8_t *text, size_t text_len, uint8_t *out, size_t out_len);

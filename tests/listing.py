@@ -1,7 +1,8 @@
 #!/usr/bin/env python3
 """The tables of docs/LISTING.md. From the repository's root: python3 tests/listing.py names | lines
 
-    names   the forms listed are the names of crates/forms/specs/Rows.antt, in that order, each with as many operands as its example has
+    names   the forms listed are the names of crates/forms/specs/Rows.antt, long words before halves and else in that order, each with as many operands
+            as its example has
     lines   writes each example as WORD, tab, WORD that it assembles to, tab, LINE with tabs, for tests/listing_lines.c
 
 Exits with 1 where the tables differ."""
@@ -46,7 +47,7 @@ def examples():
 
 def names():
     forms = [row for heading, rows in tables() if "Operands" in heading for row in rows]
-    listed, there = [row["Name"] for row in forms], source_names()
+    listed, there = [row["Name"] for row in forms], sorted(source_names(), key=lambda name: name.startswith("c."))
     wrong = [f"{a} is listed where {b} is the name" for a, b in zip(listed, there) if a != b]
     if len(listed) != len(there):
         wrong.append(f"{len(listed)} forms are listed, {len(there)} names are there")

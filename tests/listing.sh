@@ -18,5 +18,5 @@ check "the forms are the names that there are" python3 tests/listing.py names
 check "the program of the listing's document builds" build
 check "the listing's document is what the library does" documented
 check "a wrong line is seen" sees '00000013\t00000013\taddi\t0\t0\t1'
-check "a wrong word is seen" sees '8330000f\t8330000f\tfence\t3\t3'
+check "a wrong word is seen" sees '9330000f\t9330000f\tfence\t3\t3'
 exit "$bad"

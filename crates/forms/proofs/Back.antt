@@ -20,7 +20,7 @@ use Rattle.instructions.specs.declared.IntegerInstruction.the-variants.{OpImm, 
 use Rattle.instructions.specs.declared.Instruction.{Instruction}
 use Rattle.instructions.specs.declared.Instruction.the-variants.{Integer, Illegal}
 use Rattle.short_forms.specs.Meaning.{isLegal}
-use Rattle.forms.specs.Shapes.{three, two, bare, upperOf, predOf, succOf}
+use Rattle.forms.specs.Shapes.{three, two, bare, upperOf, predOf, succOf, isTso}
 use Rattle.forms.specs.Rows.{rowCount, fixedBits, formats, csrNumber, integerShape, jumpShape, memoryShape, capabilityShape, systemShape}
 use Rattle.forms.specs.Rows.{instructionShape}
 use Rattle.forms.specs.Encoding.{placeR, placeI, placeOf, encodeOf, chosen, restored}
@@ -325,16 +325,18 @@ module _ (w : ℕ) where
   unfolding systemOf
   system o = search (whole, csrs, test, none) depth 40
 
-  -- FENCE: what does not matter is 0
+  -- FENCE and FENCE.TSO: what does not matter is 0
   fence : opcode w ≡ 0x0f → Good w (chosen w) (fenceOf (funct3 w))
   unfolding fenceOf restored instructionShape encodeOf placeOf fixedBits formats systemShape isLegal chosen
   fence o =
       tested (Good w (chosen w)) (funct3 w) 0 _ _
-      (λ e. record {
-        again = λ h. rw (eq-eqb (opcode w) 0x0f o, eq-eqb (funct3 w) 0 e) (omega arith);
-        legal = refl;
-        fit = fit2 41 (predOf w) (succOf w) (omega arith) (omega arith);
-      })
+      (λ e. by-test (isTso w)
+      (λ t. record { again = λ h. rw (eq-eqb (opcode w) 0x0f o, eq-eqb (funct3 w) 0 e, t) refl; legal = rw t refl; fit = rw t (fit0 116) })
+      (λ t. record {
+        again = λ h. rw (eq-eqb (opcode w) 0x0f o, eq-eqb (funct3 w) 0 e, t) (omega arith);
+        legal = rw t refl;
+        fit = rw t (fit2 41 (predOf w) (succOf w) (omega arith) (omega arith));
+      }))
       (λ n. record { again = λ h. rw (eq-eqb (opcode w) 0x0f o, ne-eqb (funct3 w) 0 n) refl; legal = refl; fit = fit0 255 })
 
   no-fence : (opcode w ≡ 0x0f → ⊥) → opcode w ≡ 0x0f → Good w w (fenceOf (funct3 w))

@@ -1,5 +1,5 @@
 -- Names are apart: Apart. Operands that fit: Fit. Words and halves made again of what is listed: Formats, Back, Halves. What is listed of any word: Legal,
--- Listed.
+-- Listed; of fences, worked: Fences.
 pub mod Apart
 pub mod Formats
 pub mod Fit
@@ -7,3 +7,4 @@ pub mod Back
 pub mod Halves
 pub mod Legal
 pub mod Listed
+pub mod Fences

@@ -7,16 +7,16 @@ use native.Mathlib.Omega.{arith}
 use borrow.Author.Tests.{eqb-true, eqb-false, eq-eqb, ne-eqb}
 use lib.Dec.{eqb}
 use Rattle.words.proofs.Word.{by-test}
-use Rattle.instructions.specs.Fields.{opcode, funct3}
+use Rattle.instructions.specs.Fields.{opcode, funct3, upper12}
 use Rattle.instructions.specs.Decode.{fenceOf, decodeOf}
 use Rattle.instructions.specs.declared.SystemInstruction.the-variants.{Fence}
 use Rattle.instructions.specs.declared.Instruction.{Instruction}
 use Rattle.instructions.specs.declared.Instruction.the-variants.{System}
 use Rattle.short_forms.specs.Forms.{shortOf}
-use Rattle.forms.specs.Rows.{systemShape, instructionShape}
-use Rattle.forms.specs.Shapes.{two, predOf, succOf}
+use Rattle.forms.specs.Rows.{fenceShape, systemShape, instructionShape}
+use Rattle.forms.specs.Shapes.{predOf, succOf, isTso}
 use Rattle.forms.specs.ShortShapes.{shortShape, shapeOf, instructionOf, Word}
-use Rattle.forms.specs.Encoding.{placeF, chosen, restored}
+use Rattle.forms.specs.Encoding.{placeF, chosenFence, chosen, restored}
 use Rattle.forms.specs.declared.Shape.{Shape}
 use Rattle.forms.proofs.Back.{long-good}
 use Rattle.forms.proofs.Fit.{Fit}
@@ -44,7 +44,7 @@ pub shape-fit : (w : ℕ) → Fit (shapeOf w)
 unfolding shapeOf
 shape-fit w = by-test (eqb (w % 4) 3) (λ t. rw t (long-good w .fit)) (λ t. rw t (half-fit w))
 
--- FENCE
+-- FENCE and FENCE.TSO
 decodes-fence : (w : ℕ) → opcode w ≡ 0x0f → funct3 w ≡ 0 → decodeOf w ≡ System Fence
 unfolding decodeOf fenceOf
 decodes-fence w o f = rw (o, f) refl
@@ -52,7 +52,7 @@ decodes-fence w o f = rw (o, f) refl
 long-fence : (w : ℕ) → opcode w ≡ 0x0f → w % 4 ≡ 3
 long-fence w o = omega arith
 
-fence-shape : (w : ℕ) → opcode w ≡ 0x0f → funct3 w ≡ 0 → shapeOf w ≡ two 41 (predOf w) (succOf w)
+fence-shape : (w : ℕ) → opcode w ≡ 0x0f → funct3 w ≡ 0 → shapeOf w ≡ fenceShape w
 unfolding shapeOf instructionShape systemShape
 fence-shape w o f = rw (eq-eqb (w % 4) 3 (long-fence w o), decodes-fence w o f) refl
 
@@ -67,19 +67,26 @@ pub record Settles (w v : ℕ) : Type 0 where
   pub low : v % 4 ≡ w % 4
   pub fits : v < 2 ^ 32
 
-fenced : (w : ℕ) → opcode w ≡ 0x0f → funct3 w ≡ 0 → Settles w (0x0f + placeF (w / 2 ^ 24) (w / 2 ^ 20))
-fenced w o f =
-    let v = 0x0f + placeF (w / 2 ^ 24) (w / 2 ^ 20) in
-    let p : predOf v ≡ predOf w = omega arith in
-    let q : succOf v ≡ succOf w = omega arith in
-    let m : opcode v ≡ 0x0f = omega arith in
-    let n : funct3 v ≡ 0 = omega arith in
+-- of a fence, a word that is one too and has the same shape
+settled : (w v : ℕ) → opcode w ≡ 0x0f → funct3 w ≡ 0 → opcode v ≡ 0x0f → funct3 v ≡ 0 → v < 2 ^ 32 → fenceShape v ≡ fenceShape w → Settles w v
+settled w v o f m n h e =
     record {
-      alike = fence-shape v m n ∙ rw (p, q) (sym (fence-shape w o f));
+      alike = fence-shape v m n ∙ e ∙ sym (fence-shape w o f);
       same = fence-instruction v m n ∙ sym (fence-instruction w o f);
       low = omega arith;
-      fits = omega arith;
+      fits = h;
     }
+
+fenced : (w : ℕ) → opcode w ≡ 0x0f → funct3 w ≡ 0 → Settles w (chosenFence w)
+fenced w o f = by-test (isTso w) (λ t. rw t (settled w 0x8330000f o f refl refl (omega arith) (rw t refl))) (λ t. rw t (plain t))
+  where
+    plain : isTso w ≡ false → Settles w (0x0f + placeF (w / 2 ^ 24) (w / 2 ^ 20))
+    plain t =
+        let v = 0x0f + placeF (w / 2 ^ 24) (w / 2 ^ 20) in
+        let p : predOf v ≡ predOf w = omega arith in
+        let q : succOf v ≡ succOf w = omega arith in
+        let u : isTso v ≡ false = ne-eqb (upper12 v) 0x833 (λ e. omega arith) in
+        settled w v o f (omega arith) (omega arith) (omega arith) (rw (t, u, p, q) refl)
 
 pub chosen-settles : (w : ℕ) → w < 2 ^ 32 → Settles w (chosen w)
 unfolding chosen

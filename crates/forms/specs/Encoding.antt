@@ -5,6 +5,7 @@ use lib.Dec.{eqb, ltb}
 use lib.ListN.{getD}
 use Rattle.words.specs.Words.{wrap}
 use Rattle.instructions.specs.Fields.{opcode, funct3}
+use Rattle.forms.specs.Shapes.{isTso}
 use Rattle.forms.specs.Rows.{rowCount, fixedBits, formats}
 use Rattle.forms.specs.declared.Shape.{Shape}
 
@@ -121,9 +122,13 @@ placeOf f a b c =
 unfoldable pub encodeOf : (row a b c : ℕ) → ℕ
 encodeOf row a b c = cond (ltb row rowCount) (wrap (getD fixedBits row 0 + placeOf (getD formats row 0) a b c)) 0
 
--- The word that stands for all encodings of one instruction. Only FENCE has several: its fm, rd and rs1 do not matter, and are 0 in the chosen word.
+-- The word that stands for all encodings of one instruction. Only FENCE and FENCE.TSO have several: rd and rs1 do not matter, nor FENCE's fm, and what does
+-- not matter is 0 in the chosen word.
+abbrev pub chosenFence : (word : ℕ) → ℕ
+chosenFence w = cond (isTso w) 0x8330000f (0x0f + placeF (w / 2 ^ 24) (w / 2 ^ 20))
+
 unfoldable pub chosen : (word : ℕ) → ℕ
-chosen w = cond (eqb (opcode w) 0x0f && eqb (funct3 w) 0) (0x0f + placeF (w / 2 ^ 24) (w / 2 ^ 20)) w
+chosen w = cond (eqb (opcode w) 0x0f && eqb (funct3 w) 0) (chosenFence w) w
 
 -- the word of what is listed: by its row and operands; where it has no row, the word itself
 unfoldable pub restored : (word : ℕ) → Shape → ℕ

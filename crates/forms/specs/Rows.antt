@@ -4,6 +4,7 @@
 -- other long words have the standard's (RV32E, M, Zicsr), halves the standard's of extension C.
 -- Operands are registers in the order rd, rs1, rs2, then the others in the standard's order. Offsets and immediates are the decoder's, sign-extended;
 -- shift amounts, lengths, CSR and special register numbers are unsigned.
+use mathlib.Core.Bool.{cond}
 use mathlib.Core.List.{List, [], _∷_}
 use Prim.Native.Nat.{ℕ}
 use lib.ListN.{getD}
@@ -42,7 +43,7 @@ use Rattle.instructions.specs.declared.SystemInstruction.{SystemInstruction}
 use Rattle.instructions.specs.declared.SystemInstruction.the-variants.{Fence, Wfi, Ecall, Ebreak, CsrRegister, CsrImmediate, SpecialRw}
 use Rattle.instructions.specs.declared.Instruction.{Instruction}
 use Rattle.instructions.specs.declared.Instruction.the-variants.{Integer, Jump, Memory, Capability, System, Illegal}
-use Rattle.forms.specs.Shapes.{three, two, bare, upperOf, predOf, succOf}
+use Rattle.forms.specs.Shapes.{three, two, bare, upperOf, predOf, succOf, isTso}
 use Rattle.forms.specs.declared.Shape.{Shape}
 
 -- the names as ASCII text: the published ones in lower case
@@ -166,11 +167,12 @@ names =
     (99 ∷ 46 ∷ 97 ∷ 100 ∷ 100 ∷ []) ∷  -- 113 c.add
     (99 ∷ 46 ∷ 115 ∷ 119 ∷ 115 ∷ 112 ∷ []) ∷  -- 114 c.swsp
     (99 ∷ 46 ∷ 115 ∷ 100 ∷ 115 ∷ 112 ∷ []) ∷  -- 115 c.sdsp
+    (102 ∷ 101 ∷ 110 ∷ 99 ∷ 101 ∷ 46 ∷ 116 ∷ 115 ∷ 111 ∷ []) ∷  -- 116 fence.tso
     []
 
 -- how many there are
 abbrev pub rowCount : ℕ
-rowCount = 116
+rowCount = 117
 
 -- no row: an illegal word has no name
 abbrev pub unlisted : ℕ
@@ -193,7 +195,7 @@ fixedBits =
     0x2003033 ∷ 0x2004033 ∷ 0x2005033 ∷ 0x2006033 ∷ 0x2007033 ∷ 0x0 ∷ 0x4000 ∷ 0x6000 ∷ 0xc000 ∷ 0xe000 ∷
     0x1 ∷ 0x1 ∷ 0x2001 ∷ 0x4001 ∷ 0x6101 ∷ 0x6001 ∷ 0x8001 ∷ 0x8401 ∷ 0x8801 ∷ 0x8c01 ∷
     0x8c21 ∷ 0x8c41 ∷ 0x8c61 ∷ 0xa001 ∷ 0xc001 ∷ 0xe001 ∷ 0x2 ∷ 0x4002 ∷ 0x6002 ∷ 0x8002 ∷
-    0x8002 ∷ 0x9002 ∷ 0x9002 ∷ 0x9002 ∷ 0xc002 ∷ 0xe002 ∷ []
+    0x8002 ∷ 0x9002 ∷ 0x9002 ∷ 0x9002 ∷ 0xc002 ∷ 0xe002 ∷ 0x8330000f ∷ []
 
 -- R 0, I 1, S 2, B 3, U 4, J 5, two registers 6, CSR number and immediate 7, none 8, FENCE 9; from 10 on those of halves
 unfoldable pub formats : List ℕ
@@ -203,7 +205,7 @@ formats =
     0 ∷ 9 ∷ 8 ∷ 8 ∷ 8 ∷ 1 ∷ 1 ∷ 1 ∷ 7 ∷ 7 ∷ 7 ∷ 0 ∷ 1 ∷ 1 ∷ 6 ∷ 6 ∷ 6 ∷ 6 ∷ 6 ∷ 6 ∷
     6 ∷ 6 ∷ 6 ∷ 6 ∷ 6 ∷ 6 ∷ 0 ∷ 0 ∷ 0 ∷ 0 ∷ 0 ∷ 0 ∷ 0 ∷ 0 ∷ 0 ∷ 0 ∷ 0 ∷ 0 ∷ 0 ∷ 0 ∷
     0 ∷ 0 ∷ 0 ∷ 0 ∷ 0 ∷ 10 ∷ 11 ∷ 12 ∷ 13 ∷ 14 ∷ 15 ∷ 15 ∷ 19 ∷ 15 ∷ 16 ∷ 15 ∷ 17 ∷ 17 ∷ 17 ∷ 18 ∷
-    18 ∷ 18 ∷ 18 ∷ 19 ∷ 20 ∷ 20 ∷ 15 ∷ 21 ∷ 22 ∷ 26 ∷ 25 ∷ 8 ∷ 26 ∷ 25 ∷ 23 ∷ 24 ∷ []
+    18 ∷ 18 ∷ 18 ∷ 19 ∷ 20 ∷ 20 ∷ 15 ∷ 21 ∷ 22 ∷ 26 ∷ 25 ∷ 8 ∷ 26 ∷ 25 ∷ 23 ∷ 24 ∷ 8 ∷ []
 
 -- the row of each kind
 abbrev pub aluRow : Alu → ℕ
@@ -340,8 +342,12 @@ capabilityShape w (ClearTag rd rs1) = two 55 rd rs1
 capabilityShape w (Inspect what rd rs1) = two (inspectionRow what) rd rs1
 capabilityShape w (Combine what rd rs1 rs2) = three (combinationRow what) rd rs1 rs2
 
+-- the decoder has FENCE and FENCE.TSO as one, the listing by two names
+abbrev pub fenceShape : (word : ℕ) → Shape
+fenceShape w = cond (isTso w) (bare 116) (two 41 (predOf w) (succOf w))
+
 unfoldable pub systemShape : (word : ℕ) → SystemInstruction → Shape
-systemShape w Fence = two 41 (predOf w) (succOf w)
+systemShape w Fence = fenceShape w
 systemShape w Wfi = bare 42
 systemShape w Ecall = bare 43
 systemShape w Ebreak = bare 44

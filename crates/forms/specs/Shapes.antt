@@ -1,6 +1,9 @@
 -- What is listed of a word: the row of a name, and up to three operands as words. The operands that come from the word itself, as the standard has them.
+use mathlib.Core.Bool.{Bool}
 use Prim.Native.Nat.{ℕ, _/_, _%_, _^_}
+use lib.Dec.{eqb}
 use Rattle.words.specs.Words.{signExtend}
+use Rattle.instructions.specs.Fields.{upper12}
 use Rattle.forms.specs.declared.Shape.{Shape}
 
 -- three operands, two, one, none; the last one is c
@@ -26,3 +29,7 @@ predOf w = w / 2 ^ 24 % 2 ^ 4
 
 abbrev pub succOf : (word : ℕ) → ℕ
 succOf w = w / 2 ^ 20 % 2 ^ 4
+
+-- FENCE.TSO: fm is 8, and both sets are reads and writes (standard, RV32I, memory ordering); the upper twelve bits are these three
+abbrev pub isTso : (word : ℕ) → Bool
+isTso w = eqb (upper12 w) 0x833

@@ -1,5 +1,5 @@
 // The rows: of each instruction its name, fixed bits and format, and what is listed of it. All that one more long instruction adds to the listing is here.
-// Only FENCE, LUI, AUIPCC and AUICGP take operands from the word itself.
+// Only FENCE, LUI, AUIPCC and AUICGP take operands from the word itself, and only FENCE a name.
 use crate::Shape;
 use crate::shapes::bare;
 use crate::shapes::three;
@@ -25,20 +25,20 @@ use instructions::SystemInstruction;
 ghost use mathlib.Core.Path.{_≡_};
 ghost use Rattle.instructions.specs.Decode.{decodeOf};
 ghost use Rattle.forms.specs.Rows.{aluRow, aluImmediateRow, multiplyRow, divideRow, branchRow, loadRow, storeRow, csrRow, csrImmediateRow};
-ghost use Rattle.forms.specs.Rows.{csrNumber, scrNumber, inspectionRow, combinationRow};
+ghost use Rattle.forms.specs.Rows.{csrNumber, scrNumber, inspectionRow, combinationRow, fenceShape};
 ghost use Rattle.forms.specs.Rows.{integerShape, jumpShape, memoryShape, capabilityShape, systemShape, instructionShape};
 
 // How many names there are, and the row of an illegal word, which has none.
-pub const ROWS: usize = 116;
+pub const ROWS: usize = 117;
 
 pub(crate) const UNLISTED: u32 = 255;
 
 // The names, one after another; where each starts, and where the last one ends; the last eight bytes of each as a number. The starts are in two tables,
 // of the first rows and of the later ones, since a constant table is built anew at each use.
-pub const NAME_BYTES: usize = 659;
+pub const NAME_BYTES: usize = 668;
 
 pub const NAMES: [u8; NAME_BYTES] =
-    *b"luiauipccauicgpcjalcjalrbeqbnebltbgebltubgeumretclbclhclwclbuclhuclccsbcshcswcscaddisllisltisltiuxorisrlisraioriandiaddsubsllsltsltuxorsrlsraorandfencewfiecallebreakcsrrwcsrrscsrrccsrrwicsrrsicsrrcicspecialrwcincaddrimmcsetboundsimmcmoveccleartagcgetpermcgettypecgetbasecgetlencgettagcroundrepresentablelengthcrepresentablealignmentmaskcgetaddrcgethighcgettopcsetboundscsetboundsexactcsealcunsealcandpermcsetaddrcincaddrcsubcsethighctestsubsetcsetequalexactmulmulhmulhsumulhudivdivuremremuc.addi4spnc.lwc.ldc.swc.sdc.nopc.addic.jalc.lic.addi16spc.luic.srlic.sraic.andic.subc.xorc.orc.andc.jc.beqzc.bnezc.sllic.lwspc.ldspc.jrc.mvc.ebreakc.jalrc.addc.swspc.sdsp";
+    *b"luiauipccauicgpcjalcjalrbeqbnebltbgebltubgeumretclbclhclwclbuclhuclccsbcshcswcscaddisllisltisltiuxorisrlisraioriandiaddsubsllsltsltuxorsrlsraorandfencewfiecallebreakcsrrwcsrrscsrrccsrrwicsrrsicsrrcicspecialrwcincaddrimmcsetboundsimmcmoveccleartagcgetpermcgettypecgetbasecgetlencgettagcroundrepresentablelengthcrepresentablealignmentmaskcgetaddrcgethighcgettopcsetboundscsetboundsexactcsealcunsealcandpermcsetaddrcincaddrcsubcsethighctestsubsetcsetequalexactmulmulhmulhsumulhudivdivuremremuc.addi4spnc.lwc.ldc.swc.sdc.nopc.addic.jalc.lic.addi16spc.luic.srlic.sraic.andic.subc.xorc.orc.andc.jc.beqzc.bnezc.sllic.lwspc.ldspc.jrc.mvc.ebreakc.jalrc.addc.swspc.sdspfence.tso";
 
 pub const FIRST_ROWS: usize = 85;
 
@@ -164,6 +164,7 @@ pub const LATER_STARTS: [u16; ROWS - FIRST_ROWS + 1] = [
     647,
     653,
     659,
+    668,
 ];
 
 pub const KEYS: [u64; ROWS] = [
@@ -283,6 +284,7 @@ pub const KEYS: [u64; ROWS] = [
     0x632e616464,
     0x632e73777370,
     0x632e73647370,
+    0x656e63652e74736f,
 ];
 
 // The bits that all words of a row have.
@@ -403,6 +405,7 @@ pub(crate) const FIXED: [u32; ROWS] = [
     0x9002,
     0xc002,
     0xe002,
+    0x8330000f,
 ];
 
 // R 0, I 1, S 2, B 3, U 4, J 5, two registers 6, CSR number and immediate 7, none 8, FENCE 9; from 10 on those of halves
@@ -523,6 +526,7 @@ pub(crate) const FORMATS: [u8; ROWS] = [
     25,
     23,
     24,
+    8,
 ];
 
 fn alu_row(x: Alu) -> u32
@@ -792,11 +796,23 @@ fn capability_shape(w: u32, x: CapabilityInstruction) -> Shape
     }
 }
 
+// FENCE.TSO's fm and sets, in the upper twelve bits of its words.
+const TSO: u32 = 0x833;
+
+fn fence_shape(w: u32) -> Shape
+    ensures { λ r. ⌜ r ≡ fenceShape w ⌝ }
+{
+    if w / 0x10_0000 % 4096 == TSO {
+        return bare(116);
+    }
+    two(41, w / 0x100_0000 % 16, w / 0x10_0000 % 16)
+}
+
 fn system_shape(w: u32, x: SystemInstruction) -> Shape
     ensures { λ r. ⌜ r ≡ systemShape w x ⌝ }
 {
     match x {
-        SystemInstruction::Fence => return two(41, w / 0x100_0000 % 16, w / 0x10_0000 % 16),
+        SystemInstruction::Fence => return fence_shape(w),
         SystemInstruction::Wfi => return bare(42),
         SystemInstruction::Ecall => return bare(43),
         SystemInstruction::Ebreak => return bare(44),

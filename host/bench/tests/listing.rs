@@ -104,14 +104,16 @@ fn the_plain_form_is_the_listers_and_assembles_to_the_same_bytes() {
     );
 }
 
-/// FENCE's other encodings list as the chosen word, and assemble to that.
+/// Other encodings of FENCE and of FENCE.TSO list as the chosen word, and assemble to that.
 #[test]
 fn an_encoding_of_the_same_instruction_becomes_the_chosen_word() {
-    let directory = with_file("chosen", &0x8330_000Fu32.to_le_bytes());
+    let bytes = |words: [u32; 2]| words.map(u32::to_le_bytes).concat();
+    let directory = with_file("chosen", &bytes([0x933F_8F8F, 0x833F_8F8F]));
     let line = "$BENCH list file --plain | tee text && $BENCH assemble text -o back";
-    assert_eq!(shell_in(&directory, line).text(), "fence\t3\t3\nstatus 0\n");
+    let text = "fence\t3\t3\nfence.tso\nstatus 0\n";
+    assert_eq!(shell_in(&directory, line).text(), text);
     let back = std::fs::read(directory.join("back")).unwrap();
-    assert_eq!(back, 0x0330_000Fu32.to_le_bytes());
+    assert_eq!(back, bytes([0x0330_000F, 0x8330_000F]));
 }
 
 #[test]

@@ -225,7 +225,7 @@ fn shown(given: &[u8], ours: (u64, &[u8]), right: (u64, &[u8])) -> String {
     )
 }
 
-/// Code with the chosen word for every FENCE: the fields that do not matter are 0.
+/// Code with the chosen word for every fence: the fields that do not matter are 0. FENCE.TSO keeps its mode.
 fn chosen(code: &[u8]) -> Vec<u8> {
     let (mut bytes, mut at) = (code.to_vec(), 0);
     while at < bytes.len() {
@@ -234,7 +234,11 @@ fn chosen(code: &[u8]) -> Vec<u8> {
             continue;
         }
         if bytes[at] & 0x7F == 0x0F && bytes[at + 1] & 0x70 == 0 {
-            let kept = [0x7F, 0x70, 0xF0, 0x0F];
+            let mode = match (bytes[at + 2] & 0xF0, bytes[at + 3]) {
+                (0x30, 0x83) => 0xF0,
+                _ => 0,
+            };
+            let kept = [0x7F, 0x70, 0xF0, 0x0F | mode];
             for (byte, mask) in bytes[at..at + 4].iter_mut().zip(kept) {
                 *byte &= mask;
             }
@@ -248,13 +252,15 @@ fn chosen(code: &[u8]) -> Vec<u8> {
 const OPCODES: [u32; 13] = [
     0x03, 0x0F, 0x13, 0x17, 0x23, 0x33, 0x37, 0x5B, 0x63, 0x67, 0x6F, 0x73, 0x7B,
 ];
-/// The words of SYSTEM with funct3 0, and CSR numbers beside those of the bench.
-const WHOLE: [u32; 6] = [
+/// The words of SYSTEM with funct3 0, FENCE.TSO with other fields and without, and PAUSE.
+const WHOLE: [u32; 8] = [
     0x73,
     0x0010_0073,
     0x3020_0073,
     0x1050_0073,
     0x8330_000F,
+    0x833F_8F8F,
+    0x9330_000F,
     0x0100_000F,
 ];
 
@@ -393,8 +399,11 @@ mod tests {
 
     #[test]
     fn chosen_words() {
-        let code = [0x8F, 0x8F, 0x3F, 0x83, 0x01, 0x00, 0x0F, 0x10, 0x3F, 0x83];
+        let code = [0x8F, 0x8F, 0x3F, 0x93, 0x01, 0x00, 0x0F, 0x10, 0x3F, 0x83];
         let kept = [0x0F, 0x00, 0x30, 0x03, 0x01, 0x00, 0x0F, 0x10, 0x3F, 0x83];
+        assert_eq!(chosen(&code), kept);
+        let code = [0x8F, 0x8F, 0x3F, 0x83, 0x8F, 0x8F, 0x3F, 0x82];
+        let kept = [0x0F, 0x00, 0x30, 0x83, 0x0F, 0x00, 0x30, 0x02];
         assert_eq!(chosen(&code), kept);
     }
 

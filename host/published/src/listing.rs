@@ -23,7 +23,7 @@ enum Class {
     NoOp,
     /// A short shift by 0, for which binutils has the names of RV128.
     ShiftByZero,
-    /// FENCE.TSO: one of FENCE's encodings, whose fm does not matter here.
+    /// FENCE.TSO by its own name, without operands.
     FenceTso,
     /// A FENCE with other fields that the standard ignores; binutils has no reading.
     Fence,
@@ -185,7 +185,7 @@ type Ordered<'a> = (Class, &'a str, Vec<i64>);
 fn otherwise<'a>(name: &'a str, operands: &[Operand]) -> Option<Ordered<'a>> {
     use Operand::{Number, Place, Register};
     Some(match (name, operands) {
-        ("fence.tso", []) => (FenceTso, "fence", vec![3, 3]),
+        ("fence.tso", []) => (FenceTso, name, vec![]),
         ("c.addi", &[Register(0), Number(0)]) => (NoOp, "c.nop", vec![]),
         ("c.addi", &[Register(0), Number(value)]) => (NoOp, "c.nop", vec![value]),
         ("c.slli64" | "c.srli64" | "c.srai64", &[Register(rd)]) => {
@@ -359,6 +359,7 @@ mod tests {
             ("csrrw x5,0xbc1,x6", "csrrw\t5\t6\t3009\n"),
             ("csrrci x0,0xbc2,31", "csrrci\t0\t3010\t31\n"),
             ("fence iorw,unknown", "fence\t15\t0\n"),
+            ("fence.tso", "fence.tso\n"),
             ("c.lui x10,0xfffe0", "c.lui\t10\t-32\n"),
             ("c.swsp x15,252(x2)", "c.swsp\t15\t252\n"),
             ("c.sw x15,4(x8)", "c.sw\t8\t15\t4\n"),

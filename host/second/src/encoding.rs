@@ -91,7 +91,9 @@ const FORMS: &[(Format, &[(&str, u32)])] = &[
     ]),
     (Format::Csr, &[("csrrwi", fixed(0x73, 5, 0)), ("csrrsi", fixed(0x73, 6, 0)), ("csrrci", fixed(0x73, 7, 0))]),
     (Format::Fence, &[("fence", 0x0F)]),
-    (Format::Whole, &[("ecall", 0x73), ("ebreak", 0x0010_0073), ("mret", 0x3020_0073), ("wfi", 0x1050_0073)]),
+    (Format::Whole, &[
+        ("ecall", 0x73), ("ebreak", 0x0010_0073), ("mret", 0x3020_0073), ("wfi", 0x1050_0073), ("fence.tso", 0x8330_000F),
+    ]),
 ];
 
 /// The form of a long word's name.

@@ -160,7 +160,6 @@ fn n(immediate: u32) -> i32 {
 fn long_line(out: &mut Vec<u8>, word: u32, instruction: Instruction) {
     use Instruction as I;
     let upper = word as i32 >> 12;
-    let (first, second) = (word >> 24 & 15, word >> 20 & 15);
     match instruction {
         I::Lui { rd, .. } => say(out, "lui", &[r(rd), upper]),
         I::Auipcc { cd, .. } => say(out, "auipcc", &[r(cd), upper]),
@@ -182,11 +181,21 @@ fn long_line(out: &mut Vec<u8>, word: u32, instruction: Instruction) {
         I::Pair { pairing, cd, cs1, cs2 } => say(out, pair(pairing), &[r(cd), r(cs1), r(cs2)]),
         // The special register's number stands where others have rs2.
         I::CSpecialRw { cd, cs1, .. } => say(out, "cspecialrw", &[r(cd), r(cs1), n(word >> 20 & 31)]),
-        I::Fence => say(out, "fence", &[n(first), n(second)]),
+        I::Fence => fence(out, word),
         I::Wfi => say(out, "wfi", &[]),
         I::Ecall => say(out, "ecall", &[]),
         I::Ebreak => say(out, "ebreak", &[]),
         I::Mret => say(out, "mret", &[]),
+    }
+}
+
+/// A fence: FENCE.TSO has mode 8 and both sets RW. The standard takes every other mode and pair of sets for
+/// FENCE, and ignores rd and rs1 of both.
+fn fence(out: &mut Vec<u8>, word: u32) {
+    let [mode, first, second] = [28, 24, 20].map(|lowest| word >> lowest & 15);
+    match (mode, first, second) {
+        (8, 3, 3) => say(out, "fence.tso", &[]),
+        _ => say(out, "fence", &[n(first), n(second)]),
     }
 }
 

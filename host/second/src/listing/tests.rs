@@ -34,6 +34,8 @@ fn words_and_their_lines() {
         (0x0051_2423, "csw\t2\t5\t8"),
         (0x8000_0537, "lui\t10\t-524288"),
         (0x0FF0_000F, "fence\t15\t15"),
+        (0x0330_000F, "fence\t3\t3"),
+        (0x8330_000F, "fence.tso"),
         (0x3004_6073, "csrrsi\t0\t768\t8"),
         (0x3001_1073, "csrrw\t0\t2\t768"),
         (0xBC12_95F3, "csrrw\t11\t5\t3009"),
@@ -75,9 +77,18 @@ fn every_half_is_kept() {
 
 #[test]
 fn fences_have_a_chosen_word() {
-    let text = listed(&bytes(&[0x833F_8F8F]));
-    assert_eq!(text, "fence\t3\t3\n");
-    assert_eq!(made(assemble, text.as_bytes()).1, bytes(&[0x0330_000F]));
+    let cases = [
+        (0x833F_8F8F, "fence.tso\n", 0x8330_000F),
+        (0x833F_800F, "fence.tso\n", 0x8330_000F),
+        (0x033F_8F8F, "fence\t3\t3\n", 0x0330_000F),
+        (0x9330_000F, "fence\t3\t3\n", 0x0330_000F),
+        (0x8230_000F, "fence\t2\t3\n", 0x0230_000F),
+        (0x8310_000F, "fence\t3\t1\n", 0x0310_000F),
+    ];
+    for (word, line, chosen) in cases {
+        assert_eq!(listed(&bytes(&[word])), line, "{word:x}");
+        assert_eq!(made(assemble, line.as_bytes()).1, bytes(&[chosen]));
+    }
 }
 
 #[test]
@@ -95,7 +106,13 @@ fn refusals() {
         "addi\t1\t16\t0",
     ];
     for line in bad.into_iter().chain([
-        "00000013", "0001", "FFFFFFFF", "00000000", "0003", "fence\t3",
+        "00000013",
+        "0001",
+        "FFFFFFFF",
+        "00000000",
+        "0003",
+        "fence\t3",
+        "fence.tso\t3\t3",
     ]) {
         let text = format!("c.nop\n{line}\n");
         assert_eq!(made(assemble, text.as_bytes()).0, 13 << 48 | 2, "{line}");

@@ -6,7 +6,7 @@ use Rattle.forms.proofs.rows.system_shape.Tie as tie
 
 returns : tie.Need-returns
 unfolding systemShape
-returns c = simp (c .two .ensures, c .before .enum-told .given .1)
+returns c = simp (c .fence-shape .ensures, c .before .enum-told .given .1)
 
 returns-2 : tie.Need-returns-2
 unfolding systemShape
