@@ -69,7 +69,8 @@ abbrev pub FailedAt : (s : Scan) (input after : List ℕ) → Answer → Type 0
 FailedAt s input after (Read got) = isNegative got ≡ true
 FailedAt s input after (Write done) = (done ≡ false) × (Starts after (lastText s) ⊎ ((n : ℕ) × Stopped s (take n input) after))
 
--- the end of a run over some bytes, from line 1 on; of one whose turns are used up nothing is said
+-- The end of a run over some bytes, from line 1 on; of one whose turns are used up nothing is said. Nothing ties the bytes to standard input: no bytes at all
+-- will do, so a program that reads and writes nothing keeps this too.
 abbrev pub Ends : (input after : List ℕ) → Outcome → Type 0
 Ends input after Outcome.Done = (bytes : List ℕ) × Starts after (lastText (scanned (startOf 1) bytes))
 Ends input after (Outcome.Failed a) = (bytes : List ℕ) × FailedAt (scanned (startOf 1) bytes) input after a
