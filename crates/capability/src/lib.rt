@@ -15,6 +15,7 @@ pub use loading::loaded;
 pub use reading::bounds_of;
 pub use reading::covers_range;
 pub use reading::has_right;
+pub use reading::indexed_rights;
 pub use reading::is_sealed;
 pub use reading::is_tagged;
 pub use reading::rights_of;

@@ -15,18 +15,25 @@ pub fn bounds_of(c: Capability) -> Region
     bounds::bounds(c.address, c.metadata)
 }
 
-// The rights that the capability's code holds and those also granted.
+// The rights that the capability's code holds and those also granted, for checks.
 pub fn rights_of(c: Capability) -> u32
     ensures { λ r. ⌜ (r ≡ rights c) × (r < 4096) ⌝ }
 {
     metadata::rights(c.metadata)
 }
 
-// Whether right k is among them, by its number, 0 to 11.
+// The same, for what is no check.
+pub fn indexed_rights(c: Capability) -> u32
+    ensures { λ r. ⌜ (r ≡ rights c) × (r < 4096) ⌝ }
+{
+    metadata::indexed_rights(c.metadata)
+}
+
+// Whether right k is among them, by its number, 0 to 11. With this second caller `rights` stays a function of its own, and a step is shorter.
 pub fn has_right(c: Capability, k: u32) -> bool
     ensures { λ r. ⌜ r ≡ grants c k ⌝ }
 {
-    metadata::has(rights_of(c), k)
+    metadata::has(metadata::rights(c.metadata), k)
 }
 
 // Whether it has a type.

@@ -5,7 +5,7 @@ use native.Mathlib.Omega.{arith}
 use Rattle.bounds.proofs.Fits.{alignment-mask-word, representable-length-word}
 use Rattle.capability.specs.Capability.{Good, high}
 use Rattle.capability.specs.declared.Capability.{Capability}
-use Rattle.capability.proofs.Laws.{low-lt, rights-lt, object-type-lt, integer-good, clear-good, move-good, set-bounds-good}
+use Rattle.capability.proofs.Laws.{low-lt, rights-lt, object-type-lt, clear-good, move-good, set-bounds-good}
 use Rattle.instructions.specs.Range.{Word}
 use Rattle.instructions.specs.declared.Inspection.{Inspection}
 use Rattle.instructions.specs.declared.Inspection.the-variants.{GetPerm, GetType, GetBase, GetLen, GetTag, RoundLength, AlignmentMask, GetAddr, GetHigh, GetTop}
@@ -37,7 +37,8 @@ inspected-word GetTop c g = at-most-word (high c)
 moved-fits : (c : Capability) (offset : ℕ) → Good c → Good (movedBy c offset)
 moved-fits c offset g = move-good c _ g (omega arith)
 
--- whatever the immediate: a moved address wraps, and the request of a cut may be any number
+-- Whatever the immediate: a moved address wraps, and the request of a cut may be any number. An integer fits by the limits of the registers too, so this says
+-- nothing of what it leaves of them; that it leaves nothing is the function's own answer.
 pub capability-fits : (i : CapabilityInstruction) (regs : List ℕ) → FitsRegisters regs → FitsEffect (capabilityEffect i regs)
 unfolding capabilityEffect
 capability-fits (AuiPcc rd offset) regs h = (moved-fits (pccOf regs) offset (pcc-fits regs h), tt)
@@ -46,7 +47,16 @@ capability-fits (IncAddrImm rd rs1 offset) regs h = (moved-fits (registerAt regs
 capability-fits (SetBoundsImm rd rs1 n) regs h = (set-bounds-good (registerAt regs rs1) n (register-fits regs h rs1), tt)
 capability-fits (Move rd rs1) regs h = (register-fits regs h rs1, tt)
 capability-fits (ClearTag rd rs1) regs h = (clear-good (registerAt regs rs1) (register-fits regs h rs1), tt)
-capability-fits (Inspect what rd rs1) regs h = (integer-good _ (inspected-word what (registerAt regs rs1) (register-fits regs h rs1)), tt)
+capability-fits (Inspect what rd rs1) regs h =
+    let g = register-fits regs h rs1 in
+    let old = register-fits regs h rd in (
+      record {
+        address-fits = inspected-word what (registerAt regs rs1) g;
+        metadata-fits = omega (arith, g .metadata-fits);
+        tag-fits = omega (arith, old .tag-fits);
+      },
+      tt,
+    )
 capability-fits (Combine what rd rs1 rs2) regs h =
     let c = registerAt regs rs1 in
     let d = registerAt regs rs2 in

@@ -60,6 +60,6 @@ capability-good (SetBoundsImm rd rs1 n) regs h =
 capability-good (Move rd rs1) regs h = register-tag regs rs1 h
 capability-good (ClearTag rd rs1) regs h =
     kept-good (registerAt regs rs1) (clearTag (registerAt regs rs1)) (clear-kept (registerAt regs rs1)) (register-tag regs rs1 h)
-capability-good (Inspect what rd rs1) regs h = omega arith
+capability-good (Inspect what rd rs1) regs h = omega (arith, register-tag regs rd h)
 capability-good (Combine what rd rs1 rs2) regs h =
     derived-tag (registerAt regs rs1) (registerAt regs rs2) _ (combined-derived what (registerAt regs rs1) (registerAt regs rs2)) (register-tag regs rs1 h)

@@ -62,7 +62,7 @@ fn inspect(what: Inspection, c: Capability) -> u32
     ensures { λ r. ⌜ r ≡ inspected what c ⌝ }
 {
     match what {
-        Inspection::GetPerm => capability::rights_of(c),
+        Inspection::GetPerm => capability::indexed_rights(c),
         Inspection::GetType => capability::object_type(c),
         Inspection::GetBase => low_of(c),
         Inspection::GetLen => at_most_word(length_of(c)),

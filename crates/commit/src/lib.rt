@@ -124,7 +124,7 @@ pub fn store(mem: &mut [u8], tags: &mut [u8], kind: StoreKind, at: u32, value: u
     ensures { λ _. ⌜ (now (mem .exit) ≡ stored (now (mem .entry)) (storeWidth kind) at value)
         × (now (tags .exit) ≡ retagged (now (mem .entry)) (now (tags .entry)) (storeWidth kind) at 0) ⌝ }
 {
-    if at as usize + state::store_width(kind) as usize <= mem.len() {
+    if at as u64 + state::store_width(kind) as u64 <= mem.len() as u64 {
         put_bytes(mem, kind, at as usize, value);
         words::put_bit(tags, at as usize / GRANULE, 0);
     }
@@ -135,8 +135,8 @@ pub fn store_capability(mem: &mut [u8], tags: &mut [u8], at: u32, c: Capability)
     ensures { λ _. ⌜ (now (mem .exit) ≡ storedCapability (now (mem .entry)) at c)
         × (now (tags .exit) ≡ retagged (now (mem .entry)) (now (tags .entry)) granuleBytes at (c .tag)) ⌝ }
 {
-    let i = at as usize;
-    if i + GRANULE <= mem.len() {
+    if at as u64 + GRANULE as u64 <= mem.len() as u64 {
+        let i = at as usize;
         words::store32(mem, i, c.address);
         words::store32(mem, i + 4, c.metadata);
         words::put_bit(tags, i / GRANULE, c.tag);

@@ -78,13 +78,13 @@ fn fetched_from(pcc: Capability, at: u32, mem: &[u8]) -> Fetched
     ensures { λ r. ⌜ r ≡ cond (leb (at + halfBytes) (length (now (mem .entry)))) (fetchedAt (Place.At at) pcc (now (mem .entry)))
         (Fetched.Fault fetchFault (pcc .address)) ⌝ }
 {
-    let i = at as usize;
-    if i + LONG_BYTES as usize <= mem.len() {
-        let word = words::load32(mem, i);
+    let size = mem.len() as u64;
+    if at as u64 + LONG_BYTES as u64 <= size {
+        let word = words::load32(mem, at as usize);
         return stands(pcc, word % 0x1_0000, word, true);
     }
-    if i + HALF_BYTES as usize <= mem.len() {
-        let word = words::load32(mem, i);
+    if at as u64 + HALF_BYTES as u64 <= size {
+        let word = words::load32(mem, at as usize);
         return stands(pcc, word % 0x1_0000, word, false);
     }
     outside(pcc)

@@ -23,14 +23,18 @@ masks =
 right : ℕ → Bool
 right k = eqb (getD masks k 0) (rightsOf k)
 
--- the entry of a code is the code's rights
+-- the entry of a code, where the index reads it, is the code's rights
 pub masks-right : (code : ℕ) → code < 64 → getD masks code 0 ≡ rightsOf code
 unfolding masks right rightsOf
 masks-right code h = eqb→eq (getD masks code 0) (rightsOf code) (every-at right 64 tt code h)
 
--- the same where a code was found to be k
+-- one entry for both ways of reading: where a code was found to be the key k, the case of k reads what the index reads
+pub same-entry : {k code : ℕ} → code ≡ k → getD masks k 0 ≡ getD masks code 0
+same-entry {k} {code} e = ap (λ (i : ℕ). getD masks i 0) (sym e)
+
+-- so the case of a key reads the code's rights too
 pub key-right : {k code : ℕ} → code ≡ k → T (ltb k 64) → getD masks k 0 ≡ rightsOf code
-key-right {k} {code} e t = masks-right k (ltb→lt k 64 t) ∙ ap rightsOf (sym e)
+key-right {k} {code} e t = same-entry e ∙ masks-right code (rw e (ltb→lt k 64 t))
 
 -- x is none of n keys from a first on
 abbrev pub Misses : (first n x : ℕ) → Type 0

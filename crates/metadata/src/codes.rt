@@ -10,7 +10,7 @@ use crate::SL;
 use crate::SR;
 use crate::U0;
 use crate::US;
-use crate::masks::rights;
+use crate::masks::indexed_rights;
 use crate::word::with_permissions;
 ghost use mathlib.Core.Path.{_≡_};
 ghost use Prim.Native.Nat.{_+_, _*_, _<_, _≤_};
@@ -92,5 +92,5 @@ pub fn encode(rights: u32) -> u32
 pub fn narrow(metadata: u32, mask: u32) -> u32
     ensures { λ r. ⌜ r ≡ narrowWord metadata mask ⌝ }
 {
-    with_permissions(metadata, encode(rights(metadata) & mask))
+    with_permissions(metadata, encode(indexed_rights(metadata) & mask))
 }

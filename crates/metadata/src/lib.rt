@@ -6,6 +6,7 @@ mod word;
 pub use codes::encode;
 pub use codes::has;
 pub use codes::narrow;
+pub use masks::indexed_rights;
 pub use masks::rights;
 pub use word::base_of;
 pub use word::join;

@@ -113,7 +113,7 @@ fn upper_mask(code: u32) -> u16
     }
 }
 
-// The mask of a code. Read by cases, the table becomes read-only data; an index would have it copied to the stack at each read.
+// The mask of a code, for checks. Read by cases, the table becomes read-only data; an index would have it copied to the stack at each read.
 fn mask_of(code: u32) -> u16
     ensures { λ r. ⌜ (code < 64 → r ≡ rightsOf code) ⌝ }
 {
@@ -155,9 +155,24 @@ fn mask_of(code: u32) -> u16
     }
 }
 
-// The rights of a metadata word.
+// The rights of a metadata word, for checks.
 pub fn rights(metadata: u32) -> u32
     ensures { λ r. ⌜ (r ≡ wordRights metadata) × (r < 4096) ⌝ }
 {
     mask_of(permissions(metadata)) as u32
+}
+
+// The mask of a code, for what is no check: the table indexed by the six stored bits.
+fn mask_at(code: u32) -> u16
+    requires { ⌜ code < 64 ⌝ }
+    ensures { λ r. ⌜ r ≡ rightsOf code ⌝ }
+{
+    MASKS[code as usize]
+}
+
+// The rights of a metadata word, for what is no check.
+pub fn indexed_rights(metadata: u32) -> u32
+    ensures { λ r. ⌜ (r ≡ wordRights metadata) × (r < 4096) ⌝ }
+{
+    mask_at(permissions(metadata)) as u32
 }

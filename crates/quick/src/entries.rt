@@ -41,7 +41,7 @@ fn is_open(pcc: Capability, start: u32, size: usize) -> bool
     if pcc.address < start {
         return false;
     }
-    if size < (pcc.address - start) as usize + LONG_BYTES as usize {
+    if (size as u64) < (pcc.address - start) as u64 + LONG_BYTES as u64 {
         return false;
     }
     state::access_cause(pcc, metadata::EX, EXECUTE_CAUSE, pcc.address, LONG_BYTES) == NO_CAUSE

@@ -1,6 +1,6 @@
 -- What is read from good registers and bytes is good, a check's trap writes words, and mstatus stays a word. Assumes nothing.
 use mathlib.Core.List.{List}
-use Prim.Native.Nat.{ℕ, _*_, _/_, _%_, _+_, _<_}
+use Prim.Native.Nat.{ℕ, _*_, _/_, _%_, _+_, _^_, _<_}
 use native.Mathlib.Nat.{div-mul-le-self}
 use native.Mathlib.Omega.{arith}
 use lib.Dec.{eqb}
@@ -9,7 +9,7 @@ use Rattle.words.proofs.Bytes.{leBytes-lt}
 use Rattle.words.proofs.Fits.{withBit-lt}
 use Rattle.capability.specs.declared.Capability.{Capability}
 use Rattle.capability.proofs.Laws.{move-good}
-use Rattle.capability.specs.Capability.{Good}
+use Rattle.capability.specs.Capability.{Good, capability}
 use Rattle.instructions.specs.Range.{Word}
 use Rattle.instructions.specs.declared.Csr.{Csr}
 use Rattle.state.specs.Layout.{capabilityWords, generalCount, capabilityCount, pccIndex, csrIndex}
@@ -56,9 +56,15 @@ capability-in-fits mem tags i b =
 
 -- ---- what is written
 
+placed-good : (c : Capability) (a : ℕ) → Good c → a < 2 ^ 32 → Good (capability a (c .metadata) (c .tag))
+placed-good c a g h = record { address-fits = h; metadata-fits = g .metadata-fits; tag-fits = g .tag-fits }
+
+-- whether the tag is kept by a rule or stays: that it follows the address-move rule is the functions' own answer
 pub legalized-fits : (unit : ℕ) (c : Capability) → Good c → Good (legalized unit c)
 unfolding legalized
-legalized-fits unit c g = move-good c (c .address / unit * unit) g (omega (arith, div-mul-le-self (c .address) unit, g .address-fits))
+legalized-fits unit c g =
+    let cut : c .address / unit * unit < 2 ^ 32 = omega (arith, div-mul-le-self (c .address) unit, g .address-fits) in
+    search (move-good, placed-good, g, cut)
 
 -- mstatus with another MIE, MPIE or both
 pub mie-fits : (m v : ℕ) → Word m → Word (withBit m MIE v)

@@ -173,9 +173,13 @@ register-tag regs r h = capability-tag regs (r % generalCount) (omega arith) h
 pub pcc-tag : (regs : List ℕ) → GoodTags regs → GoodTag (pccOf regs)
 pcc-tag regs h = capability-tag regs pccIndex (omega arith) h
 
+stays-kept : (tag : ℕ) → Kept tag tag
+stays-kept tag = inl refl
+
+-- by whatever keeps or clears a tag
 pub legalized-tag : (unit : ℕ) (c : Capability) → GoodTag c → GoodTag (legalized unit c)
 unfolding legalized
-legalized-tag unit c h = kept-good c (legalized unit c) (move-kept c _) h
+legalized-tag unit c h = kept-good c (legalized unit c) (search (move-kept, stays-kept)) h
 
 pub capability-in-tag : (mem tags : List ℕ) (i : ℕ) → GoodTag (capabilityIn mem tags i)
 unfolding capabilityIn

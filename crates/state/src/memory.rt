@@ -54,7 +54,7 @@ fn aligned_place(start: u32, size: usize, address: u32, width: u32) -> Place
 {
     if start <= address {
         let at = address - start;
-        if at as usize + width as usize <= size {
+        if at as u64 + width as u64 <= size as u64 {
             Place::At(at)
         } else {
             Place::Outside
@@ -102,13 +102,13 @@ fn mark_of(bit: u32) -> Revocation
 pub fn revocation_at(board: Board, revoked: &[u8], address: u32) -> Revocation
     ensures { λ r. ⌜ r ≡ revocationAt board (now (revoked .entry)) address ⌝ }
 {
-    let first = board.start as usize + board.window.start as usize;
-    if (address as usize) < first {
+    let first = board.start as u64 + board.window.start as u64;
+    if (address as u64) < first {
         return Revocation::Outside;
     }
-    let at = address as usize - first;
-    if board.window.size as usize <= at {
+    let at = address as u64 - first;
+    if board.window.size as u64 <= at {
         return Revocation::Outside;
     }
-    mark_of(words::get_bit(revoked, at / GRANULE))
+    mark_of(words::get_bit(revoked, at as usize / GRANULE))
 }

@@ -6,7 +6,7 @@ use Rattle.capability_instructions.proofs.inspect.Tie as tie
 
 returns : tie.Need-returns
 unfolding inspected
-returns c = simp (c .rights-of .ensures .0, c .before .enum-told .given .1)
+returns c = simp (c .indexed-rights .ensures .0, c .before .enum-told .given .1)
 
 returns-2 : tie.Need-returns-2
 unfolding inspected

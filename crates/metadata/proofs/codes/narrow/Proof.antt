@@ -6,7 +6,7 @@ use Rattle.metadata.proofs.codes.narrow.Tie as tie
 
 returns : tie.Need-returns
 unfolding narrowWord
-returns c = simp (c .with-permissions .ensures, c .before .encode .ensures .0, c .before .before .rights .ensures .0)
+returns c = simp (c .with-permissions .ensures, c .before .encode .ensures .0, c .before .before .indexed-rights .ensures .0)
 
 pub narrow-spec : {M : Type 1} → statement M
 narrow-spec = tie.close (tie.spec (λ c κs. search needs) (λ c κs. search needs) (λ c κs. search needs) returns)
