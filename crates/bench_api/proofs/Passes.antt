@@ -56,7 +56,7 @@ module _ (board : Board) (revoked mem : List ℕ) where
       Packed.ends granule before after (record { answer-is = ap packedVisit (p .answer-is); tags-are = p .tags-are })
   visits-packed calls granule before after (goes-on more _ next _ between _ p rest) =
       Packed.goes-on more granule next before between after (next-small board revoked mem before granule next (sym (p .answer-is)))
-      (record { answer-is = ap packedVisit (p .answer-is); tags-are = p .tags-are }) (visits-packed more next between after rest)
+      (record { answer-is = omega (arith, ap packedVisit (p .answer-is)); tags-are = p .tags-are }) (visits-packed more next between after rest)
 
   -- what a full pass of C calls leaves
   pub packed-pass : (calls : ℕ) (before after : List ℕ) → PackedVisits board revoked mem calls 0 before after → Swept board revoked mem before after

@@ -1,5 +1,6 @@
 -- What the promises of the functions for C shut out: the wrong machines that document 01 lists under "Promises that pin the answer", and a run whose watch
--- record stays. A number that C gets unpacks to the number and the counts of the definition, so what the machine's promises shut out, these do. Assumes nothing.
+-- record stays. A number that C gets unpacks to the number and the counts of the definition, so what the machine's promises shut out, these do. Assumes
+-- nothing.
 use mathlib.Core.Path.{_≡_, refl, sym, ap, _∙_}
 use mathlib.Core.Bool.{Bool, true, false, cond}
 use mathlib.Core.List.{List, _∷_, []}
@@ -148,9 +149,10 @@ module _ (board : Board) (revoked : List ℕ) (from : State) where
       pub counts-told : (x % 2 ^ 24 ≡ ranFrom n board revoked from .retired) × (x / 2 ^ 24 % 2 ^ 24 ≡ ranFrom n board revoked from .trapped)
       counts-told =
           let r : retiredBy n board revoked from ≡ ranFrom n board revoked from .retired = rw made in
-          let t : trappedBy n board revoked from ≡ ranFrom n board revoked from .trapped = rw made in
-          (ap (λ (y : ℕ). y % 2 ^ 24) (p .answer-is) ∙ (retired-in (refusalOf n board revoked from) _ _ (few-of-all .0) (few-of-all .1) ∙ r),
-          ap (λ (y : ℕ). y / 2 ^ 24 % 2 ^ 24) (p .answer-is) ∙ (trapped-in (refusalOf n board revoked from) _ _ (few-of-all .0) (few-of-all .1) ∙ t))
+          let t : trappedBy n board revoked from ≡ ranFrom n board revoked from .trapped = rw made in (
+            ap (λ (y : ℕ). y % 2 ^ 24) (p .answer-is) ∙ (retired-in (refusalOf n board revoked from) _ _ (few-of-all .0) (few-of-all .1) ∙ r),
+            ap (λ (y : ℕ). y / 2 ^ 24 % 2 ^ 24) (p .answer-is) ∙ (trapped-in (refusalOf n board revoked from) _ _ (few-of-all .0) (few-of-all .1) ∙ t),
+          )
 
       pub counts-sum : x % 2 ^ 24 + x / 2 ^ 24 % 2 ^ 24 ≡ n
       counts-sum = omega (arith, counts-told .0, counts-told .1, Plain.counts-sum board revoked from after n _ _ ran-kept)
@@ -241,9 +243,10 @@ module _ (after : State) where
 
   pub record-told : (left : Watch) (answer : RunAnswer) → WatchPromise 1 storingBoard storingBits storingFrom after storingWatch left answer
       → (left .first .count ≡ 6) × (left .second .count ≡ 7)
-  record-told left answer p =
-      (ap (λ (w : Watch). w .first .count) (p .watch-is) ∙ storing-counts .first-is,
-      ap (λ (w : Watch). w .second .count) (p .watch-is) ∙ storing-counts .second-is)
+  record-told left answer p = (
+    ap (λ (w : Watch). w .first .count) (p .watch-is) ∙ storing-counts .first-is,
+    ap (λ (w : Watch). w .second .count) (p .watch-is) ∙ storing-counts .second-is,
+  )
 
   -- and so of the counts that C lends
   pub counts-lent-told : (c d x : ℕ) → WatchPacked 1 storingBoard storingBits storingFrom after storingWatch c d x → (c ≡ 6) × (d ≡ 7)

@@ -1,7 +1,7 @@
 -- A thin run: it takes the watch record by `&mut`, calls the run by value with a copy of it, and stores the record that comes back. The borrow checker
--- covers no reference to a struct, so this is a walk of its MIR by hand. The engines' thin runs have this one MIR but for the callee's name, so the walk is over
--- that name, and each engine cites `meets`. The three lent slices go to the callee at their own lifetimes: what it says of their last lists is what the
--- thin run says. The record's borrow is opened before the call, and closed after it at the new record. Assumes nothing.
+-- covers no reference to a struct, so this is a walk of its MIR by hand. The engines' thin runs have this one MIR but for the callee's name, so the walk is
+-- over that name, and each engine cites `meets`. The three lent slices go to the callee at their own lifetimes: what it says of their last lists is what
+-- the thin run says. The record's borrow is opened before the call, and closed after it at the new record. Assumes nothing.
 use mathlib.Core.Path.{_≡_, refl, ap}
 use Prim.Native.Nat.{ℕ, _+_, _<_, _^_}
 use mathlib.Core.List.{[], _∷_, List}
@@ -282,7 +282,8 @@ module _ {M : Type 1} (𝓤 : URA M) (H : Heap 𝓤) (A : Atoms 𝓤) (W : Given
           -- the tokens and what the parameters own, apart; the revocation bits twice, once for the call and once for the exit
           split ! $ move ! (1 ∷ []) $ split ! $ move ! (1 ∷ []) $ split ! $ move ! (1 ∷ []) $ split ! $ move ! (1 ∷ []) $ split ! $
           move ! (6 ∷ []) $ fsplit ! $ move ! (1 ∷ []) $ fsplit ! $ move ! (1 ∷ []) $ fsplit ! $ move ! (1 ∷ []) $ fsplit ! $
-          move ! (1 ∷ []) $ fsplit ! $ move ! (1 ∷ []) $ fsplit ! $ move ! (1 ∷ []) $ fsplit ! $ fsplit3 ! $ keep ! (5 ∷ 1 ∷ 2 ∷ 10 ∷ 15 ∷ 14 ∷ 13 ∷ 12 ∷ 9 ∷ 7 ∷ 6 ∷ []) $
+          move ! (1 ∷ []) $ fsplit ! $ move ! (1 ∷ []) $ fsplit ! $ move ! (1 ∷ []) $ fsplit ! $ fsplit3 ! $
+          keep ! (5 ∷ 1 ∷ 2 ∷ 10 ∷ 15 ∷ 14 ∷ 13 ∷ 12 ∷ 9 ∷ 7 ∷ 6 ∷ []) $
           use1 W (‵ Bits ⊛ ‵ Bits) (shr-slice-copy 𝓤 H A W (named 3) κv u8 .twice revoked (slice-val revoked ∷ [])) $ split ! $
           keep ! (2 ∷ 3 ∷ 4 ∷ 5 ∷ 6 ∷ 7 ∷ 8 ∷ 9 ∷ 10 ∷ 11 ∷ 0 ∷ 1 ∷ []) $
           -- [the record's borrow and token; what goes to the call; the revocation bits]
