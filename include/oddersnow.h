@@ -9,7 +9,8 @@
  *   `rt staticlib call_lists` oddersnow_calls (target/staticlib/libcall_lists.a), `rt staticlib bench_api`
  *   oddersnow_step, oddersnow_run, oddersnow_run_watched, oddersnow_run_quick and oddersnow_sweep (target/staticlib/libbench_api.a),
  *   `rt staticlib sheet_api` the functions about sheets (target/staticlib/libsheet_api.a), `rt staticlib listing_api` oddersnow_list and
- *   oddersnow_assemble (target/staticlib/liblisting_api.a). A program may link all of them.
+ *   oddersnow_assemble (target/staticlib/liblisting_api.a), `rt staticlib reach` oddersnow_reach (target/staticlib/libreach.a). A program
+ *   may link all of them.
  */
 #ifndef ODDERSNOW_H
 #define ODDERSNOW_H
@@ -134,6 +135,26 @@ uint64_t oddersnow_run_quick(uint32_t *regs, size_t regs_len, uint32_t start,
 uint64_t oddersnow_sweep(uint32_t start, const uint8_t *mem, size_t mem_len, uint8_t *tags, size_t tags_len,
                          uint32_t window_start, uint32_t window_size, const uint8_t *revoked, size_t revoked_len,
                          uint32_t granule);
+
+/* What could ever be reached: the first place, from place `from` on, whose capability reaches into a range. Places 0 to 20 are the
+ * capabilities of regs in their order; place 21 + g is granule g of mem, the 8 bytes from mem[8 * g] on. A capability counts where its
+ * tag is set, sealed or not, where it has all the rights of the mask `rights` (bit k is right k: GL, LG, SD, LM, SL, LD, MC, SR, EX, US,
+ * SE, U0 from bit 0), and where it has a byte in common with [low, low + length), as whole numbers. One with its tag set that has low
+ * above high, or high above 2^32, counts for every range that is not empty, whatever its rights. A length of 0 is an empty range, into
+ * which nothing reaches. Lent are regs, start, mem and tags as for a step; all of them are only read.
+ *
+ * The answer is number * 2^48 + place + 1, or + 0 where there is no such place; oddersnow_number and oddersnow_rest take it apart.
+ * The number is 1, 2, 3 or 4 as for a step, where 2 is of start and mem_len and 3 of tags_len alone, or
+ *
+ *   20  rights has a bit above the twelve rights
+ *   21  from is no place: 21 + mem_len / 8 or more
+ *
+ * and the lowest wins; the rest is 0 then. Where the answer for rights 4, the right to store (SD), from place 0 on is 0, no step, run
+ * or sweep from there, and no number of them one after another, with mem at that start and nothing else written, ever changes a byte of the range.
+ */
+uint64_t oddersnow_reach(const uint32_t *regs, size_t regs_len, uint32_t start,
+                         const uint8_t *mem, size_t mem_len, const uint8_t *tags, size_t tags_len,
+                         uint32_t low, uint32_t length, uint32_t rights, uint32_t from);
 
 /* Map sheets. A sheet is text, a line a region:
  *

@@ -4,12 +4,13 @@
 use std::env;
 use std::path::{absolute, PathBuf};
 
-const LIBRARIES: [&str; 5] = [
+const LIBRARIES: [&str; 6] = [
     "label",
     "call_lists",
     "bench_api",
     "sheet_api",
     "listing_api",
+    "reach",
 ];
 
 fn main() {

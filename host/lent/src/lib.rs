@@ -74,6 +74,19 @@ pub type RunWatched = fn(&mut [u32], Board, &mut [u8], &mut [u8], &[u8], u32, &m
 /// answer.
 pub type Sweep = fn(Board, &[u8], &mut [u8], &[u8], u32) -> u64;
 
+/// What is asked of a search for capabilities: a range of `length` bytes from an address on, its end a whole
+/// number, and the rights, as a mask, that one must have to count.
+#[derive(Clone, Copy, PartialEq, Eq, Debug, Default)]
+pub struct Query {
+    pub low: u32,
+    pub length: u32,
+    pub rights: u32,
+}
+
+/// The search of a state: registers, memory's start, memory, tags, what is asked, and the place to begin
+/// at; its answer.
+pub type Reach = fn(&[u32], u32, &[u8], &[u8], Query, u32) -> u64;
+
 /// Everything that is lent.
 #[derive(Clone, PartialEq, Eq, Debug, Default)]
 pub struct State {
@@ -175,6 +188,11 @@ impl State {
     pub fn sweep(&mut self, sweep: Sweep, granule: u32) -> u64 {
         let board = self.board();
         sweep(board, &self.mem, &mut self.tags, &self.revoked, granule)
+    }
+
+    /// Asks a search for the first place from one on. All is lent to be read.
+    pub fn reach(&self, reach: Reach, query: Query, from: u32) -> u64 {
+        reach(&self.regs, self.start, &self.mem, &self.tags, query, from)
     }
 
     /// What is lent as numbers.

@@ -24,7 +24,7 @@ unsafe extern "C" {
     pub safe fn bounds_high(address: u32, metadata: u32) -> u64;
 }
 
-use lent::{Board, Watch};
+use lent::{Board, Query, Watch};
 
 /// A function of the machine. The step and the run take the same lent buffers, so their arguments stand
 /// here once; the run has its number of steps after them.
@@ -194,6 +194,46 @@ pub fn sweep(board: Board, mem: &[u8], tags: &mut [u8], revoked: &[u8], granule:
             revoked.as_ptr(),
             revoked.len(),
             granule,
+        )
+    }
+}
+
+// SAFETY: declared as in include/oddersnow.h.
+unsafe extern "C" {
+    fn oddersnow_reach(
+        regs: *const u32,
+        regs_len: usize,
+        start: u32,
+        mem: *const u8,
+        mem_len: usize,
+        tags: *const u8,
+        tags_len: usize,
+        low: u32,
+        length: u32,
+        rights: u32,
+        from: u32,
+    ) -> u64;
+}
+
+/// The first place from one on that holds a tagged capability with the rights of the query and a byte in
+/// common with its range: 0 to 20 the capability registers, 21 + g granule g. The answer is number * 2^48 +
+/// place + 1, or + 0 where there is none.
+#[inline]
+pub fn reach(regs: &[u32], start: u32, mem: &[u8], tags: &[u8], query: Query, from: u32) -> u64 {
+    // SAFETY: as for the machine; nothing is written.
+    unsafe {
+        oddersnow_reach(
+            regs.as_ptr(),
+            regs.len(),
+            start,
+            mem.as_ptr(),
+            mem.len(),
+            tags.as_ptr(),
+            tags.len(),
+            query.low,
+            query.length,
+            query.rights,
+            from,
         )
     }
 }
