@@ -30,8 +30,15 @@ pub fn obey(asked: &Asked) -> Result<Status, String> {
         board,
         with: with.collect::<Result<_, String>>()?,
         steps: asked.steps,
+        handover: asked.handover.clone(),
+        nevers: asked.never.clone(),
         pages: asked.report.clone(),
     };
+    let sheet = &shelf.board.sheet;
+    shelf
+        .nevers
+        .iter()
+        .try_for_each(|never| never.check(sheet))?;
     let names = shelf.names()?;
     if names.is_empty() {
         return Err(format!(
