@@ -63,7 +63,7 @@ fn what_is_asked_for_decides_the_status() {
 }
 
 #[test]
-fn the_same_as_json_by_both_engines_and_in_both_editions() {
+fn the_same_as_json() {
     let asked = [&HANDOVER[..], &["--json", "--never", "interlock:w"]].concat();
     let answer = on_small(CARELESS, &asked);
     let value = answer.json();
@@ -102,6 +102,12 @@ fn the_same_as_json_by_both_engines_and_in_both_editions() {
         ),
         (&json!(4), Some(3))
     );
+}
+
+#[test]
+fn both_engines_and_both_editions_say_the_same() {
+    let asked = [&HANDOVER[..], &["--json"]].concat();
+    let value = on_small(CARELESS, &asked).json();
     for more in [["--engine", "plain"], ["--edition", "later"]] {
         let other = on_small(CARELESS, &[&asked[..], &more].concat());
         assert_eq!(other.json(), value, "{more:?}");
@@ -306,7 +312,7 @@ fn a_page_has_a_row_for_each_region_and_the_picture() {
     for text in [
         "interlock may be written, by MTDC [00000000, 100000000).",
         "<td class=\"held\">MTDC</td>",
-        "<td>interlock</td><td class=\"code\">[20000400, 20000480)</td>",
+        "<td class=\"name\">interlock</td><td class=\"code\">[20000400, 20000480)</td>",
         "<svg id=\"map\"",
         "<title>interlock [20000400, 20000480), by MTDC</title>",
         "<text class=\"head\"",

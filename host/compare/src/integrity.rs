@@ -8,10 +8,10 @@ use crate::machines::Machine;
 use crate::random::Random;
 use crate::rows::Table;
 use crate::starts;
-use crate::state::Call;
+use crate::state::{as_second, lend, Call};
 use crate::Mismatch;
 use lent::{Answer, Query, Reach, State, Sweep, GRANULE};
-use second::capability::SD;
+use second::capability::{bounds, is_sealed, move_address, set_bounds, SD};
 
 /// What the runs were like: runs, steps of them, starts with a shut byte, shut bytes and others, those of the others that
 /// changed, tags that were set and cleared elsewhere, passes of the sweeper.
@@ -80,6 +80,24 @@ fn written(shut: &[bool], start: &State, now: &State, swept: bool) -> Option<Str
     None
 }
 
+/// Ends what some registers hold inside a word or a granule, so that a store can lie across the end.
+fn shorten(random: &mut Random, state: &mut State) {
+    for place in 1..16 {
+        let value = as_second(state.capability(place));
+        let (low, high) = bounds(value.address, value.metadata);
+        let length = high.saturating_sub(low.into()) as u32;
+        let open = value.tag == 1 && !is_sealed(value.metadata);
+        if !open || length <= 8 || random.one_in(2) {
+            continue;
+        }
+        let shorter = set_bounds(move_address(value, low), length - 1 - random.below(7));
+        let shorter = move_address(shorter, value.address);
+        if shorter.tag == 1 {
+            state.set(place, lend(shorter));
+        }
+    }
+}
+
 /// How many steps a run makes before each look.
 fn budgets(random: &mut Random) -> [u32; 3] {
     let last = match random.below(512) {
@@ -113,6 +131,7 @@ pub fn search(bench: Bench, table: &Table, seed: u64, cases: u64) -> Result<Tota
     for case in 1..=cases {
         let mut random = Random::new(seed, case);
         starts::make(&mix, &mut random, &mut start);
+        shorten(&mut random, &mut start);
         follow(bench, &start, &mut random, &mut totals).map_err(|text| Mismatch { case, text })?;
     }
     Ok(totals)

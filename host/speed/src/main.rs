@@ -36,6 +36,7 @@ mod programs;
 mod reach;
 mod sheets;
 mod sweep;
+mod turns;
 
 /// Does what the command line asks for, if it asks for something that there is.
 fn asked(arguments: &[&str]) -> Option<()> {

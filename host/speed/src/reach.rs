@@ -1,6 +1,7 @@
 //! The search for capabilities: granules a second of queries over 1 MiB that find nothing, so that every granule is looked
 //! at, by the proved library and by the second program.
 
+use crate::turns;
 use lent::{Capability, Query, Reach, State, GRANULE, MEMORY_ROOT, MOST_MEMORY};
 use std::hint::black_box;
 use std::time::Instant;
@@ -77,18 +78,17 @@ fn measure(reach: Reach, state: &State) -> f64 {
 
 /// Every kind by both, by turns.
 pub fn compare_all() {
-    println!("memory      proved  second  ratio   (millions of granules a second)");
+    println!("{}", turns::HEAD);
     for kind in KINDS {
         let state = memory(kind).unwrap_or_default();
-        let (mut proved, mut second) = (0f64, 0f64);
-        for _ in 0..TRIES {
-            proved = proved.max(measure(proved::reach, &state));
-            second = second.max(measure(second::reach, &state));
-        }
-        println!(
-            "{kind:<10} {proved:>7.1} {second:>7.1} {:>6.2}",
-            proved / second
-        );
+        turns::row(kind, TRIES, |is_proved| {
+            let reach: Reach = if is_proved {
+                proved::reach
+            } else {
+                second::reach
+            };
+            measure(reach, &state)
+        });
     }
 }
 

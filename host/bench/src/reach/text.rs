@@ -7,8 +7,8 @@ use crate::sheet::letters;
 
 /// What stands below the table: which law says what is never written, and what is known of the rest.
 pub const LAWS: [&str; 2] = [
-    "Never written: no step, run or sweep from here changes a byte of it, however many are made (law `reach-none-stays`).",
-    "Never read, never executed: no capability for that is held, and no run gains one (law `authority-claim`); no law of reading stands yet.",
+    "Never written: no step, run or sweep from here changes a byte of it, however many are made (law reach-claim).",
+    "Never read, never executed: no capability for it is held, and no run gains one (law authority-claim); no law of reading stands yet.",
 ];
 
 /// The account: what was asked for first, then the table, the holders and the laws.

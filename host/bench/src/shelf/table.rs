@@ -46,6 +46,16 @@ impl Counted {
         self.good == self.images
     }
 
+    /// Whether all of them are good, in a sentence.
+    fn verdict(&self) -> &'static str {
+        match (self.all_good(), self.judged) {
+            (true, 0) => "Every image fits the board and ran without a trap.",
+            (false, 0) => "Not every image fits the board and ran without a trap.",
+            (true, _) => "Every image fits the board, ran without a trap and keeps to what no run may do.",
+            (false, _) => "Not every image fits the board, ran without a trap and keeps to what no run may do.",
+        }
+    }
+
     /// What is wanted of an image.
     fn wanted(&self) -> &'static str {
         match self.judged {
@@ -192,49 +202,37 @@ fn fill(out: &mut impl Write, template: &str, value: &Value) -> Result<(), Error
     out.write_all(text.as_bytes())
 }
 
+/// A row of that page.
+fn page_row(row: &Row, judged: bool) -> Value {
+    let kind = match row.label {
+        _ if row.run == Ran::Trapped => "trapped",
+        Label::Misfit => "not-fit",
+        _ if row.run == Ran::No => "bad",
+        _ if matches!(row.kept, Some(Kept::Could | Kept::Missed)) => "bad",
+        _ => "quiet",
+    };
+    let steps = row.retired.map_or(String::new(), grouped);
+    json!({
+        "kind": kind, "page": page_name(&row.file), "file": shortened(&row.file), "label": label(row),
+        "end": run(row), "steps": steps, "stack": stack(row), "judged": judged, "may_write": may_write(row), "why": why(row),
+    })
+}
+
 /// The page of all, with a link to each image's own.
 pub fn page(out: &mut impl Write, results: &Results, shelf: &Shelf) -> Result<(), Error> {
     let counted = Counted::of(results);
     let judged = counted.judged > 0;
-    let (kind, head) = match (counted.all_good(), judged) {
-        (true, false) => (
-            "quiet",
-            "Every image fits the board and ran without a trap.",
-        ),
-        (true, true) => (
-            "quiet",
-            "Every image fits the board, ran without a trap and keeps to what no run may do.",
-        ),
-        (false, false) => (
-            "bad",
-            "Not every image fits the board and ran without a trap.",
-        ),
-        (false, true) => (
-            "bad",
-            "Not every image fits the board, ran without a trap and keeps to what no run may do.",
-        ),
-    };
+    let kind = if counted.all_good() { "quiet" } else { "bad" };
     let folder = shortened(&shelf.folder.display().to_string());
     let board = shortened(&shelf.board_name.display().to_string());
     let title = format!("{folder} on {board}");
     let head = json!({
-        "title": title, "kind": kind, "head": head, "summary": counted.said(),
+        "title": title, "kind": kind, "head": counted.verdict(), "summary": counted.said(),
         "judged": judged.then_some(MAY_WRITE),
     });
     fill(out, "shelf_head.html", &head)?;
     for row in results.rows() {
-        let kind = match row.label {
-            _ if row.run == Ran::Trapped => "trapped",
-            Label::Misfit => "not-fit",
-            _ if row.run == Ran::No => "bad",
-            _ if matches!(row.kept, Some(Kept::Could | Kept::Missed)) => "bad",
-            _ => "quiet",
-        };
-        let steps = row.retired.map_or(String::new(), grouped);
-        let value = json!({
-            "kind": kind, "page": page_name(&row.file), "file": shortened(&row.file), "label": label(&row),
-            "end": run(&row), "steps": steps, "stack": stack(&row), "judged": judged, "may_write": may_write(&row), "why": why(&row),
-        });
+        let value = page_row(&row, judged);
         fill(out, "shelf_row.html", &value)?;
     }
     let own = shelf

@@ -128,6 +128,15 @@ const UNASKED: Bench = Bench {
     sweep: second::sweep,
 };
 
+/// The same by what is reached and what is written unasked.
+fn reached(comparison: &str, table: &Table, seed: u64, cases: u64) -> Option<u64> {
+    let found = match comparison {
+        "reach" => reaches::compare(mutants::reach::reach, seed, cases.min(REACH_CASES)).err(),
+        _ => integrity::search(UNASKED, table, seed, cases.min(STARTS)).err(),
+    };
+    found.map(|found| found.case)
+}
+
 /// The case at which a comparison tells the selected machine from the right one.
 fn told_apart(comparison: &str, table: &Table, seed: u64, cases: u64) -> Option<u64> {
     match comparison {
@@ -157,12 +166,7 @@ fn told_apart(comparison: &str, table: &Table, seed: u64, cases: u64) -> Option<
         "engine" => engines::compare(ENGINES, table, seed, cases.min(ENGINE_CASES))
             .err()
             .map(|found| found.case),
-        "reach" => reaches::compare(mutants::reach::reach, seed, cases.min(REACH_CASES))
-            .err()
-            .map(|found| found.case),
-        "integrity" => integrity::search(UNASKED, table, seed, cases.min(STARTS))
-            .err()
-            .map(|found| found.case),
+        "reach" | "integrity" => reached(comparison, table, seed, cases),
         "listing" => listing::compare(LISTER, seed, listing::CASES)
             .err()
             .map(|found| found.case),

@@ -12,7 +12,7 @@ use compare::{conclude, totals};
 use lent::{State, Watch};
 use std::process::ExitCode;
 
-const CASES: u64 = 50_000;
+const CASES: u64 = 30_000;
 
 const PLAIN: Machine = |state, call| call.on(state, proved::step, proved::run);
 

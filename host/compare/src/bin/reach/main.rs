@@ -7,7 +7,7 @@ use compare::reaches::{compare, Totals};
 use compare::{conclude, totals};
 use std::process::ExitCode;
 
-const CASES: u64 = 300_000;
+const CASES: u64 = 200_000;
 
 fn run(options: &Options) -> Result<String, String> {
     let outcome = compare(proved::reach, options.seed, options.cases);
