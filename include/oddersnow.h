@@ -150,7 +150,7 @@ uint64_t oddersnow_sweep(uint32_t start, const uint8_t *mem, size_t mem_len, uin
  *   21  from is no place: 21 + mem_len / 8 or more
  *
  * and the lowest wins; the rest is 0 then. Where the answer for rights 4, the right to store (SD), from place 0 on is 0, no step, run
- * or sweep from there, and no number of them one after another, ever changes a byte of mem in the range.
+ * or sweep from there, and no number of them one after another, with mem at that start and nothing else written, ever changes a byte of the range.
  */
 uint64_t oddersnow_reach(const uint32_t *regs, size_t regs_len, uint32_t start,
                          const uint8_t *mem, size_t mem_len, const uint8_t *tags, size_t tags_len,
