@@ -1,7 +1,7 @@
 #!/usr/bin/env bash
 # The demonstration, as `./bench demo` or, of a package, examples/demo.sh: one image on two boards (examples/interlock.md).
-# Its exit status is 0 if the image's label fits the large board alone, and without the label the image ends on the
-# large board and is stopped on the small one.
+# Its exit status is 0 if the image's label fits the large board alone, without the label the image ends on the
+# large board and is stopped on the small one, and no run writes the table there unless the board's start is careless.
 set -u
 cd "$(dirname "$0")/.." || exit 1
 bench=./bench
@@ -16,6 +16,10 @@ label() { # BOARD: the image's map sheet beside the board's
 }
 board() { # NAME: the image on that board
   show "$bench" run --map "examples/interlock_$1.map" "examples/interlock_$1.hex" examples/interlock_image.hex
+}
+
+never() { # START: whether a run from the handover on could write the small board's table
+  show "$bench" reach --map examples/interlock_small.map --at 0x20000100 --never interlock:w "examples/interlock_$1.hex" examples/interlock_image.hex
 }
 
 cat <<'TEXT'
@@ -47,4 +51,19 @@ TEXT
 board small
 small=$?
 
-[ "$fits" -eq 0 ] && [ "$misfits" -eq 1 ] && [ "$large" -eq 0 ] && [ "$small" -eq 1 ]
+cat <<'TEXT'
+
+That was one run. What the board's own start leaves to the image decides what every run may do: here nothing that
+may store into the table, so that none ever writes it.
+TEXT
+never small | sed -n 1,4p
+careful=${PIPESTATUS[0]}
+
+cat <<'TEXT'
+
+A careless start leaves the root for memory in a special register, and can promise nothing of the table.
+TEXT
+never careless | sed -n 1,4p
+careless=${PIPESTATUS[0]}
+
+[ "$fits" -eq 0 ] && [ "$misfits" -eq 1 ] && [ "$large" -eq 0 ] && [ "$small" -eq 1 ] && [ "$careful" -eq 0 ] && [ "$careless" -eq 1 ]

@@ -5,6 +5,10 @@
 .macro cspecialr cd, scr
   .insn r 0x5b, 0, 0x01, \cd, x0, \scr
 .endm
+# Writes it, from a register that is not x0.
+.macro cspecialw scr, cs1
+  .insn r 0x5b, 0, 0x01, x0, \cs1, \scr
+.endm
 .macro csetboundsexact cd, cs1, rs2
   .insn r 0x5b, 0, 0x09, \cd, \cs1, \rs2
 .endm

@@ -107,7 +107,7 @@ readme_shows() {
     from=$(grep -n -F -x -m 1 -e "$(head -n 1 "$block")" "$work/demo" | cut -d: -f1) && [ -n "$from" ] &&
       tail -n "+$from" "$work/demo" | head -n "$(wc -l <"$block")" | diff - "$block" && echo shown || return 1
   done >"$work/blocks"
-  [ "$(grep -c -x shown "$work/blocks")" -eq 2 ]
+  [ "$(grep -c -x shown "$work/blocks")" -eq 4 ]
 }
 
 # The best of twenty fits of an image of 1 MiB takes less than 10 ms, from the start of the command to its end.
@@ -139,9 +139,9 @@ nothing_added() {
 # A repository of four crates with an rt and a build of our own, which take seconds instead of minutes.
 small_repository() { # FOLDER
   mkdir -p "$1/host/bench/src" "$1/kit" && cp bench "$1" &&
-    printf 'low:\nother:  # nobody leans on it\nlabel: low\nbench_api: low label\nsheet_api: low\nlisting_api: low\n' >"$1/crates.txt"
+    printf 'low:\nother:  # nobody leans on it\nlabel: low\nbench_api: low label\nsheet_api: low\nlisting_api: low\nreach: low\n' >"$1/crates.txt"
   local crate
-  for crate in low label bench_api sheet_api listing_api; do mkdir -p "$1/crates/$crate/src"; done
+  for crate in low label bench_api sheet_api listing_api reach; do mkdir -p "$1/crates/$crate/src"; done
   cat >"$1/kit/rt" <<'RT'
 #!/usr/bin/env bash
 mkdir -p target/log target/staticlib
@@ -178,17 +178,17 @@ says() { # FILE TEXT..: each text stands in the file, one after the other
 progress_shown() {
   small_repository "$work/small" || return 1
   in_small ./bench --missing >"$work/missing"
-  printf 'library label\nlibrary bench_api\nlibrary sheet_api\nlibrary listing_api\ncommand\n' | cmp - "$work/missing" || return 1
+  printf 'library label\nlibrary bench_api\nlibrary sheet_api\nlibrary listing_api\nlibrary reach\ncommand\n' | cmp - "$work/missing" || return 1
   in_small ./bench cut 1 2 >"$work/out" 2>"$work/err" || return 1
   echo "the command cut 1 2" | cmp - "$work/out" &&
-    says "$work/err" "the proofs of 1 crates, libraries label bench_api sheet_api listing_api, the command" \
+    says "$work/err" "the proofs of 1 crates, libraries label bench_api sheet_api listing_api reach, the command" \
       "proved 0 of 1 crates; 0:0" "proved 0 of 1 crates, now low; 0:0" built &&
     in_small ./bench cut 1 2 >"$work/out" 2>&1 && echo "the command cut 1 2" | cmp - "$work/out"
 }
 older_than_sources() { # after progress_shown
   sleep 0.1
   touch "$work/small/crates/low/src/new.rt"
-  [ "$(in_small ./bench --missing | tr '\n' ' ')" = "library label library bench_api library sheet_api library listing_api command " ]
+  [ "$(in_small ./bench --missing | tr '\n' ' ')" = "library label library bench_api library sheet_api library listing_api library reach command " ]
 }
 failure_named() { # after older_than_sources
   VERDICT="NOT PROVED" in_small ./bench cut 1 2 >"$work/out" 2>"$work/err"

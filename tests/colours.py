@@ -25,6 +25,7 @@ PEOPLE = {
     "a good sheet": ["sheet", "check", BOARD],
     "a shelf": SHELF,
     "a listing": ["list", IMAGE],
+    "a reach": ["reach", "--map", BOARD, "--at", "0x20000100", "--never", "interlock:w", START, IMAGE],
     "a refusal": ["run", "--size", "1", IMAGE],
     "a message": ["run", "no-such-file"],
     "a usage": ["run", "--no-such-option"],
@@ -33,6 +34,7 @@ PEOPLE = {
 # What a program reads: never painted.
 PROGRAMS = {
     "JSON of a run": [*RUN, "--json"],
+    "JSON of a reach": ["reach", "--json", "--map", BOARD, START, IMAGE],
     "JSON of a fit": ["fit", "--json", BOARD, "LABELLED"],
     "JSON of a shelf": [*SHELF, "--json"],
     "CSV": [*SHELF, "--csv"],

@@ -4,21 +4,23 @@
 # or lie in the directory that ODDERSNOW_STATICLIB names. What a part wrote is in host/target/compare.
 set -u
 source "$(dirname "$0")/lib/check.sh"
-parts="capability calls machine editions halves listing authority sheets images sweep watch engine"
+parts="capability calls machine editions halves listing authority sheets images sweep watch engine reach integrity"
 out=host/target/compare
 mkdir -p "$out"
 
-library_of() { # PART
+library_of() { # PART: one library, or several
   case $1 in
   capability) echo label ;;
   calls) echo call_lists ;;
   listing) echo listing_api ;;
   sheets | images) echo sheet_api ;;
+  reach) echo reach ;;
+  integrity) echo bench_api reach ;;
   *) echo bench_api ;;
   esac
 }
 compared() { # PART: its library and its program built, and the program run
-  library "$(library_of "$1")" && (cd host && cargo build --offline --release -p compare --bin "$1") && "host/target/release/$1"
+  library $(library_of "$1") && (cd host && cargo build --offline --release -p compare --bin "$1") && "host/target/release/$1"
 }
 
 [ $# -gt 0 ] || set -- $parts

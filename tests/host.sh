@@ -6,6 +6,6 @@ source "$(dirname "$0")/lib/check.sh"
 
 unit_tests() { (cd host && cargo test --offline --release --workspace --exclude lent --exclude second); }
 
-check "the proved libraries" library label call_lists bench_api sheet_api listing_api || exit 1
+check "the proved libraries" library label call_lists bench_api sheet_api listing_api reach || exit 1
 check "unit tests of the packages that link them" unit_tests
 exit $bad

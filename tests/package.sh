@@ -18,7 +18,7 @@ expected_files() {
   printf '/usr/share/man/man1/%s.1.gz\n' bench oddersnow-cut
   printf '/usr/share/%s\n' bash-completion/completions/bench zsh/vendor-completions/_bench fish/vendor_completions.d/bench.fish
   printf '/usr/include/oddersnow.h\n/usr/lib/%s/pkgconfig/oddersnow.pc\n' "$triplet"
-  printf "/usr/lib/$triplet/oddersnow/lib%s.a\n" label call_lists bench_api sheet_api listing_api
+  printf "/usr/lib/$triplet/oddersnow/lib%s.a\n" label call_lists bench_api sheet_api listing_api reach
   printf "/$own/%s\n" README.Debian copyright crates-copyright.gz changelog.gz examples
   printf "/$own/%s.md\n" GUARANTEE TUTORIAL AUTHORITY DEBUGGER LISTING STATE TESTING PROMISES DECISIONS
   git ls-files examples | sed "s,^,/$shared/,"

@@ -17,7 +17,7 @@ small_page() {
 says_the_report() { # after small_page
   mapfile -t lines < <(sed 's/^ *register *address .*//; s/^Trap: //' "$work/small.txt" | grep -v 'memory there' | sed '/^ *$/d')
   [ "${#lines[@]}" -gt 30 ] && page says "$work/small.html" "${lines[@]}" "asked, store [20000478, 20000480)" "bounds of c2 [20000480, 20000800)" \
-    "used [20000490, 20000800), 880 of 896 bytes" "loaded [20000100, 2000014c)" "The last 24 of 365 steps" "interlock [20000400, 20000480) rw" \
+    "used [20000490, 20000800), 880 of 896 bytes" "loaded [20000100, 2000014c)" "The last 24 of 376 steps" "interlock [20000400, 20000480) rw" \
     "stack 196 [20000490, 20000800) 28 0" "$(sha256sum <examples/interlock_image.hex | cut -d' ' -f1)"
 }
 
@@ -79,6 +79,17 @@ places() {
   [ $? -eq 3 ] && grep -q 'saved there' "$work/err" && [ ! -e "$work/x" ]
 }
 
+# The matrix of what may be done says what the table does, and the region at fault is drawn.
+reach_page() {
+  local asked=(reach --map examples/interlock_small.map --at 0x20000100 --never interlock:w examples/interlock_careless.hex examples/interlock_image.hex)
+  "$bench" "${asked[@]}" --report "$work/reach.html" >"$work/reach.txt"
+  [ $? -eq 1 ] && page alone "$work/reach.html" || return 1
+  mapfile -t lines < <(sed 's/^ *region .*//; s/  *$//' "$work/reach.txt" | sed '/^$/d')
+  [ "${#lines[@]}" -gt 12 ] && page says "$work/reach.html" "${lines[@]}" "executed" "ReachPromise" "interlock [20000400, 20000480), by MTDC" || return 1
+  "$bench" "${asked[@]}" --json --report "$work/again.html" >"$work/json"
+  [ $? -eq 1 ] && cmp "$work/reach.html" "$work/again.html"
+}
+
 # Files and functions with hostile names: the page has the elements of one with plain names, and shows the names written out.
 hostile=('<script>alert(1)</script>' '"><img src=x onerror=alert(1)>' "'\"&amp;&lt;" $'new\nline\ttab\x1b[31m\x7f'
   $'\u202egnp.exe\u2066\u200b' '</title></style></pre>' '{{ title }}{% raw %}' "$(printf 'long%.0s' {1..60})" $'\xff\xfe' '-->' ']]>' 'javascript:alert(1)')
@@ -102,10 +113,11 @@ long_name() {
   page same "$work/plain.html" "$work/long.html" && page says "$work/long.html" "(99880 letters more)" && [ "$(wc -c <"$work/long.html")" -lt 60000 ]
 }
 
-# What the page calls proved is there: each name is declared in the crates' definitions or proofs; a mere use is not enough.
+# What the pages and the words below a table call proved is there: each name is declared in the crates' definitions or proofs; a mere use is not enough.
 named_facts() {
   local name
-  grep -o '<code>[^<]*</code>' host/bench/src/page/proved.html | sed 's/<[^>]*>//g' | sort -u >"$work/facts"
+  { grep -o '<code>[^<]*</code>' host/bench/src/page/proved.html | sed 's/<[^>]*>//g'
+    grep -o '(law [^)]*)' host/bench/src/reach/text.rs | tr -d '()' | cut -d ' ' -f 2; } | sort -u >"$work/facts"
   [ "$(wc -l <"$work/facts")" -ge 10 ] || return 1
   while read -r name; do
     grep -rqE --include='*.antt' "(^|[ ;])pub (record )?$name( |\$)" crates || { echo "no $name in crates"; return 1; }
@@ -133,7 +145,9 @@ browser_picture() {
   browser --window-size=1000,1200 --screenshot="$work/small.png" "file://$work/small.html" && quiet &&
     page pixels "$work/small.png" dfe7f1 10000 cfe3d4 500 e9d9a8 1000 6b4b8a 1000 e2efe5 1000 c22a2a 1000 ffffff 100000 &&
     browser --window-size=1000,1200 --screenshot="$work/misfit.png" "file://$work/misfit.html" &&
-    page pixels "$work/misfit.png" f6d5d5 5000 dfe7f1 1000
+    page pixels "$work/misfit.png" f6d5d5 5000 dfe7f1 1000 &&
+    browser --window-size=1000,1200 --screenshot="$work/reach.png" "file://$work/reach.html" && quiet &&
+    page pixels "$work/reach.png" f6d5d5 5000 dfe7f1 5000 cfe3d4 5000
 }
 browser_catches() { # a page that is not as it should be is seen
   sed 's/<h1>/<h1><script>console.error("seen")<\/script>/; s/<meta http-equiv[^>]*>//' "$work/small.html" >"$work/wrong.html"
@@ -147,7 +161,7 @@ paper() {
     [ "$(pdfinfo "$work/small.pdf" | sed -n 's/^Pages: *//p')" -le 6 ] || return 1
   local text
   for text in "store outside the bounds of c2" "[20000480, 20000800), 896 bytes of c2; the request starts 8 bytes below them" \
-    "365  2000010c  fe113c23  csc 2 1 -8" "MScratchC" "RunPromise" "stack [20000480, 20000800) rw"; do
+    "376  2000010c  fe113c23  csc 2 1 -8" "MScratchC" "RunPromise" "stack [20000480, 20000800) rw"; do
     grep -qF "$(tr -d '[:space:]' <<<"$text")" "$work/small.paper" || { echo "no '$text' on paper"; return 1; }
   done
 }
@@ -158,6 +172,7 @@ check "the page has the trace's last steps and the bytes that differ" says_the_t
 check "the page is the same beside JSON" same_with_json
 check "the page of a run that ends" large_page
 check "the page of an image that does not fit" misfit_page
+check "the page of what any run may do" reach_page
 check "a page is written over no file that is read" places
 check "hostile names change nothing on a page" hostile_names
 check "a very long name is cut on a page" long_name

@@ -72,7 +72,7 @@ broken_files() {
     head -c 150 examples/interlock_image.img >"$folder/short.img"
   shelf "$folder" --report "$work/broken.pages" >"$work/broken.txt" 2>"$work/err"
   [ $? -eq 1 ] && [ ! -s "$work/err" ] && [ "$(wc -l <"$work/broken.txt")" -eq 12 ] || return 1
-  grep -q '^good.img  *fits  *ended  *676  *1,296 of 7,040$' "$work/broken.txt" &&
+  grep -q '^good.img  *fits  *ended  *687  *1,296 of 7,040$' "$work/broken.txt" &&
     grep -q '^link  *bad  *not run  *there is no such file or folder' "$work/broken.txt" &&
     grep -qF '\xff ' "$work/broken.txt" && grep -qF 'new\nline\u{1b}[31m\u{202e} ' "$work/broken.txt" && ! grep -q $'\x1b' "$work/broken.txt" &&
     page alone "$work"/broken.pages/*.html && [ "$(page links "$work/broken.pages/index.html")" = 9 ]

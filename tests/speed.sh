@@ -31,7 +31,7 @@ at_least() { # MB: every rate of the proved library in the table of sheets, of w
   awk -v least="$1" 'NR > 1 && $3 >= least { good++ } END { exit !(NR == 7 && good == 6) }' "$work/rates"
 }
 
-check "the proved libraries" library bench_api label sheet_api listing_api
+check "the proved libraries" library bench_api label sheet_api listing_api reach
 check "the speed program builds" build
 check "valgrind is here" need valgrind
 
@@ -115,6 +115,13 @@ swept_at() { # MILLIONS: granules a second of the proved sweeper where nothing i
   awk -v least="$1" '$1 == "untagged" && $2 >= least { good = 1 } END { exit !good }' "$work/sweeps"
 }
 log=$work/table check "1 MiB without a tag is swept at 20 million granules a second" swept_at 20
+cat "$work/table"
+
+searched_at() { # MILLIONS MILLIONS: granules a second of the proved search where nothing is tagged, and where everything is
+  host/target/release/speed reach | tee "$work/searches"
+  awk -v none="$1" -v all="$2" 'NR > 1 && $2 >= ($1 == "untagged" ? none : all) { good++ } END { exit !(NR == 4 && good == 3) }' "$work/searches"
+}
+log=$work/table check "1 MiB is searched at 100 million granules a second without a tag, at 20 million with every tag set" searched_at 100 20
 cat "$work/table"
 
 # So many instructions for a byte are 20 million bytes a second on a core that does six thousand million in that time;

@@ -5,6 +5,7 @@ use crate::edition::Edition;
 use crate::image::Format;
 use crate::probe::fetch;
 use crate::proved::engine::Engine;
+use crate::reach::Never;
 use clap::{ArgAction, Args, CommandFactory, Parser, Subcommand};
 use std::ops::Deref;
 use std::path::PathBuf;
@@ -15,8 +16,8 @@ const MOST_LAST: u64 = 1_000_000;
 /// The bench: runs an image on the proved CHERIoT machine and shows what happened.
 ///
 /// Numbers are decimal, or hexadecimal after 0x. The exit status is 0 if a run had no trap, 1 if it
-/// trapped, if two map sheets differ, if no image fits or if not every image of a shelf fits and runs
-/// without a trap, 2 if the machine, the cutter, the lister or the
+/// trapped, if two map sheets differ, if no image fits, if a run could do what it never may or if not every
+/// image of a shelf fits and runs without a trap, 2 if the machine, the cutter, the lister or the
 /// assembler refused, an image does not fit the board that it is to run on, or a sheet that was to be
 /// judged is bad, and 3 for bad usage or a bad file.
 #[derive(Parser)]
@@ -35,6 +36,8 @@ pub enum Command {
     Run(Run),
     /// Holds images, or a saved state, for a debugger
     Gdb(Gdb),
+    /// Says which regions of a board any run from a handover on may write, read and execute, and by what
+    Reach(Reach),
     /// Shows a saved state or a register dump: its last trap and its registers
     Explain(Explain),
     /// Sweeps a saved state's memory: takes the tags of revoked capabilities, and shows which
@@ -171,6 +174,29 @@ pub struct Gdb {
 }
 
 #[derive(Args)]
+pub struct Reach {
+    #[command(flatten)]
+    pub from: Start,
+    /// The handover, a number or a symbol of an image: PCC's address from which on runs are judged [default:
+    /// the start]
+    #[arg(long, value_name = "WHERE")]
+    pub at: Option<String>,
+    /// The most steps to the handover
+    #[arg(long, value_parser = number, default_value = "1000000")]
+    pub steps: u64,
+    /// What no run may do, as interlock:w, with a region's name or holes, and the letters r, w and x; may be
+    /// given more than once
+    #[arg(long, value_name = "REGION:RIGHTS", value_parser = Never::read)]
+    pub never: Vec<Never>,
+    /// Write the result as JSON
+    #[arg(long)]
+    pub json: bool,
+    /// Where to write the result as a page, one HTML file that loads nothing
+    #[arg(long, value_name = "FILE")]
+    pub report: Option<PathBuf>,
+}
+
+#[derive(Args)]
 pub struct Explain {
     /// The saved state, or a register dump: text with a line for each register (docs/STATE.md)
     pub state: PathBuf,
@@ -297,6 +323,13 @@ pub struct Shelf {
     /// The engine that makes the steps; both give the same answers
     #[arg(long, value_enum, default_value_t)]
     pub engine: Engine,
+    /// The handover, a number or a symbol of an image: what any run from there on may write is told of each image
+    #[arg(long, value_name = "WHERE")]
+    pub handover: Option<String>,
+    /// What no run from the handover on may do, as interlock:w, with a region's name or holes, and the letters r, w
+    /// and x; may be given more than once
+    #[arg(long, value_name = "REGION:RIGHTS", value_parser = Never::read, requires = "handover")]
+    pub never: Vec<Never>,
     /// How many images are looked at at a time [default: as many as there are cores]
     #[arg(long, value_parser = not_zero)]
     pub jobs: Option<u64>,
@@ -341,7 +374,10 @@ pub enum Shell {
 
 /// The command line as it is read. A value may begin with a dash, so that a number below zero is told as one.
 pub fn command() -> clap::Command {
-    dashes(Arguments::command())
+    let command = Arguments::command();
+    // What a run can do without, this cannot.
+    let mapped = |command: clap::Command| command.mut_arg("map", |map| map.required(true));
+    dashes(command.mut_subcommand("reach", mapped))
 }
 
 fn dashes(command: clap::Command) -> clap::Command {

@@ -9,6 +9,15 @@ const RIGHTS: [&str; 12] = [
     "GL", "LG", "SD", "LM", "SL", "LD", "MC", "SR", "EX", "US", "SE", "U0",
 ];
 
+/// All of them, as a mask: no capability has them at once.
+pub const ALL_RIGHTS: u32 = (1 << RIGHTS.len()) - 1;
+
+/// The mask of a right by its name; of no right for what is none.
+pub fn right(name: &str) -> u32 {
+    let place = RIGHTS.iter().position(|right| *right == name);
+    place.map_or(0, |place| 1 << place)
+}
+
 /// The names of the rights that a metadata word holds.
 pub fn rights(metadata: u32) -> Vec<&'static str> {
     let held = value::rights(metadata);

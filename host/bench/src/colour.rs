@@ -89,12 +89,13 @@ fn painted(line: &str) -> String {
 }
 
 /// How lines that stand out as a whole begin.
-const HEADS: [(&str, &str); 6] = [
+const HEADS: [(&str, &str); 7] = [
     ("Trap: ", BAD),
     ("The program has gone on", CHANGED),
     ("Neither image fits ", BAD),
     ("  register ", HEAD),
     ("  granule ", HEAD),
+    ("  region  ", HEAD),
     ("image  ", HEAD),
 ];
 
@@ -106,10 +107,15 @@ const ENDS: [(&str, &str); 3] = [
 ];
 
 /// What stands out in a line, for itself.
-const WORDS: [(&str, &str); 6] = [
+const WORDS: [(&str, &str); 11] = [
     ("does not fit", BAD),
     ("  trapped  ", BAD),
     (" fits ", GOOD),
+    (" is never ", GOOD),
+    ("no hole is ever ", GOOD),
+    (" may be written, by ", BAD),
+    (" may be read, by ", BAD),
+    (" may be executed, by ", BAD),
     ("a good sheet", GOOD),
     ("have the same regions", GOOD),
     ("bench: ", HEAD),

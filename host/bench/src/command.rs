@@ -4,8 +4,9 @@ mod explain;
 pub mod fit;
 mod gdb;
 mod listing;
-mod look;
+pub mod look;
 mod papers;
+mod reach;
 pub mod run;
 pub mod sheet;
 mod shelf;
@@ -30,6 +31,7 @@ pub fn obey(command: Command) -> Result<Status, String> {
     match command {
         Command::Run(run) => run::run(run),
         Command::Gdb(asked) => gdb::obey(asked),
+        Command::Reach(asked) => reach::obey(asked),
         Command::Explain(asked) => explain::obey(&asked),
         Command::Sweep(asked) => sweep::obey(&asked),
         Command::Cut(cut) => cut_shown(&cut),
@@ -49,6 +51,7 @@ fn engine_of(command: &Command) -> Engine {
     match command {
         Command::Run(run) => run.engine,
         Command::Gdb(asked) => asked.from.engine,
+        Command::Reach(asked) => asked.from.engine,
         Command::Shelf(asked) => asked.engine,
         _ => Engine::default(),
     }

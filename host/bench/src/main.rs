@@ -15,6 +15,7 @@ mod edition;
 mod file;
 mod gdb;
 mod halt;
+mod handover;
 mod image;
 mod json;
 mod last;
@@ -26,6 +27,7 @@ mod names;
 mod page;
 mod probe;
 mod proved;
+mod reach;
 mod recent;
 mod report;
 mod request;
@@ -57,6 +59,8 @@ pub enum Status {
     Differ,
     /// No image fits the board.
     NoFit,
+    /// A run could do what it never may.
+    Could,
     Refused,
     Bad,
 }
@@ -66,7 +70,7 @@ impl Status {
     fn code(self) -> u8 {
         match self {
             Status::Ran => 0,
-            Status::Trapped | Status::Differ | Status::NoFit => 1,
+            Status::Trapped | Status::Differ | Status::NoFit | Status::Could => 1,
             Status::Refused => 2,
             Status::Bad => 3,
         }

@@ -17,6 +17,10 @@ const IMAGE: (f64, f64) = (427.0, 60.0);
 const STACK: (f64, f64) = (495.0, 46.0);
 const CHANGED: (f64, f64) = (549.0, 62.0);
 const TRAP: (f64, f64) = (619.0, 46.0);
+const READ: (f64, f64) = (495.0, 60.0);
+const EXECUTED: (f64, f64) = (563.0, 60.0);
+/// Around columns that are drawn without labels.
+const MARGIN: f64 = 12.0;
 const WIDTH: f64 = 1060.0;
 /// From a column at either side to the labels beside it.
 const LEAD: f64 = 34.0;
@@ -59,8 +63,47 @@ pub struct Map {
     pub changed: Vec<u64>,
     pub row: u64,
     pub trap: Vec<Shape>,
-    /// Whether there was a run, so that its columns are drawn.
-    pub ran: bool,
+    pub kind: Kind,
+}
+
+/// What the columns beside the board's are for: of an image that was judged its parts, of a run also the stack, what changed
+/// and the trap; or in the places of parts, stack and trap what may be written, read and executed.
+#[derive(Clone, Copy, Default, PartialEq, Eq, Debug)]
+pub enum Kind {
+    #[default]
+    Judged,
+    Ran,
+    Reach,
+}
+
+impl Kind {
+    /// The columns of parts, stack and trap.
+    fn lanes(self) -> [(f64, f64); 3] {
+        match self {
+            Kind::Judged | Kind::Ran => [IMAGE, STACK, TRAP],
+            Kind::Reach => [IMAGE, READ, EXECUTED],
+        }
+    }
+
+    /// The columns that are drawn, with what stands above each.
+    fn heads(self) -> &'static [((f64, f64), &'static str)] {
+        match self {
+            Kind::Judged => &[(BOARD, "board"), (IMAGE, "image")],
+            Kind::Ran => &[
+                (BOARD, "board"),
+                (IMAGE, "image"),
+                (STACK, "stack"),
+                (CHANGED, "changed"),
+                (TRAP, "trap"),
+            ],
+            Kind::Reach => &[
+                (BOARD, "board"),
+                (IMAGE, "written"),
+                (READ, "read"),
+                (EXECUTED, "executed"),
+            ],
+        }
+    }
 }
 
 impl Map {
@@ -138,12 +181,9 @@ impl Map {
 
     /// What is written at the right: of the image, the stack and the trap, as far as it is drawn.
     fn right(&self) -> Vec<(&Shape, f64)> {
-        let columns = [
-            (&self.image, IMAGE),
-            (&self.stack, STACK),
-            (&self.trap, TRAP),
-        ];
-        let beside = columns.into_iter().flat_map(|(shapes, (x, width))| {
+        let columns = [&self.image, &self.stack, &self.trap];
+        let columns = columns.into_iter().zip(self.kind.lanes());
+        let beside = columns.flat_map(|(shapes, (x, width))| {
             let drawn = shapes
                 .iter()
                 .filter(move |shape| self.drawn(shape, (x, width)).is_some());
@@ -152,20 +192,27 @@ impl Map {
         beside.collect()
     }
 
+    /// The picture without labels, for a place beside a table that has them.
+    pub fn narrow(&self) -> Value {
+        let heads = self.kind.heads();
+        let left = BOARD.0 - MARGIN;
+        let right = heads.last().map_or(BOARD, |(lane, _)| *lane);
+        let mut value = self.value();
+        value["x"] = number(left).into();
+        value["width"] = number(right.0 + right.1 + MARGIN - left).into();
+        value["left"] = json!([]);
+        value["right"] = json!([]);
+        value
+    }
+
     /// The numbers of the picture.
     pub fn value(&self) -> Value {
         let left = self.board.iter();
         let left = left.filter(|shape| self.drawn(shape, BOARD).is_some());
         let left: Vec<(&Shape, f64)> = left.map(|shape| (shape, BOARD.0)).collect();
         let height = self.height();
-        let named = [
-            (BOARD, "board"),
-            (IMAGE, "image"),
-            (STACK, "stack"),
-            (CHANGED, "changed"),
-            (TRAP, "trap"),
-        ];
-        let shown = &named[..if self.ran { named.len() } else { 2 }];
+        let shown = self.kind.heads();
+        let [image, stack, trap] = self.kind.lanes();
         let heads = shown
             .iter()
             .map(|((x, width), text)| json!({ "x": number(x + width / 2.0), "text": text }));
@@ -173,12 +220,12 @@ impl Map {
         let lanes =
             lanes.map(|((x, width), _)| json!({ "x": number(*x), "width": number(*width) }));
         json!({
-            "width": number(WIDTH), "height": number(TOP + height + 24.0), "span": number(height),
+            "x": number(0.0), "width": number(WIDTH), "height": number(TOP + height + 24.0), "span": number(height),
             "top": number(TOP), "bottom": number(TOP + height), "foot": number(TOP + height + 16.0),
             "middle": number(BOARD.0 + BOARD.1 / 2.0), "low": format!("{:08x}", self.low), "high": format!("{:08x}", self.high),
             "groups": [
-                self.column(&self.board, BOARD), self.column(&self.image, IMAGE), self.column(&self.stack, STACK),
-                self.changes(), self.column(&self.trap, TRAP),
+                self.column(&self.board, BOARD), self.column(&self.image, image), self.column(&self.stack, stack),
+                self.changes(), self.column(&self.trap, trap),
             ],
             "left": self.labels(&left, BOARD.0 - LEAD),
             "right": self.labels(&self.right(), TRAP.0 + TRAP.1 + LEAD),

@@ -7,7 +7,7 @@ use crate::changes::{self, Stretch};
 use crate::command::fit::Beside;
 use crate::drive::End;
 use crate::image::Segment;
-use crate::map::{Map, Shape, Strip};
+use crate::map::{Kind, Map, Shape, Strip};
 use crate::names::{Name, Names};
 use crate::proved::sheets::Record;
 use crate::proved::word_length;
@@ -33,7 +33,7 @@ const MOST_NAMES: usize = 16;
 /// How many times the board's size the picture goes past the board.
 const FAR: u64 = 4;
 
-const TEMPLATES: [(&str, &str); 10] = [
+const TEMPLATES: [(&str, &str); 11] = [
     ("head.html", include_str!("page/head.html")),
     ("foot.html", include_str!("page/foot.html")),
     ("page.html", include_str!("page/page.html")),
@@ -41,6 +41,7 @@ const TEMPLATES: [(&str, &str); 10] = [
     ("map.html", include_str!("page/map.html")),
     ("strip.html", include_str!("page/strip.html")),
     ("proved.html", include_str!("page/proved.html")),
+    ("reach.html", include_str!("page/reach.html")),
     ("shelf_head.html", include_str!("page/shelf_head.html")),
     ("shelf_row.html", include_str!("page/shelf_row.html")),
     ("shelf_foot.html", include_str!("page/shelf_foot.html")),
@@ -114,26 +115,10 @@ pub enum Answer<'a> {
 
 /// The page.
 pub fn of(subject: &Subject, answer: &Answer) -> Result<String, String> {
-    let names: Vec<String> = subject
-        .files
-        .iter()
-        .map(|file| shortened(&file.name))
-        .collect();
-    let board = subject.board.as_ref().map(|(board, _)| board);
-    let on = board.map_or(String::new(), |board| {
-        format!(" on {}", shortened(&board.name))
-    });
-    let mut value = json!({
-        "title": format!("{}{on}", names.join(", ")),
-        "version": env!("CARGO_PKG_VERSION"),
-        "verdict": verdict(answer),
-        "files": subject.files.iter().chain(board).map(Source::value).collect::<Vec<Value>>(),
-        "board": subject.board.is_some(),
-        "fits": subject.fits.iter().map(fit).collect::<Vec<Value>>(),
-        "map": map(subject, answer),
-        "ran": matches!(answer, Answer::Ran { .. }),
-        "swept": false, "watched": false, "trap": null, "last": null, "changes": null, "registers": null, "control": null,
-    });
+    let mut value = about(subject);
+    value["verdict"] = verdict(answer);
+    value["map"] = map(subject, answer);
+    value["ran"] = matches!(answer, Answer::Ran { .. }).into();
     if let Answer::Ran {
         account,
         before,
@@ -153,6 +138,28 @@ pub fn of(subject: &Subject, answer: &Answer) -> Result<String, String> {
         value["control"] = report::control_lines(account.state).into();
     }
     filled("page.html", &value)
+}
+
+/// What every page has: what it is about, and nothing yet of what came of it.
+pub fn about(subject: &Subject) -> Value {
+    let names: Vec<String> = subject
+        .files
+        .iter()
+        .map(|file| shortened(&file.name))
+        .collect();
+    let board = subject.board.as_ref().map(|(board, _)| board);
+    let on = board.map_or(String::new(), |board| {
+        format!(" on {}", shortened(&board.name))
+    });
+    json!({
+        "title": format!("{}{on}", names.join(", ")),
+        "version": env!("CARGO_PKG_VERSION"),
+        "files": subject.files.iter().chain(board).map(Source::value).collect::<Vec<Value>>(),
+        "board": subject.board.is_some(),
+        "fits": subject.fits.iter().map(fit).collect::<Vec<Value>>(),
+        "ran": false, "reach": false, "swept": false, "watched": false,
+        "trap": null, "last": null, "changes": null, "registers": null, "control": null,
+    })
 }
 
 /// The answer in a sentence, and what belongs to it.
@@ -286,7 +293,7 @@ fn map(subject: &Subject, answer: &Answer) -> Value {
         account, before, ..
     } = answer
     {
-        map.ran = true;
+        map.kind = Kind::Ran;
         map.stack = stack(account);
         map.changed = changes::rows(before, account.state, map.row);
         map.trap = account.trap.as_ref().map_or(Vec::new(), trap_shapes);

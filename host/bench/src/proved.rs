@@ -1,5 +1,5 @@
-//! The proved libraries: the machine's run and the sweeper (libbench_api.a), the cut and the bounds lookup
-//! (liblabel.a), map sheets (libsheet_api.a), the lister and the assembler (liblisting_api.a).
+//! The proved libraries: the machine's run and the sweeper (libbench_api.a), the search for capabilities (libreach.a),
+//! the cut and the bounds lookup (liblabel.a), map sheets (libsheet_api.a), the lister and the assembler (liblisting_api.a).
 //! Everything that the command says about the machine, about bounds, of an instruction or about
 //! whether a sheet is good comes through here.
 
@@ -9,7 +9,7 @@ pub mod sheets;
 pub use ::proved::{assemble, list, Refused};
 
 use ::proved::{bounds_high, bounds_low, cut_exact, cut_high, cut_low, cut_number};
-use lent::{number_and_rest, Answer, Capability, State, Watch};
+use lent::{number_and_rest, Answer, Capability, Query, State, Watch};
 use std::ops::{AddAssign, Sub};
 
 /// The most steps that one call runs (document 01, refusal 5).
@@ -73,6 +73,8 @@ impl Refusal {
             7 => "the edition is neither 0, the report, nor 1, the later one",
             8 => "a tagged register has low above high, or high above 2^32",
             9 => "no granule of memory has the number",
+            20 => "the mask has a bit above the twelve rights",
+            21 => "neither a register nor a granule of memory has the number",
             _ => "a number that document 01 does not have",
         }
     }
@@ -102,6 +104,16 @@ pub fn sweep(state: &mut State, granule: u32) -> Result<Option<u32>, Refusal> {
     match (number, rest >> 32) {
         (0, 0) => Ok(Some(rest as u32)),
         (0, _) => Ok(None),
+        _ => Err(Refusal(number)),
+    }
+}
+
+/// The first place from one on, of the registers and then of memory's granules, that a query finds.
+pub fn reach(state: &State, query: Query, from: u32) -> Result<Option<u32>, Refusal> {
+    let (number, rest) = number_and_rest(state.reach(::proved::reach, query, from));
+    match (number, rest) {
+        (0, 0) => Ok(None),
+        (0, found) => Ok(Some((found - 1) as u32)),
         _ => Err(Refusal(number)),
     }
 }

@@ -14,6 +14,7 @@ pub use work::{work, Done};
 use crate::command::fit::Board;
 use crate::file;
 use crate::page::digest;
+use crate::reach::Never;
 use std::ffi::{OsStr, OsString};
 use std::fs;
 use std::path::{Path, PathBuf};
@@ -26,6 +27,9 @@ pub struct Shelf {
     /// The board's own files, with their bytes.
     pub with: Vec<(PathBuf, Vec<u8>)>,
     pub steps: u64,
+    /// From where on every run is judged, and what none of them may do.
+    pub handover: Option<String>,
+    pub nevers: Vec<Never>,
     /// Where pages go.
     pub pages: Option<PathBuf>,
 }
@@ -64,6 +68,7 @@ impl Shelf {
             self.board_name,
             digest(&self.board.bytes)
         ));
+        parts.push(format!("{:?} {:?}", self.handover, self.nevers));
         for (path, bytes) in &self.with {
             parts.push(format!("{path:?} {}", digest(bytes)));
         }

@@ -37,7 +37,7 @@ pub fn tags(state: &State) -> u64 {
 }
 
 /// The tagged capability of a granule.
-fn held(state: &State, granule: u32) -> Option<Went> {
+pub fn held(state: &State, granule: u32) -> Option<Went> {
     let offset = u32::try_from(u64::from(granule) * GRANULE as u64).ok()?;
     let address = state.start.checked_add(offset)?;
     state.tagged(address.into()).then_some(())?;

@@ -24,7 +24,7 @@ fn the_same_as_json() {
     assert_eq!(value["end"], "trap");
     let last = &value["last"];
     assert_eq!(last[0]["instruction"], "cjal 1 -44");
-    assert_eq!(last[1]["number"], 365);
+    assert_eq!(last[1]["number"], 376);
     assert_eq!(last[1]["trap"], "store outside the bounds of c2");
     assert_eq!(last[2], json!(null));
     let rows = value["cover"]["rows"].as_array().expect("rows");
@@ -57,7 +57,7 @@ fn a_run_goes_on_from_a_breakpoint_to_the_next_and_leaves_what_one_run_leaves() 
     assert!(
         first
             .out
-            .starts_with("28 steps retired, 0 trapped. Stopped before the step at 2000010c.\n"),
+            .starts_with("39 steps retired, 0 trapped. Stopped before the step at 2000010c.\n"),
         "{}",
         first.out
     );
@@ -71,13 +71,13 @@ fn a_run_goes_on_from_a_breakpoint_to_the_next_and_leaves_what_one_run_leaves() 
         "--break",
         "0x2000010c",
     ];
-    let mut retired = 28;
+    let mut retired = 39;
     let mut value = json!({ "end": "break" });
     while value["end"] == "break" {
         value = bench_in(&folder, &again).json();
         retired += value["retired"].as_u64().expect("a count");
     }
-    assert_eq!((value["end"].as_str(), retired), (Some("trap"), 364));
+    assert_eq!((value["end"].as_str(), retired), (Some("trap"), 375));
     let whole = small(&["--json"]).json();
     assert_eq!(value["state"], whole["state"]);
 }

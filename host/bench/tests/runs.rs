@@ -33,7 +33,7 @@ fn the_demonstration_as_json() {
     assert_eq!(answer.status, 1);
     assert_eq!(
         (&value["retired"], &value["trapped"]),
-        (&json!(364), &json!(1))
+        (&json!(375), &json!(1))
     );
     assert_eq!(value["end"], "trap");
     let trap = &value["trap"];
@@ -75,7 +75,7 @@ fn a_run_in_two_parts_leaves_the_state_of_one_run() {
     let path = |name: &str| directory.join(name).display().to_string();
     let (whole, part, end) = (path("whole"), path("part"), path("end"));
     bench_in(&examples(), &[&SMALL[..], &["--save", &whole]].concat());
-    for steps in ["0", "1", "100", "364"] {
+    for steps in ["0", "1", "100", "375"] {
         let first = [&SMALL[..], &["--steps", steps, "--save", &part]].concat();
         assert_eq!(bench_in(&examples(), &first).status, 0);
         let rest = bench_in(&examples(), &["run", "--state", &part, "--save", &end]);

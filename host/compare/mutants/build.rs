@@ -7,7 +7,7 @@ use std::fmt::Write;
 use std::path::{Path, PathBuf};
 use std::{env, fs};
 
-const SOURCES: [&str; 11] = [
+const SOURCES: [&str; 12] = [
     "calls",
     "capability",
     "compressed",
@@ -16,6 +16,7 @@ const SOURCES: [&str; 11] = [
     "fit",
     "listing",
     "machine",
+    "reach",
     "sheet",
     "sweep",
     "text",

@@ -14,6 +14,7 @@ pub mod encoding;
 pub mod fit;
 pub mod listing;
 pub mod machine;
+pub mod reach;
 pub mod sheet;
 pub mod sweep;
 pub mod text;
@@ -22,6 +23,7 @@ pub use calls::calls;
 pub use capability::{bounds, cut, Capability, Cut};
 pub use listing::{assemble, list};
 pub use machine::{run, run_watched, step};
+pub use reach::reach;
 pub use sweep::sweep;
 pub use text::cutting_program;
 

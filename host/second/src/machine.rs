@@ -163,7 +163,7 @@ fn integer(value: u32) -> Capability {
 
 /// Whether a tagged capability has low at most high at most 2^32; of an untagged one nothing is asked
 /// (document 02, 13).
-fn is_sound(value: Capability) -> bool {
+pub(crate) fn is_sound(value: Capability) -> bool {
     let (low, high) = bounds(value.address, value.metadata);
     value.tag == 0 || (u64::from(low) <= high && high <= capability::SPACE)
 }
@@ -220,7 +220,7 @@ pub(crate) fn window_allowed(start: u32, size: u32, memory: usize) -> bool {
 }
 
 /// Whether every tag word is 0 or 1 and c0 is all zero.
-fn words_allowed(words: &[u32; WORDS]) -> bool {
+pub(crate) fn words_allowed(words: &[u32; WORDS]) -> bool {
     let tags_allowed = (0..CAPABILITIES).all(|place| words[3 * place + 2] <= 1);
     tags_allowed && words[..3] == [0, 0, 0]
 }

@@ -8,7 +8,7 @@ use crate::capability::{load_filter, Capability};
 use crate::machine::{bit, memory_allowed, window_allowed};
 use lent::Board;
 
-const GRANULE_BYTES: usize = 8;
+pub(crate) const GRANULE_BYTES: usize = 8;
 
 /// Says that the granule was the last one.
 const LAST: u64 = 1 << 32;
@@ -31,7 +31,7 @@ fn loses_tag(value: Capability, board: Board, revoked: &[u8]) -> bool {
 }
 
 /// The tagged capability of eight bytes of memory.
-fn stored(bytes: &[u8; GRANULE_BYTES]) -> Capability {
+pub(crate) fn stored(bytes: &[u8; GRANULE_BYTES]) -> Capability {
     let word =
         |at: usize| u32::from_le_bytes([bytes[at], bytes[at + 1], bytes[at + 2], bytes[at + 3]]);
     Capability {

@@ -1,6 +1,6 @@
 //! Steps a second of both proved engines and of the second program on long programs, in one process,
 //! lookups of bounds by the proved routine and by plain ones, map sheets read and written by both,
-//! bytes a second of lister and assembler, and granules a second of the sweeper.
+//! bytes a second of lister and assembler, and granules a second of the sweeper and of the search for capabilities.
 //!
 //!   speed [PROGRAM ..]         all programs by name and those given on the three, with ratios. A program is a name or
 //!                              a FILE of raw code, run from its first byte; after it may stand :CALL, the steps of one
@@ -24,13 +24,19 @@
 //!   speed sweep ENGINE KIND PASSES
 //!                              so many passes and no times, and the granules of one; KIND is untagged, kept or
 //!                              revoked
+//!   speed reach                queries over 1 MiB that find nothing, by both, with their ratio
+//!   speed reach ENGINE KIND QUERIES
+//!                              so many queries and no times, and the granules of one; KIND is untagged, elsewhere or
+//!                              unable
 
 mod listing;
 mod lookup;
 mod machine;
 mod programs;
+mod reach;
 mod sheets;
 mod sweep;
+mod turns;
 
 /// Does what the command line asks for, if it asks for something that there is.
 fn asked(arguments: &[&str]) -> Option<()> {
@@ -57,6 +63,10 @@ fn asked(arguments: &[&str]) -> Option<()> {
         ["sweep", name, kind, passes] => {
             println!("{}", sweep::count(name, kind, passes.parse().ok()?)?);
         }
+        ["reach"] => reach::compare_all(),
+        ["reach", name, kind, queries] => {
+            println!("{}", reach::count(name, kind, queries.parse().ok()?)?);
+        }
         [name, program, thousands] if machine::engine(name).is_some() => {
             let steps = 1000 * thousands.parse::<u32>().ok()?;
             machine::run(machine::engine(name)?, program, steps)?;
@@ -70,6 +80,6 @@ fn main() {
     let arguments: Vec<String> = std::env::args().skip(1).collect();
     let arguments: Vec<&str> = arguments.iter().map(String::as_str).collect();
     asked(&arguments).expect(
-        "speed [PROGRAM .. | ENGINE PROGRAM THOUSANDS | [lookup ROUTINE KIND | sheets ROUTINE WAY REGIONS] MILLIONS | listing [ENGINE FUNCTION KIND ROUNDS] | sweep [ENGINE KIND PASSES]]",
+        "speed [PROGRAM .. | ENGINE PROGRAM THOUSANDS | [lookup ROUTINE KIND | sheets ROUTINE WAY REGIONS] MILLIONS | listing [ENGINE FUNCTION KIND ROUNDS] | sweep [ENGINE KIND PASSES] | reach [ENGINE KIND QUERIES]]",
     );
 }

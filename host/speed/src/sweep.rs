@@ -1,6 +1,7 @@
 //! The sweeper: granules a second of whole passes over 1 MiB, by the proved library and by the second
 //! program.
 
+use crate::turns;
 use lent::{Capability, State, Sweep, GRANULE, MEMORY_ROOT, MOST_MEMORY};
 use std::hint::black_box;
 use std::time::Instant;
@@ -82,19 +83,18 @@ fn measure(sweep: Sweep, state: &State, swept: &mut State, left: u32) -> f64 {
 
 /// Every kind by both, by turns.
 pub fn compare_all() {
-    println!("memory      proved  second  ratio   (millions of granules a second)");
+    println!("{}", turns::HEAD);
     for kind in KINDS {
         let (state, left) = memory(kind).unwrap_or_default();
         let mut swept = state.clone();
-        let (mut proved, mut second) = (0f64, 0f64);
-        for _ in 0..TRIES {
-            proved = proved.max(measure(proved::sweep, &state, &mut swept, left));
-            second = second.max(measure(second::sweep, &state, &mut swept, left));
-        }
-        println!(
-            "{kind:<10} {proved:>7.1} {second:>7.1} {:>6.2}",
-            proved / second
-        );
+        turns::row(kind, TRIES, |is_proved| {
+            let sweep: Sweep = if is_proved {
+                proved::sweep
+            } else {
+                second::sweep
+            };
+            measure(sweep, &state, &mut swept, left)
+        });
     }
 }
 

@@ -37,6 +37,14 @@ fn what_stands_out_is_painted_and_nothing_else() {
         ("a.img does not fit b.map.", "a.img <does not fit> b.map."),
         ("a.img fits b.map.", "a.img< fits >b.map."),
         (
+            "interlock is never written.",
+            "interlock< is never >written.",
+        ),
+        (
+            "interlock may be written, by MTDC [00000000, 100000000).",
+            "interlock< may be written, by >MTDC [00000000, 100000000).",
+        ),
+        (
             "     365  2000010c  fe113c23  csc 2 1 -8  trap: store",
             "     365  2000010c  fe113c23  csc 2 1 -8<  trap: store>",
         ),

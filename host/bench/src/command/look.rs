@@ -19,7 +19,8 @@ pub struct Look {
 
 impl Look {
     pub fn of(asked: &Run, ready: &Ready) -> Result<Look, String> {
-        let breaks = asked.breaks.iter().map(|place| address(place, ready));
+        let breaks = asked.breaks.iter();
+        let breaks = breaks.map(|place| address("--break", place, ready));
         Ok(Look {
             breaks: breaks.collect::<Result<_, String>>()?,
             cover: asked.cover.then(|| Cover::new(&ready.state)),
@@ -54,14 +55,14 @@ impl Look {
     }
 }
 
-/// The address of a breakpoint: an image's symbol, a line of its source, or a number.
-fn address(place: &str, ready: &Ready) -> Result<u32, String> {
+/// The address that an option names: an image's symbol, a line of its source, or a number.
+pub fn address(option: &str, place: &str, ready: &Ready) -> Result<u32, String> {
     let label = ready.labels.iter().find(|(name, _)| name == place);
     let label = label.map(|(_, address)| *address);
     match label.or_else(|| ready.lines.address(place)) {
         Some(address) => Ok(address),
         None => arguments::even(place).map_err(|reason| {
-            format!("--break {place}: no symbol or line of an image has that name, and as a number it is {reason}")
+            format!("{option} {place}: no symbol or line of an image has that name, and as a number it is {reason}")
         }),
     }
 }

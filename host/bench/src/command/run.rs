@@ -32,16 +32,41 @@ const HEAP: &str = "heap";
 const MOST_SIZE: u64 = 1 << 24;
 
 pub fn run(asked: Run) -> Result<Status, String> {
+    with_files(&asked, |task, labelled| {
+        let ready = match task.ready() {
+            Err(Halt::Refused(refusal, state)) => {
+                return refused_state(refusal, &state, asked.json)
+            }
+            Err(Halt::Bad(reason)) => return Err(reason),
+            Ok(ready) => ready,
+        };
+        let look = Look::of(&asked, &ready)?;
+        let place = asked.save.as_deref().map(|path| place(path, &asked));
+        let place = place.transpose()?;
+        let told = if asked.json {
+            Ok(())
+        } else {
+            say(&labels_told(&asked, labelled, task.fits))
+        };
+        let status = task.carry_out(ready, look, place)?;
+        told.map(|()| status)
+    })
+}
+
+/// Reads the files and the board and goes on with them, unless an image does not fit the board: that is told.
+pub fn with_files(
+    asked: &Run,
+    go_on: impl FnOnce(&Task, &[Labelled]) -> Result<Status, String>,
+) -> Result<Status, String> {
     let board = asked.map.as_deref().map(board).transpose()?;
-    let map = board.as_ref().map(|board| &board.sheet);
     let bytes = asked.images.iter().map(|path| file::read(path));
     let bytes: Vec<Vec<u8>> = bytes.collect::<Result<_, _>>()?;
     let files: Vec<&[u8]> = bytes.iter().map(Vec::as_slice).collect();
-    let labelled = labelled(&asked, &files);
+    let labelled = labelled(asked, &files);
     let fits = fits(board.as_ref(), &labelled);
-    let page = asked.report.as_deref().map(|path| page_place(path, &asked));
+    let page = asked.report.as_deref().map(|path| page_place(path, asked));
     let task = Task {
-        asked: &asked,
+        asked,
         files: &files,
         board: board.as_ref(),
         fits: &fits,
@@ -49,35 +74,27 @@ pub fn run(asked: Run) -> Result<Status, String> {
     };
     if let Some(image) = fits.iter().find(|image| !image.fits) {
         task.write_page(|| page::of(&task.subject(&[])?, &Answer::Misfit))?;
-        return misfit(&asked, image);
+        return misfit(asked, image);
     }
-    let ready = match ready(&asked, &files, map) {
-        Err(Halt::Refused(refusal, state)) => return refused_state(refusal, &state, asked.json),
-        Err(Halt::Bad(reason)) => return Err(reason),
-        Ok(ready) => ready,
-    };
-    let look = Look::of(&asked, &ready)?;
-    let place = asked.save.as_deref().map(|path| place(path, &asked));
-    let place = place.transpose()?;
-    let told = if asked.json {
-        Ok(())
-    } else {
-        say(&labels_told(&asked, &labelled, &fits))
-    };
-    let status = task.carry_out(ready, look, place)?;
-    told.map(|()| status)
+    go_on(&task, &labelled)
 }
 
 /// What is asked, with the files and the board, and where the page goes.
-struct Task<'a> {
-    asked: &'a Run,
+pub struct Task<'a> {
+    pub asked: &'a Run,
     files: &'a [&'a [u8]],
-    board: Option<&'a Board>,
+    pub board: Option<&'a Board>,
     fits: &'a [Beside<'a>],
     page: Option<Place>,
 }
 
 impl<'a> Task<'a> {
+    /// What is there before the first step.
+    pub fn ready(&self) -> Result<Ready, Halt> {
+        let map = self.board.map(|board| &board.sheet);
+        ready(self.asked, self.files, map)
+    }
+
     /// Runs, says how the run went, saves the state and writes the page.
     fn carry_out(
         &self,
@@ -115,7 +132,7 @@ impl<'a> Task<'a> {
     }
 
     /// What the page is about.
-    fn subject(&self, segments: &'a [Segment]) -> Result<Subject<'a>, String> {
+    pub fn subject(&self, segments: &'a [Segment]) -> Result<Subject<'a>, String> {
         let images = self.asked.images.iter().zip(self.files);
         let mut files: Vec<Source> = images
             .map(|(path, bytes)| Source::of(path, bytes))
@@ -133,7 +150,7 @@ impl<'a> Task<'a> {
     }
 
     /// Writes a page, if one is wanted.
-    fn write_page(&self, page: impl FnOnce() -> Result<String, String>) -> Result<(), String> {
+    pub fn write_page(&self, page: impl FnOnce() -> Result<String, String>) -> Result<(), String> {
         let place = self.page.as_ref();
         place.map_or(Ok(()), |place| place.write(page()?.as_bytes()))
     }
@@ -143,6 +160,16 @@ impl<'a> Task<'a> {
 pub enum Halt {
     Refused(Refusal, Box<State>),
     Bad(String),
+}
+
+impl Halt {
+    /// Why, in words.
+    pub fn said(self) -> String {
+        match self {
+            Halt::Refused(refusal, state) => report::refused(refusal, &state),
+            Halt::Bad(reason) => reason,
+        }
+    }
 }
 
 impl From<String> for Halt {

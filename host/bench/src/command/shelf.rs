@@ -20,18 +20,12 @@ pub fn obey(asked: &Asked) -> Result<Status, String> {
         Ok(board) => board,
         Err(bad) => return refused_sheet(BAD_BOARD, &asked.board, &bad, asked.json),
     };
-    let with = asked
-        .with
+    let shelf = shelf(asked, board)?;
+    let sheet = &shelf.board.sheet;
+    shelf
+        .nevers
         .iter()
-        .map(|path| Ok((path.clone(), file::read(path)?)));
-    let shelf = Shelf {
-        folder: asked.folder.clone(),
-        board_name: asked.board.clone(),
-        board,
-        with: with.collect::<Result<_, String>>()?,
-        steps: asked.steps,
-        pages: asked.report.clone(),
-    };
+        .try_for_each(|never| never.check(sheet))?;
     let names = shelf.names()?;
     if names.is_empty() {
         return Err(format!(
@@ -50,6 +44,22 @@ pub fn obey(asked: &Asked) -> Result<Status, String> {
     let done = work(&shelf, &names, results, jobs(asked), &bar);
     bar.finish_and_clear();
     conclude(asked, &shelf, &done?, index)
+}
+
+/// What every image meets.
+fn shelf(asked: &Asked, board: Board) -> Result<Shelf, String> {
+    let with = asked.with.iter();
+    let with = with.map(|path| Ok((path.clone(), file::read(path)?)));
+    Ok(Shelf {
+        folder: asked.folder.clone(),
+        board_name: asked.board.clone(),
+        board,
+        with: with.collect::<Result<_, String>>()?,
+        steps: asked.steps,
+        handover: asked.handover.clone(),
+        nevers: asked.never.clone(),
+        pages: asked.report.clone(),
+    })
 }
 
 /// The jobs that are asked for, or one for each core.

@@ -5,15 +5,17 @@ use super::Shelf;
 use crate::account::Account;
 use crate::arguments::{Run, Start};
 use crate::command::fit::{Beside, Labelled};
-use crate::command::run::{ran_page, ready, Halt, Ready};
+use crate::command::look::address;
+use crate::command::run::{ran_page, ready, Ready};
 use crate::drive::{self, Outcome, Plan, Refused};
 use crate::image::{self, Format, Segment};
 use crate::last::Last;
 use crate::page::{self, Answer, Source, Subject, LAST};
 use crate::proved::Counts;
-use crate::report;
+use crate::reach::{self, rows};
 use crate::sheet::label::Placed;
 use crate::sheet::Bad;
+use crate::{handover, report};
 use lent::State;
 use std::panic::{catch_unwind, AssertUnwindSafe};
 use std::path::{Path, PathBuf};
@@ -97,7 +99,7 @@ impl Image<'_> {
         let files: Vec<&[u8]> = own.chain([self.bytes]).collect();
         let mut ready = match ready(&asked, &files, Some(&self.shelf.board.sheet)) {
             Ok(ready) => ready,
-            Err(halt) => return self.bad(row, said(halt)),
+            Err(halt) => return self.bad(row, halt.said()),
         };
         let before = ready.state.clone();
         let mut last = Last::new(&before, LAST, None);
@@ -110,12 +112,40 @@ impl Image<'_> {
         let named = (&ready.names, ready.stack);
         let account = Account::of(&ready.state, &outcome, named, fits, false);
         row.take(&account);
+        if let Err(why) = self.reach(&mut row, &ready, &before) {
+            return self.bad(row, why);
+        }
         let subject = || self.subject(&ready.segments, fits);
         let page = self.page(|| ran_page(&subject(), &account, &before, &last));
         Ok(Judged {
             row,
             page: page.transpose()?,
         })
+    }
+
+    /// What any run of the image from the handover on may do, where that is asked for.
+    fn reach(&self, row: &mut Row, ready: &Ready, before: &State) -> Result<(), String> {
+        let Some(place) = &self.shelf.handover else {
+            return Ok(());
+        };
+        let at = address("--handover", place, ready)?;
+        let mut state = before.clone();
+        let steps = match handover::arrive(&mut state, at, self.shelf.steps) {
+            Ok(steps) => Some(steps),
+            Err(why) => {
+                row.miss(&why);
+                return Ok(());
+            }
+        };
+        let rows = rows(&state, &self.shelf.board.sheet);
+        let rows = rows.map_err(|refusal| report::refused(refusal, &state))?;
+        row.take_reach(&reach::Account {
+            at,
+            steps,
+            rows: &rows,
+            nevers: &self.shelf.nevers,
+        });
+        Ok(())
     }
 
     /// An image that cannot be judged or run, and why; its own name is not said again.
@@ -152,13 +182,6 @@ impl Image<'_> {
     }
 }
 
-fn said(halt: Halt) -> String {
-    match halt {
-        Halt::Refused(refusal, state) => report::refused(refusal, &state),
-        Halt::Bad(reason) => reason,
-    }
-}
-
 /// Why an image does not fit: what is said of each region that does not.
 fn reasons(regions: &[Placed]) -> String {
     let amiss = regions.iter().filter_map(|placed| {
@@ -182,6 +205,7 @@ fn driven(ready: &mut Ready, steps: u64, last: &mut Last) -> Result<Outcome, Ref
 #[cfg(test)]
 mod tests {
     use super::*;
+    use crate::command::run::Halt;
     use crate::proved::UNSOUND;
     use crate::samples::{coded, LOADED, UNSOUND_VALUE};
 
@@ -189,7 +213,7 @@ mod tests {
     fn a_refused_state_is_told_with_its_registers() {
         let mut state = coded(&[]);
         state.set(LOADED, UNSOUND_VALUE);
-        let why = said(Halt::Refused(UNSOUND, Box::new(state)));
+        let why = Halt::Refused(UNSOUND, Box::new(state)).said();
         assert!(why.starts_with("refused, number 8: "), "{why}");
         assert!(why.ends_with(": c4 [05000000, 04000000)"), "{why}");
         let subject = Subject {

@@ -3,6 +3,7 @@
 use crate::account::Account;
 use crate::drive::End;
 use crate::proved::instruction;
+use crate::reach::{self, text};
 use crate::stack::Used;
 use serde::{Deserialize, Serialize};
 
@@ -31,6 +32,17 @@ pub enum Ran {
     No,
 }
 
+/// Whether every run from the handover on keeps to what was asked for.
+#[derive(Clone, Copy, PartialEq, Eq, Debug, Serialize, Deserialize)]
+#[serde(rename_all = "lowercase")]
+pub enum Kept {
+    Holds,
+    /// A run could do what none may.
+    Could,
+    /// The handover was not reached.
+    Missed,
+}
+
 #[derive(Clone, PartialEq, Eq, Debug, Serialize, Deserialize)]
 pub struct Row {
     pub file: String,
@@ -52,6 +64,13 @@ pub struct Row {
     pub stack_used: Option<u64>,
     pub stack_size: Option<u64>,
     pub stack_mark: Option<u32>,
+    /// Where a handover is asked for: the steps to it, what any run from there may do, by the names of regions, and whether
+    /// it keeps to what was asked for.
+    pub handover: Option<u64>,
+    pub may_write: Option<String>,
+    pub may_read: Option<String>,
+    pub may_execute: Option<String>,
+    pub kept: Option<Kept>,
 }
 
 impl Row {
@@ -75,6 +94,11 @@ impl Row {
             stack_used: None,
             stack_size: None,
             stack_mark: None,
+            handover: None,
+            may_write: None,
+            may_read: None,
+            may_execute: None,
+            kept: None,
         }
     }
 
@@ -104,13 +128,44 @@ impl Row {
         (self.stack_used, self.stack_size) = used.and_then(|used| used.bytes).unzip();
     }
 
+    /// Takes up what any run from the handover on may do.
+    pub fn take_reach(&mut self, account: &reach::Account) {
+        self.handover = account.steps;
+        let [write, read, execute] = [0, 1, 2].map(|deed| Some(account.may(deed).join(" ")));
+        (self.may_write, self.may_read, self.may_execute) = (write, read, execute);
+        let broken = account.judged();
+        let broken = broken.filter(|judged| !judged.broken.is_empty());
+        let broken: Vec<String> = broken.map(|judged| text::verdict(&judged)).collect();
+        self.kept = Some(match broken.is_empty() {
+            true => Kept::Holds,
+            false => Kept::Could,
+        });
+        let broken = broken.iter().map(|verdict| verdict.trim_end_matches('.'));
+        self.say_also(&broken.collect::<Vec<&str>>().join("; "));
+    }
+
+    /// Takes up that the handover was not reached, and why.
+    pub fn miss(&mut self, why: &str) {
+        self.kept = Some(Kept::Missed);
+        self.say_also(why);
+    }
+
+    /// Says one thing more of why the image is not good.
+    fn say_also(&mut self, why: &str) {
+        if !self.why.is_empty() && !why.is_empty() {
+            self.why.push_str("; ");
+        }
+        self.why.push_str(why);
+    }
+
     /// Whether it was run without a trap.
     pub fn is_quiet(&self) -> bool {
         matches!(self.run, Ran::Ended | Ran::Running)
     }
 
-    /// Whether it fits by its label and was run without a trap.
+    /// Whether it fits by its label, was run without a trap, and keeps to what was asked for.
     pub fn is_good(&self) -> bool {
-        self.label == Label::Fits && self.is_quiet()
+        let kept = self.kept.is_none_or(|kept| kept == Kept::Holds);
+        self.label == Label::Fits && self.is_quiet() && kept
     }
 }

@@ -1,6 +1,6 @@
 //! The rows of a shelf as text, CSV, JSON and a page, one row after the other.
 
-use super::row::{Label, Ran, Row};
+use super::row::{Kept, Label, Ran, Row};
 use super::{page_name, Results, Shelf};
 use crate::capability_text::{count, grouped};
 use crate::page::{filled, Source};
@@ -18,6 +18,10 @@ pub struct Counted {
     /// Judged or run they could not be.
     pub bad: u64,
     pub unlabelled: u64,
+    /// A handover was asked for; runs from there could do what none may, or it was not reached.
+    pub judged: u64,
+    pub could: u64,
+    pub missed: u64,
 }
 
 impl Counted {
@@ -30,6 +34,9 @@ impl Counted {
             counted.trapped += u64::from(row.run == Ran::Trapped);
             counted.bad += u64::from(row.run == Ran::No && row.label != Label::Misfit);
             counted.unlabelled += u64::from(row.label == Label::None);
+            counted.judged += u64::from(row.kept.is_some());
+            counted.could += u64::from(row.kept == Some(Kept::Could));
+            counted.missed += u64::from(row.kept == Some(Kept::Missed));
         }
         counted
     }
@@ -39,15 +46,35 @@ impl Counted {
         self.good == self.images
     }
 
+    /// Whether all of them are good, in a sentence.
+    fn verdict(&self) -> &'static str {
+        match (self.all_good(), self.judged) {
+            (true, 0) => "Every image fits the board and ran without a trap.",
+            (false, 0) => "Not every image fits the board and ran without a trap.",
+            (true, _) => "Every image fits the board, ran without a trap and keeps to what no run may do.",
+            (false, _) => "Not every image fits the board, ran without a trap and keeps to what no run may do.",
+        }
+    }
+
+    /// What is wanted of an image.
+    fn wanted(&self) -> &'static str {
+        match self.judged {
+            0 => "fit and ran without a trap",
+            _ => "fit, ran without a trap and keep to what no run may do",
+        }
+    }
+
     fn said(&self) -> String {
         let parts = [
             (self.misfits, "do not fit"),
             (self.trapped, "trapped"),
             (self.bad, "could not be run"),
             (self.unlabelled, "have no label to be judged by"),
+            (self.could, "could do what they never may"),
+            (self.missed, "do not come to the handover"),
         ];
         let (images, good) = (count(self.images, "image"), grouped(self.good));
-        let mut text = format!("{images}: {good} fit and ran without a trap");
+        let mut text = format!("{images}: {good} {}", self.wanted());
         for (number, what) in parts.iter().filter(|(number, _)| *number > 0) {
             text.push_str(&format!("; {} {what}", grouped(*number)));
         }
@@ -57,6 +84,10 @@ impl Counted {
 
 /// The most letters of a name that the table makes room for.
 const MOST_LETTERS: usize = 40;
+/// The most regions that are named in a cell.
+const MOST_NAMES: usize = 3;
+/// What stands above the cells of what may be written.
+const MAY_WRITE: &str = "may write";
 
 fn label(row: &Row) -> &'static str {
     match row.label {
@@ -83,6 +114,19 @@ fn stack(row: &Row) -> String {
     }
 }
 
+/// What any run may write: the first names, and how many more there are.
+fn may_write(row: &Row) -> String {
+    let names = row.may_write.as_deref();
+    let names: Vec<&str> = names.unwrap_or_default().split_whitespace().collect();
+    let first = names[..names.len().min(MOST_NAMES)].join(" ");
+    match (row.may_write.is_some(), names.len()) {
+        (false, _) => String::new(),
+        (true, 0) => "nothing".into(),
+        (true, all) if all > MOST_NAMES => format!("{first} and {} more", all - MOST_NAMES),
+        _ => first,
+    }
+}
+
 /// Why, and of a trap where.
 fn why(row: &Row) -> String {
     match row.at {
@@ -95,10 +139,21 @@ fn why(row: &Row) -> String {
 pub fn text(out: &mut impl Write, results: &Results) -> Result<(), Error> {
     let letters = results.rows().map(|row| visible(&row.file).chars().count());
     let width = letters.max().unwrap_or(0).clamp(5, MOST_LETTERS);
+    let counted = Counted::of(results);
+    // A column of its own where a handover was asked for.
+    let cells = results.rows().map(|row| may_write(&row).len());
+    let room = cells.max().unwrap_or(0).max(MAY_WRITE.len());
+    let column = |cell: &str| match counted.judged {
+        0 => String::new(),
+        _ => format!("{cell:<room$}  "),
+    };
     writeln!(
         out,
-        "{:<width$}  label         run      {:>14}  {:>16}  why",
-        "image", "steps", "stack"
+        "{:<width$}  label         run      {:>14}  {:>16}  {}why",
+        "image",
+        "steps",
+        "stack",
+        column(MAY_WRITE)
     )?;
     for row in results.rows() {
         let (file, steps) = (
@@ -106,15 +161,16 @@ pub fn text(out: &mut impl Write, results: &Results) -> Result<(), Error> {
             row.retired.map_or(String::new(), grouped),
         );
         let line = format!(
-            "{file:<width$}  {:<12}  {:<7}  {steps:>14}  {:>16}  {}",
+            "{file:<width$}  {:<12}  {:<7}  {steps:>14}  {:>16}  {}{}",
             label(&row),
             run(&row),
             stack(&row),
+            column(&may_write(&row)),
             visible(&why(&row)),
         );
         writeln!(out, "{}", line.trim_end())?;
     }
-    writeln!(out, "\n{}", Counted::of(results).said())
+    writeln!(out, "\n{}", counted.said())
 }
 
 /// The rows as CSV, under the names that JSON has.
@@ -136,7 +192,7 @@ pub fn json(out: &mut impl Write, results: &Results) -> Result<(), Error> {
     let counted = Counted::of(results);
     let counts = json!({
         "images": counted.images, "good": counted.good, "misfits": counted.misfits, "trapped": counted.trapped,
-        "bad": counted.bad, "unlabelled": counted.unlabelled,
+        "bad": counted.bad, "unlabelled": counted.unlabelled, "could": counted.could, "missed": counted.missed,
     });
     writeln!(out, "\n  ],\n  \"counts\": {counts}\n}}")
 }
@@ -146,36 +202,37 @@ fn fill(out: &mut impl Write, template: &str, value: &Value) -> Result<(), Error
     out.write_all(text.as_bytes())
 }
 
+/// A row of that page.
+fn page_row(row: &Row, judged: bool) -> Value {
+    let kind = match row.label {
+        _ if row.run == Ran::Trapped => "trapped",
+        Label::Misfit => "not-fit",
+        _ if row.run == Ran::No => "bad",
+        _ if matches!(row.kept, Some(Kept::Could | Kept::Missed)) => "bad",
+        _ => "quiet",
+    };
+    let steps = row.retired.map_or(String::new(), grouped);
+    json!({
+        "kind": kind, "page": page_name(&row.file), "file": shortened(&row.file), "label": label(row),
+        "end": run(row), "steps": steps, "stack": stack(row), "judged": judged, "may_write": may_write(row), "why": why(row),
+    })
+}
+
 /// The page of all, with a link to each image's own.
 pub fn page(out: &mut impl Write, results: &Results, shelf: &Shelf) -> Result<(), Error> {
     let counted = Counted::of(results);
-    let (kind, head) = match counted.all_good() {
-        true => (
-            "quiet",
-            "Every image fits the board and ran without a trap.",
-        ),
-        false => (
-            "bad",
-            "Not every image fits the board and ran without a trap.",
-        ),
-    };
+    let judged = counted.judged > 0;
+    let kind = if counted.all_good() { "quiet" } else { "bad" };
     let folder = shortened(&shelf.folder.display().to_string());
     let board = shortened(&shelf.board_name.display().to_string());
     let title = format!("{folder} on {board}");
-    let head = json!({ "title": title, "kind": kind, "head": head, "summary": counted.said() });
+    let head = json!({
+        "title": title, "kind": kind, "head": counted.verdict(), "summary": counted.said(),
+        "judged": judged.then_some(MAY_WRITE),
+    });
     fill(out, "shelf_head.html", &head)?;
     for row in results.rows() {
-        let kind = match row.label {
-            _ if row.run == Ran::Trapped => "trapped",
-            Label::Misfit => "not-fit",
-            _ if row.run == Ran::No => "bad",
-            _ => "quiet",
-        };
-        let steps = row.retired.map_or(String::new(), grouped);
-        let value = json!({
-            "kind": kind, "page": page_name(&row.file), "file": shortened(&row.file), "label": label(&row),
-            "end": run(&row), "steps": steps, "stack": stack(&row), "why": why(&row),
-        });
+        let value = page_row(&row, judged);
         fill(out, "shelf_row.html", &value)?;
     }
     let own = shelf

@@ -11,10 +11,12 @@ use compare::engines;
 use compare::halves;
 use compare::images;
 use compare::instructions::table;
+use compare::integrity::{self, Bench};
 use compare::listing::{self, Lister};
 use compare::lists::{self, List};
 use compare::machines;
 use compare::options::Options;
+use compare::reaches;
 use compare::rows::Table;
 use compare::sheets::{self, Sheets};
 use compare::state::Call;
@@ -44,9 +46,11 @@ const RIGHT_SWEEPS: u64 = 20_000;
 const RIGHT_WATCHES: u64 = 20_000;
 const ENGINE_CASES: u64 = 50_000;
 const RIGHT_ENGINES: u64 = 10_000;
+const REACH_CASES: u64 = 100_000;
+const RIGHT_REACHES: u64 = 5_000;
 
 /// The comparisons with which the copy with no edit on must agree.
-const RIGHT: [(&str, u64); 12] = [
+const RIGHT: [(&str, u64); 14] = [
     ("cuts", RIGHT_CASES),
     ("lists", RIGHT_CASES),
     ("machine", RIGHT_CASES),
@@ -59,6 +63,8 @@ const RIGHT: [(&str, u64); 12] = [
     ("sweep", RIGHT_SWEEPS),
     ("watch", RIGHT_WATCHES),
     ("engine", RIGHT_ENGINES),
+    ("reach", RIGHT_REACHES),
+    ("integrity", IDLE_STARTS),
 ];
 
 fn cut(base: u32, length: u32) -> CutAnswer {
@@ -115,6 +121,22 @@ fn machine(state: &mut State, call: Call) -> u64 {
     call.on(state, mutants::machine::step, mutants::machine::run)
 }
 
+/// The selected machine with the right search and the right sweeper: what it writes unasked is its own fault.
+const UNASKED: Bench = Bench {
+    machines: &[machine],
+    reach: second::reach,
+    sweep: second::sweep,
+};
+
+/// The same by what is reached and what is written unasked.
+fn reached(comparison: &str, table: &Table, seed: u64, cases: u64) -> Option<u64> {
+    let found = match comparison {
+        "reach" => reaches::compare(mutants::reach::reach, seed, cases.min(REACH_CASES)).err(),
+        _ => integrity::search(UNASKED, table, seed, cases.min(STARTS)).err(),
+    };
+    found.map(|found| found.case)
+}
+
 /// The case at which a comparison tells the selected machine from the right one.
 fn told_apart(comparison: &str, table: &Table, seed: u64, cases: u64) -> Option<u64> {
     match comparison {
@@ -144,6 +166,7 @@ fn told_apart(comparison: &str, table: &Table, seed: u64, cases: u64) -> Option<
         "engine" => engines::compare(ENGINES, table, seed, cases.min(ENGINE_CASES))
             .err()
             .map(|found| found.case),
+        "reach" | "integrity" => reached(comparison, table, seed, cases),
         "listing" => listing::compare(LISTER, seed, listing::CASES)
             .err()
             .map(|found| found.case),

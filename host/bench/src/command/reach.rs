@@ -1,0 +1,51 @@
+//! `bench reach`: a run to the handover, then what any run from there may do to each region of the board.
+
+use super::look::address;
+use super::run::{with_files, Task};
+use super::{say, say_json};
+use crate::arguments::{Reach as Asked, Run};
+use crate::reach::{page, rows, text, value, Account, Never};
+use crate::{handover, report, Status};
+use lent::PCC;
+
+pub fn obey(asked: Asked) -> Result<Status, String> {
+    let run = Run {
+        from: asked.from,
+        steps: asked.steps,
+        json: asked.json,
+        report: asked.report,
+        ..Run::default()
+    };
+    with_files(&run, |task, _| {
+        judge(task, asked.at.as_deref(), &asked.never)
+    })
+}
+
+fn judge(task: &Task, at: Option<&str>, nevers: &[Never]) -> Result<Status, String> {
+    let board = task.board.ok_or("--map is missing")?;
+    nevers
+        .iter()
+        .try_for_each(|never| never.check(&board.sheet))?;
+    let mut ready = task.ready().map_err(|halt| halt.said())?;
+    let at = at.map(|place| address("--at", place, &ready)).transpose()?;
+    let steps = at.map(|at| handover::arrive(&mut ready.state, at, task.asked.steps));
+    let steps = steps.transpose()?;
+    let state = &ready.state;
+    let rows = rows(state, &board.sheet).map_err(|refusal| report::refused(refusal, state))?;
+    let account = Account {
+        at: state.capability(PCC).address,
+        steps,
+        rows: &rows,
+        nevers,
+    };
+    // What cannot be said has its page nevertheless.
+    let said = match task.asked.json {
+        true => say_json(&value::account(&account)),
+        false => say(&text::told(&account)),
+    };
+    task.write_page(|| page::of(&task.subject(&ready.segments)?, &account))?;
+    said.map(|()| match account.holds() {
+        true => Status::Ran,
+        false => Status::Could,
+    })
+}
