@@ -170,7 +170,7 @@ module _ (board : Board) (revoked : List ℕ) where
   run-gains-none n s h = called (refusalOf n board revoked s) (h .sound) (λ q. steps-gain-none n (ran s 0 0) (good-for board revoked s n q) h)
 
 -- two states are the same where their buffers are
-same-state : (a b : State) → a .regs ≡ b .regs → a .mem ≡ b .mem → a .tags ≡ b .tags → a ≡ b
+pub same-state : (a b : State) → a .regs ≡ b .regs → a .mem ≡ b .mem → a .tags ≡ b .tags → a ≡ b
 same-state a b p q r =
     ap (λ (x : List ℕ). state x (a .mem) (a .tags)) p
     ∙ (ap (λ (x : List ℕ). state (b .regs) x (a .tags)) q ∙ ap (λ (x : List ℕ). state (b .regs) (b .mem) x) r)

@@ -1,24 +1,22 @@
 -- An answer of none is that all held is apart from what was asked. It stays so, since no authority is gained; of a range that is not empty it says that what
 -- is held is sound; and with the right to store, that each byte of the range is shut. So integrity has all its hypotheses. Assumes nothing.
-use mathlib.Core.Path.{_≡_, refl, sym, ap, _∙_}
+use mathlib.Core.Path.{_≡_, refl, sym, _∙_}
 use mathlib.Core.Logic.{_↔_, _⊎_, inl, inr}
 use mathlib.Core.Bool.{Bool, true, false, not, _&&_, _||_, true≢false}
 use mathlib.Core.List.{List}
-use Prim.Native.Nat.{ℕ, zero, suc, min, _+_, _-_, _*_, _/_, _%_, _^_, _≤_, _<_}
-use native.Mathlib.Nat.{div-eq-of-lt, div-div-eq-div-mul, div-one, pow-succ', min-zero}
+use Prim.Native.Nat.{ℕ, zero, suc, _+_, _-_, _*_, _/_, _^_, _≤_, _<_}
+use native.Mathlib.Nat.{div-eq-of-lt}
 use native.Mathlib.Omega.{arith}
-use lib.Arith.{bin-ind}
-use lib.Bits.{bitAnd, and-step, and-zero-r}
 use lib.Dec.{eqb, leb, ltb}
 use lib.ListN.{getD, length}
 use lib.Pow.{pow-mono}
 use borrow.Author.Tests.{eqb-true, eqb-false, leb-true, leb-false, ltb-true, ltb-false, eq-eqb, ne-eqb, lt-ltb}
 use Rattle.words.proofs.Word.{by-test}
-use Rattle.metadata.specs.Rights.{SD, Has, bit}
-use Rattle.metadata.proofs.Narrowing.{mask-left}
+use Rattle.metadata.specs.Rights.{SD, Has}
+use Rattle.metadata.proofs.Narrowing.{masked-all, masked-each}
 use Rattle.capability.specs.Capability.{low, high, rights, tagged}
 use Rattle.capability.specs.declared.Capability.{Capability}
-use Rattle.capability_laws.proofs.Tests.{both-true, both-le}
+use Rattle.capability_laws.proofs.Tests.{both-true}
 use Rattle.state.specs.Layout.{capabilityCount}
 use Rattle.state.specs.Lent.{State}
 use Rattle.state.specs.Memory.{granuleBytes}
@@ -34,7 +32,7 @@ use Rattle.reach.proofs.Search.{register-is, granule-is}
 use Rattle.reach.proofs.Laws.{first-is, none-at-all, at-all-none, empty-range, nowhere-first, packed-none}
 use Rattle.machine_laws.specs.Fits.{InType}
 use Rattle.machine_laws.specs.Lent.{Sound}
-use Rattle.machine_laws.proofs.Refusals.{sound-is}
+use Rattle.machine_laws.proofs.Refusals.{sound-is, sound-test}
 use Rattle.authority_laws.specs.Gain.{Stands, in-register, in-granule, Held, Start, NoGain, Reached}
 use Rattle.authority_laws.proofs.Runs.{reached-gains-none}
 use Rattle.integrity_laws.specs.Integrity.{Writes, ByteShut}
@@ -63,29 +61,6 @@ stands-at s p l =
     (λ t. let u = ltb-false p capabilityCount t in in-granule (p - capabilityCount) (omega arith) (granule-is s p u))
 
 -- ---- one capability
-
--- the rights of a mask are among some others where the mask leaves itself of them
-halved : (a k : ℕ) → a / 2 ^ suc k ≡ a / 2 / 2 ^ k
-halved a k = ap (λ x. a / x) (pow-succ' 2 k) ∙ sym (div-div-eq-div-mul a 2 (2 ^ k))
-
-pub masked-all : (mask a : ℕ) → ((k : ℕ) → Has mask k → Has a k) → bitAnd a mask ≡ mask
-masked-all =
-    bin-ind (λ (m : ℕ). (a : ℕ) → ((k : ℕ) → Has m k → Has a k) → bitAnd a m ≡ m) (λ a h. and-zero-r a)
-    (λ m rest a h.
-    let e = rest (a / 2) (λ k x. sym (ap (λ y. y % 2) (halved a k)) ∙ h (suc k) (ap (λ y. y % 2) (halved m k) ∙ x)) in
-    let d : min (a % 2) (m % 2) ≡ m % 2 =
-    by-test (eqb (m % 2) 1)
-    (λ t.
-    let x : m % 2 ≡ 1 = eqb-true (m % 2) 1 t in
-    let y : a % 2 ≡ 1 = ap (λ z. z % 2) (sym (div-one a)) ∙ h 0 (ap (λ z. z % 2) (div-one m) ∙ x) in
-    rw (x, y) refl)
-    (λ t. let x : m % 2 ≡ 0 = omega (arith, eqb-false (m % 2) 1 t) in rw x (min-zero (a % 2))) in
-    and-step a m ∙ (rw (e, d) (omega arith)))
-
-pub masked-each : (mask a : ℕ) → bitAnd a mask ≡ mask → (k : ℕ) → Has mask k → Has a k
-masked-each mask a e k h =
-    let l : bit mask k ≤ bit a k = rw e at (mask-left a mask k) in
-    omega (arith, l, h)
 
 module _ (q : Query) (c : Capability) where
   overlap : (x : ℕ) → low c ≤ x → x < high c → q .low ≤ x → x < end q → overlaps q c ≡ true
@@ -118,12 +93,12 @@ module _ (q : Query) (c : Capability) where
 
     -- and one that is apart, if it is tagged, does not count
     of-apart : (c .tag ≡ 1 → Apart q c) → reachesInto q c ≡ false
-    unfolding reachesInto tagged sound
+    unfolding reachesInto tagged
     of-apart f =
         by-test (eqb (c .tag) 1)
         (λ t.
         let p = f (eqb-true (c .tag) 1 t) in
-        rw (t, ne-eqb (q .length) 0 some, both-le (low c) (high c) (high c) (2 ^ 32) .1 (p .is-sound .order, p .is-sound .top))
+        rw (t, ne-eqb (q .length) 0 some, sound-test c (p .is-sound))
         (go p (grantsAll (q .rights) c) refl (overlaps q c) refl))
         (λ t. rw t refl)
       where
@@ -138,13 +113,13 @@ module _ (q : Query) (c : Capability) where
 
   -- what counts, if it is sound, has the rights and an address of the range
   of-counted : (c .tag ≡ 1 → Sound c) → reachesInto q c ≡ true → (c .tag ≡ 1) × (grantsAll (q .rights) c ≡ true) × (overlaps q c ≡ true)
-  unfolding reachesInto tagged sound
+  unfolding reachesInto tagged
   of-counted f h =
       let m = both-true _ _ .0 h in
       let t = eqb-true (c .tag) 1 (m .0) in
       let p = f t in
       let l = both-true (not (eqb (q .length) 0)) _ .0 (m .1) in
-      let r = rw (both-le (low c) (high c) (high c) (2 ^ 32) .1 (p .order, p .top)) at (l .1) in
+      let r = rw (sound-test c p) at (l .1) in
       let b = both-true (grantsAll (q .rights) c) (overlaps q c) .0 r in
       (t, b .0, b .1)
 

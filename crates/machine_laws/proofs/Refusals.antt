@@ -161,7 +161,7 @@ sound-is c h =
     let p = both (leb (low c) (high c)) (leb (high c) (2 ^ 32)) h in
     record { order = leb-true (low c) (high c) (p .0); top = leb-true (high c) (2 ^ 32) (p .1) }
 
-sound-test : (c : Capability) → Sound c → sound c ≡ true
+pub sound-test : (c : Capability) → Sound c → sound c ≡ true
 unfolding sound
 sound-test c h = made (le-leb (low c) (high c) (h .order)) (le-leb (high c) (2 ^ 32) (h .top))
 

@@ -1,11 +1,15 @@
 -- A store of this family touches one granule of memory, and no tag other than 0 or 1 is loaded or stored. Assumes nothing.
-use mathlib.Core.Path.{_≡_, refl}
-use mathlib.Core.Bool.{Bool, false, not}
+use mathlib.Core.Path.{_≡_, refl, sym}
+use mathlib.Core.Bool.{Bool, true, false, not, _&&_, true≢false}
 use mathlib.Core.List.{List}
-use Prim.Native.Nat.{ℕ, _%_}
+use Prim.Native.Nat.{ℕ, _+_, _%_, _≤_}
 use native.Mathlib.Omega.{arith}
+use lib.Dec.{leb}
 use lib.ListN.{length}
-use Rattle.capability.specs.Capability.{keepTagIf, low}
+use borrow.Author.Tests.{eqb-true, leb-true, not-false}
+use Rattle.metadata.specs.Rights.{SD, MC, SL, GL, Has, bit}
+use Rattle.bounds.specs.Bounds.{Contains}
+use Rattle.capability.specs.Capability.{keepTagIf, low, high, rights, grants, sealed, tagged, covers}
 use Rattle.capability.specs.Loading.{loadedOf}
 use Rattle.capability.specs.declared.Capability.{Capability}
 use Rattle.capability.proofs.Laws.{kept, loaded-kept, untagged-spared}
@@ -16,6 +20,7 @@ use Rattle.instructions.specs.declared.MemoryInstruction.the-variants as Instru
 use Rattle.state.specs.Registers.{registerAt}
 use Rattle.state.specs.Lent.{Lent}
 use Rattle.state.specs.Memory.{placeOf, capabilityIn, storeWidth, revocationAt, granuleBytes}
+use Rattle.state.specs.Checks.{failIf, accessCause, inBounds, tagCause, sealCause, boundsCause, storeCause, storeCapabilityCause, storeLocalCause}
 use Rattle.state.specs.Effects.{StoresWithin, GoodTag, GoodTags, GoodEffect}
 use Rattle.state.specs.declared.Board.{Board}
 use Rattle.state.specs.declared.Place.{Place}
@@ -24,7 +29,7 @@ use Rattle.state.specs.declared.Revocation.{Revocation}
 use Rattle.state.specs.declared.Revocation.the-variants as Revocation
 use Rattle.state.proofs.Laws.{Placed, checked-holds, place-within, store-width, granule-width, kept-good, register-tag, capability-in-tag}
 use Rattle.memory_instructions.specs.Access.{loadAt, loadEffect, storeAt, storeEffect, filtered, loadCapabilityAt, loadCapabilityEffect}
-use Rattle.memory_instructions.specs.Access.{storeCapabilityAt, storeCapabilityEffect, memoryEffect, revokedBy, revokedValue}
+use Rattle.memory_instructions.specs.Access.{storeCapabilityCheck, storeCapabilityAt, storeCapabilityEffect, memoryEffect, revokedBy, revokedValue}
 
 -- ---- stores
 
@@ -123,3 +128,53 @@ untagged-unrevoked board revoked v h = by (revocationAt board revoked (low v))
     by Revocation.Outside = refl
     by Revocation.Clear = refl
     by Revocation.Marked = untagged-spared v h
+
+-- ---- stores that pass their checks
+
+both : (a b : Bool) → a && b ≡ true → (a ≡ true) × (b ≡ true)
+both true b h = (refl, h)
+both false b h = absurd (true≢false (sym h))
+
+-- c is tagged, has the right to store, and has width bytes at an address in its bounds
+pub record Through (c : Capability) (address width : ℕ) : Type 0 where
+  pub is-tagged : c .tag ≡ 1
+  pub stores : Has (rights c) SD
+  pub region : Contains (low c) (high c) address (address + width)
+
+-- a row of checks that finds no cause passed the first and the rest
+passed : (fails : Bool) (cause rest : ℕ) → 1 ≤ cause → failIf fails cause rest ≡ 0 → (fails ≡ false) × (rest ≡ 0)
+passed true cause rest l z = absurd (omega arith)
+passed false cause rest l z = (refl, z)
+
+module _ (c : Capability) (address : ℕ) where
+  through : (width : ℕ) → not (tagged c) ≡ false → not (grants c SD) ≡ false → not (inBounds c address width) ≡ false → Through c address width
+  unfolding tagged covers
+  through width t g b =
+      let r = both (leb (low c) address) (leb (address + width) (high c)) (not-false (inBounds c address width) b) in
+      record {
+        is-tagged = eqb-true (c .tag) 1 (not-false (tagged c) t);
+        stores = eqb-true (bit (rights c) SD) 1 (not-false (grants c SD) g);
+        region = record { from = leb-true (low c) address (r .0); to = leb-true (address + width) (high c) (r .1) };
+      }
+
+  -- a store whose checks pass
+  pub store-passed : (width : ℕ) → accessCause c SD storeCause address width ≡ 0 → Through c address width
+  unfolding accessCause
+  store-passed width h =
+      let t = passed (not (tagged c)) tagCause _ (omega arith) h in
+      let s = passed (sealed c) sealCause _ (omega arith) (t .1) in
+      let g = passed (not (grants c SD)) storeCause _ (omega arith) (s .1) in
+      let b = passed (not (inBounds c address width)) boundsCause _ (omega arith) (g .1) in
+      through width (t .0) (g .0) (b .0)
+
+  -- a CSC whose checks pass
+  pub store-capability-passed : (value : Capability) → storeCapabilityCheck c value address ≡ 0 → Through c address granuleBytes
+  unfolding storeCapabilityCheck
+  store-capability-passed value h =
+      let t = passed (not (tagged c)) tagCause _ (omega arith) h in
+      let s = passed (sealed c) sealCause _ (omega arith) (t .1) in
+      let g = passed (not (grants c SD)) storeCause _ (omega arith) (s .1) in
+      let m = passed (tagged value && not (grants c MC)) storeCapabilityCause _ (omega arith) (g .1) in
+      let l = passed (tagged value && (not (grants value GL) && not (grants c SL))) storeLocalCause _ (omega arith) (m .1) in
+      let b = passed (not (inBounds c address granuleBytes)) boundsCause _ (omega arith) (l .1) in
+      through granuleBytes (t .0) (g .0) (b .0)

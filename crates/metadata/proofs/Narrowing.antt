@@ -1,13 +1,15 @@
 -- The permission codes: each of the 64 has one meaning, and a narrowing gives no right that was not there. Computed over all codes and all sets of rights.
 -- Assumes nothing.
-use mathlib.Core.Path.{_≡_, sym, ap, _∙_}
-use mathlib.Core.Bool.{Bool, true, _&&_}
-use Prim.Native.Nat.{ℕ, zero, suc, _/_, _%_, _^_, _≤_, _<_}
-use native.Mathlib.Nat.{div-div-eq-div-mul, div-one, pow-succ', not-suc-le-zero}
+use mathlib.Core.Path.{_≡_, refl, sym, ap, _∙_}
+use mathlib.Core.Bool.{Bool, true, false, _&&_}
+use Prim.Native.Nat.{ℕ, zero, suc, min, _/_, _%_, _^_, _≤_, _<_}
+use native.Mathlib.Nat.{div-div-eq-div-mul, div-one, pow-succ', not-suc-le-zero, min-zero}
 use native.Mathlib.Omega.{arith}
-use lib.Bits.{bitAnd, and-shr, and-mod, and-le-l, and-comm}
+use lib.Arith.{bin-ind}
+use lib.Bits.{bitAnd, and-shr, and-mod, and-le-l, and-comm, and-step, and-zero-r}
 use lib.Dec.{T, leb, ltb, eqb, leb→le, ltb→lt, eqb→eq}
-use Rattle.metadata.specs.Rights.{bit, rightsOf, codeOf}
+use borrow.Author.Tests.{eqb-true, eqb-false}
+use Rattle.metadata.specs.Rights.{bit, Has, rightsOf, codeOf}
 use Rattle.choices.proofs.Every.{every, every-at, and-left, and-right}
 
 -- n bits of a are among those of b
@@ -63,6 +65,25 @@ mask-left a m k = rw (and-shr a m k, and-mod (a / 2 ^ k) (m / 2 ^ k) 1) (and-le-
 
 pub mask-right : (a m k : ℕ) → bit (bitAnd a m) k ≤ bit m k
 mask-right a m k = rw (and-comm a m) (mask-left m a k)
+
+-- the bits of a mask are among some others exactly where the mask leaves itself of them
+pub masked-all : (mask a : ℕ) → ((k : ℕ) → Has mask k → Has a k) → bitAnd a mask ≡ mask
+masked-all =
+    bin-ind (λ (m : ℕ). (a : ℕ) → ((k : ℕ) → Has m k → Has a k) → bitAnd a m ≡ m) (λ a h. and-zero-r a)
+    (λ m rest a h.
+    let e = rest (a / 2) (λ k x. sym (ap (λ y. y % 2) (halved a k)) ∙ h (suc k) (ap (λ y. y % 2) (halved m k) ∙ x)) in
+    let d : min (a % 2) (m % 2) ≡ m % 2 =
+    lowest a m (eqb (m % 2) 1) refl (λ x. ap (λ z. z % 2) (sym (div-one a)) ∙ h 0 (ap (λ z. z % 2) (div-one m) ∙ x)) in
+    and-step a m ∙ (rw (e, d) (omega arith)))
+  where
+    lowest : (a m : ℕ) (b : Bool) → eqb (m % 2) 1 ≡ b → (m % 2 ≡ 1 → a % 2 ≡ 1) → min (a % 2) (m % 2) ≡ m % 2
+    lowest a m true t f = let x = eqb-true (m % 2) 1 t in rw (x, f x) refl
+    lowest a m false t f = let x : m % 2 ≡ 0 = omega (arith, eqb-false (m % 2) 1 t) in rw x (min-zero (a % 2))
+
+pub masked-each : (mask a : ℕ) → bitAnd a mask ≡ mask → (k : ℕ) → Has mask k → Has a k
+masked-each mask a e k h =
+    let l : bit mask k ≤ bit a k = rw e at (mask-left a mask k) in
+    omega (arith, l, h)
 
 -- what a mask leaves of a code's rights has a code
 pub masked-rights : (c m : ℕ) → c < 64 → bitAnd (rightsOf c) m < 4096

@@ -45,6 +45,15 @@ checked-trap P r cause e t h = cond-holds P (eqb cause 0) e (capabilityTrap r ca
 pub checked-holds : (P : Effect → Type 0) (r cause : ℕ) (e : Effect) → ((n v : ℕ) → P (Trap n v)) → P e → P (checked r cause e)
 checked-holds P r cause e t h = checked-trap P r cause e (t capabilityFault) h
 
+-- what holds of every trap, and of an effect where no check failed, holds after the checks
+pub checked-passed : (P : Effect → Type 0) (r cause : ℕ) (e : Effect) → ((n v : ℕ) → P (Trap n v)) → (cause ≡ 0 → P e) → P (checked r cause e)
+unfolding checked
+checked-passed P r cause e t h = go (eqb cause 0) refl
+  where
+    go : (b : Bool) → eqb cause 0 ≡ b → P (cond b e (capabilityTrap r cause))
+    go true q = h (eqb-true cause 0 q)
+    go false q = t _ _
+
 -- two effects after the same check, where the relation holds of a trap and itself
 pub checked-both : (R : Effect → Effect → Type 0) (r cause : ℕ) (d e : Effect) → ((v : ℕ) → R (Trap capabilityFault v) (Trap capabilityFault v)) → R d e
     → R (checked r cause d) (checked r cause e)
@@ -84,6 +93,19 @@ place-from start size a w e l = rw (eq-eqb (a % w) 0 e, le-leb start a l, same-t
         by-test (leb (a - start + w) size)
         (λ t. rw t (le-leb (a + w) (start + size) (omega (arith, leb-true (a - start + w) size t))))
         (λ t. rw t (lt-leb (a + w) (start + size) (omega (arith, leb-false (a - start + w) size t))))
+
+-- what holds of the traps, and of the access at the place that an address has, holds of the access at the address
+pub placed-at : (P : Effect → Type 0) (f : Place → Effect) → P (f Misaligned) → P (f Outside)
+    → (start size address width : ℕ) → ((i : ℕ) → start + i ≡ address → P (f (At i))) → P (f (placeOf start size address width))
+unfolding placeOf
+placed-at P f m o start size address width a =
+    go (eqb (address % width) 0) (leb start address) refl (leb (address + width) (start + size))
+  where
+    go : (x y : Bool) → leb start address ≡ y → (z : Bool) → P (f (cond x (cond (y && z) (At (address - start)) Outside) Misaligned))
+    go false y q z = m
+    go true false q z = o
+    go true true q false = o
+    go true true q true = a (address - start) (omega (arith, leb-true start address q))
 
 -- the widths of accesses
 abbrev pub Width : ℕ → Type 0
