@@ -27,7 +27,7 @@ pub struct Query {
     pub rights: u32,
 }
 
-// The answer: the first place, or that there is none.
+// The answer: the first place, that there is none, or a refusal's number.
 pub enum ReachAnswer {
     Found(u32),
     Nowhere,

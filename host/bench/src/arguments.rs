@@ -17,9 +17,9 @@ const MOST_LAST: u64 = 1_000_000;
 ///
 /// Numbers are decimal, or hexadecimal after 0x. The exit status is 0 if a run had no trap, 1 if it
 /// trapped, if two map sheets differ, if no image fits, if a run could do what it never may or if not every
-/// image of a shelf fits and runs without a trap, 2 if the machine, the cutter, the lister or the
-/// assembler refused, an image does not fit the board that it is to run on, or a sheet that was to be
-/// judged is bad, and 3 for bad usage or a bad file.
+/// image of a shelf is good, 2 if the machine, the cutter, the lister or the assembler refused, an image
+/// does not fit the board that it is to run on, or a sheet that was to be judged is bad, and 3 for bad
+/// usage, a bad file or, of reach, a handover that is not reached or a state that is refused.
 #[derive(Parser)]
 #[command(name = "bench", version, disable_help_subcommand = true)]
 pub struct Arguments {
@@ -177,8 +177,8 @@ pub struct Gdb {
 pub struct Reach {
     #[command(flatten)]
     pub from: Start,
-    /// The handover, a number or a symbol of an image: PCC's address from which on runs are judged [default:
-    /// the start]
+    /// The handover, a number, a symbol of an image or a FILE:LINE of its source: PCC's address from which on
+    /// runs are judged [default: the start]
     #[arg(long, value_name = "WHERE")]
     pub at: Option<String>,
     /// The most steps to the handover
@@ -323,7 +323,8 @@ pub struct Shelf {
     /// The engine that makes the steps; both give the same answers
     #[arg(long, value_enum, default_value_t)]
     pub engine: Engine,
-    /// The handover, a number or a symbol of an image: what any run from there on may write is told of each image
+    /// The handover, a number, a symbol of an image or a FILE:LINE of its source: what any run from there on
+    /// may write is told of each image
     #[arg(long, value_name = "WHERE")]
     pub handover: Option<String>,
     /// What no run from the handover on may do, as interlock:w, with a region's name or holes, and the letters r, w

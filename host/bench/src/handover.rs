@@ -6,7 +6,7 @@ use crate::report;
 use lent::{State, PCC};
 use std::collections::BTreeSet;
 
-/// Runs to the handover, by at most so many steps: how many were made, or why PCC did not arrive.
+/// Runs to the handover, by at most so many steps: how many were made, or why it is not reached.
 pub fn arrive(state: &mut State, at: u32, steps: u64) -> Result<u64, String> {
     if is_at(state, at) {
         return Ok(0);
@@ -45,5 +45,5 @@ fn missed(state: &State, at: u32, outcome: &Outcome) -> String {
             format!("{steps} were made, and it is at {:08x}", address(state))
         }
     };
-    format!("PCC does not arrive at {at:08x}: {why}")
+    format!("the handover at {at:08x} is not reached: {why}")
 }

@@ -203,6 +203,17 @@ pub struct Never {
     deeds: Vec<usize>,
 }
 
+/// Each of some deeds once, in their order.
+fn once(deeds: Vec<usize>) -> Vec<usize> {
+    let mut each = Vec::new();
+    for deed in deeds {
+        if !each.contains(&deed) {
+            each.push(deed);
+        }
+    }
+    each
+}
+
 impl Never {
     /// What a text asks for, as interlock:w or holes:wx.
     pub fn read(text: &str) -> Result<Never, String> {
@@ -212,7 +223,7 @@ impl Never {
         let (region, letters) = text.rsplit_once(':').ok_or_else(form)?;
         let deed = |letter| DEEDS.iter().position(|deed| deed.letter == letter);
         let deeds: Option<Vec<usize>> = letters.chars().map(deed).collect();
-        match deeds {
+        match deeds.map(once) {
             Some(deeds) if !deeds.is_empty() && !region.is_empty() => Ok(Never {
                 region: region.into(),
                 deeds,

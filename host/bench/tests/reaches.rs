@@ -232,7 +232,7 @@ fn a_handover_that_is_not_reached_is_told_with_the_reason() {
             &directory,
             &[&SAVED[..], &["--at", "0x20000020", "--steps", "9"]].concat(),
         );
-        let wanted = format!("bench: PCC does not arrive at 20000020: {why}\n");
+        let wanted = format!("bench: the handover at 20000020 is not reached: {why}\n");
         assert_eq!((said.status, said.out.as_str(), said.err), (3, "", wanted));
     }
     // The last step may be the one that arrives.
@@ -316,7 +316,7 @@ fn a_page_has_a_row_for_each_region_and_the_picture() {
         "<svg id=\"map\"",
         "<title>interlock [20000400, 20000480), by MTDC</title>",
         "<text class=\"head\"",
-        "authority-claim",
+        "nowhere-stays",
     ] {
         assert!(page.contains(text), "{text}");
     }
@@ -324,23 +324,18 @@ fn a_page_has_a_row_for_each_region_and_the_picture() {
     assert_eq!(over.status, 3);
 }
 
-/// A shelf of one image, by a start and with further words.
+/// A shelf of the demonstration's image on the small board, by a start and with further words.
 fn shelf(name: &str, start: &str, further: &[&str]) -> Answer {
+    on_board(name, "image.hex", ["interlock_small.map", start], further)
+}
+
+/// The same of one of its images, on a board.
+fn on_board(name: &str, image: &str, [board, start]: [&str; 2], further: &[&str]) -> Answer {
     let directory = directory(name);
-    fs::copy(
-        examples().join("interlock_image.hex"),
-        directory.join("image.hex"),
-    )
-    .expect("a copy");
+    let from = examples().join(format!("interlock_{image}"));
+    fs::copy(from, directory.join(image)).expect("a copy");
     let folder = directory.display().to_string();
-    let words = [
-        "shelf",
-        &folder,
-        "--board",
-        "interlock_small.map",
-        "--with",
-        start,
-    ];
+    let words = ["shelf", &folder, "--board", board, "--with", start];
     bench_in(&examples(), &[&words[..], further].concat())
 }
 
@@ -374,6 +369,15 @@ fn a_shelf_says_what_any_run_may_write() {
         (1, &json!("missed"))
     );
     assert_eq!(missed.json()["counts"]["missed"], 1);
+    for (name, place) in [("symbol", "nosuch"), ("odd", "0x20000101")] {
+        let asked = ["--handover", place, "--never", "interlock:w", "--json"];
+        let large = ["interlock_large.map", "interlock_large.hex"];
+        let name = format!("reach_shelf_{name}");
+        let unresolved = on_board(&name, "image.img", large, &asked);
+        let row = &unresolved.json()["rows"][0];
+        assert_eq!((unresolved.status, &row["run"]), (1, &json!("ended")));
+        assert_eq!(row["kept"], "missed");
+    }
     let unknown = shelf(
         "reach_shelf_unknown",
         CAREFUL,

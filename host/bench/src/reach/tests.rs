@@ -95,6 +95,8 @@ fn what_is_never_to_be_is_a_region_and_letters() {
         (never.region.as_str(), never.text()),
         ("interlock", "interlock:wx".into())
     );
+    let again = Never::read("holes:wxwxx").expect("a good form");
+    assert_eq!(again.text(), "holes:wx");
     for text in [
         "interlock",
         "interlock:",

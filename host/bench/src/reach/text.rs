@@ -8,7 +8,7 @@ use crate::sheet::letters;
 /// What stands below the table: which law says what is never written, and what is known of the rest.
 pub const LAWS: [&str; 2] = [
     "Never written: no step, run or sweep from here changes a byte of it, however many are made (law reach-claim).",
-    "Never read, never executed: no capability for it is held, and no run gains one (law authority-claim); no law of reading stands yet.",
+    "Never read, never executed: nothing held has that right there, and after any run nothing has (law nowhere-stays); no law of reading stands yet.",
 ];
 
 /// The account: what was asked for first, then the table, the holders and the laws.
@@ -62,8 +62,10 @@ pub fn verdict(judged: &Judged) -> String {
 
 /// Holders, each with its bounds.
 fn with_bounds(held: &Held) -> String {
-    let named = held.first.iter();
-    let named = named.map(|holder| format!("{} {}", holder.name, region(bounds(holder.value))));
+    let named = held.first.iter().map(|holder| {
+        let unsound = if holder.unsound { ", unsound" } else { "" };
+        format!("{} {}{unsound}", holder.name, region(bounds(holder.value)))
+    });
     named.collect::<Vec<String>>().join(", ") + &more(held)
 }
 

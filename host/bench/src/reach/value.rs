@@ -44,6 +44,7 @@ fn held(held: &Held) -> Value {
     let by = held.first.iter().map(|holder| {
         let mut value = capability(holder.value);
         value["name"] = holder.name.clone().into();
+        value["unsound"] = holder.unsound.into();
         value
     });
     json!({ "by": by.collect::<Vec<Value>>(), "all": held.all })

@@ -113,7 +113,7 @@ impl Image<'_> {
         let account = Account::of(&ready.state, &outcome, named, fits, false);
         row.take(&account);
         if let Err(why) = self.reach(&mut row, &ready, &before) {
-            return self.bad(row, why);
+            row.miss(&why);
         }
         let subject = || self.subject(&ready.segments, fits);
         let page = self.page(|| ran_page(&subject(), &account, &before, &last));
@@ -123,20 +123,14 @@ impl Image<'_> {
         })
     }
 
-    /// What any run of the image from the handover on may do, where that is asked for.
+    /// What any run of the image from the handover on may do, where that is asked for; or why that is not known.
     fn reach(&self, row: &mut Row, ready: &Ready, before: &State) -> Result<(), String> {
         let Some(place) = &self.shelf.handover else {
             return Ok(());
         };
         let at = address("--handover", place, ready)?;
         let mut state = before.clone();
-        let steps = match handover::arrive(&mut state, at, self.shelf.steps) {
-            Ok(steps) => Some(steps),
-            Err(why) => {
-                row.miss(&why);
-                return Ok(());
-            }
-        };
+        let steps = Some(handover::arrive(&mut state, at, self.shelf.steps)?);
         let rows = rows(&state, &self.shelf.board.sheet);
         let rows = rows.map_err(|refusal| report::refused(refusal, &state))?;
         row.take_reach(&reach::Account {

@@ -39,7 +39,7 @@ pub enum Kept {
     Holds,
     /// A run could do what none may.
     Could,
-    /// The handover was not reached.
+    /// The handover is no place of the image, or was not reached.
     Missed,
 }
 

@@ -51,8 +51,12 @@ impl Counted {
         match (self.all_good(), self.judged) {
             (true, 0) => "Every image fits the board and ran without a trap.",
             (false, 0) => "Not every image fits the board and ran without a trap.",
-            (true, _) => "Every image fits the board, ran without a trap and keeps to what no run may do.",
-            (false, _) => "Not every image fits the board, ran without a trap and keeps to what no run may do.",
+            (true, _) => {
+                "Every image fits the board, ran without a trap and passes at the handover."
+            }
+            (false, _) => {
+                "Not every image fits the board, ran without a trap and passes at the handover."
+            }
         }
     }
 
@@ -60,7 +64,7 @@ impl Counted {
     fn wanted(&self) -> &'static str {
         match self.judged {
             0 => "fit and ran without a trap",
-            _ => "fit, ran without a trap and keep to what no run may do",
+            _ => "fit, ran without a trap and pass at the handover",
         }
     }
 
