@@ -6,7 +6,7 @@ pub mod lines;
 
 use crate::names::Name;
 use crate::probe::value::stored;
-use crate::proved::sheets;
+use crate::proved::sheets::{self, Record};
 use crate::sheet::Bad;
 use lent::{State, GRANULE};
 use lines::Lines;
@@ -63,6 +63,10 @@ pub struct Image {
     /// Every symbol's name and address, those without a size too.
     pub labels: Vec<(String, u32)>,
     pub lines: Lines,
+    /// The regions of its label, where it has one.
+    pub label: Option<Vec<Record>>,
+    /// What its header says of another core.
+    pub notes: Vec<String>,
 }
 
 /// The image of a file's bytes; raw bytes go to `start`.
@@ -74,8 +78,9 @@ pub fn read(path: &Path, bytes: &[u8], format: Format, start: u32) -> Result<Ima
         format => plain(bytes, format, start),
     };
     let mut image = image.map_err(|reason| format!("{}: {reason}", path.display()))?;
-    for segment in &mut image.segments {
-        segment.origin = format!("{}: {}", path.display(), segment.origin);
+    let own = image.segments.iter_mut().map(|segment| &mut segment.origin);
+    for said in own.chain(&mut image.notes) {
+        *said = format!("{}: {said}", path.display());
     }
     Ok(image)
 }
@@ -116,7 +121,11 @@ fn payload(bytes: &[u8]) -> Result<Image, String> {
         _ if bytes.is_empty() => Err("it is empty".into()),
         format => plain(bytes, format, start),
     };
-    image.map_err(|reason| format!("payload: {reason}"))
+    let image = image.map_err(|reason| format!("payload: {reason}"))?;
+    Ok(Image {
+        label: Some(label.regions),
+        ..image
+    })
 }
 
 fn plain(bytes: &[u8], format: Format, start: u32) -> Result<Image, String> {

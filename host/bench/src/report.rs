@@ -3,6 +3,7 @@
 use crate::account::Account;
 use crate::capability_text::{count, grouped, is_integer, length, region};
 use crate::capability_text::{revocation_words, rights, type_words};
+use crate::console::Said;
 use crate::drive::{End, Outcome, Refused, Swept};
 use crate::edition;
 use crate::listing::Part;
@@ -68,15 +69,26 @@ pub fn run(account: &Account) -> String {
     let Account { state, outcome, .. } = account;
     let mut text = counts(state, outcome);
     text.push_str(&stack(state, account.stack));
-    text.push_str(&watch(account.watched));
+    text.push_str(&watch(&account.judged.watched));
     if account.swept {
         text.push_str(&sweeps(outcome.swept));
     }
+    text.push_str(&judged(account));
     if let Some(trap) = &account.trap {
         text.push('\n');
         text.push_str(&self::trap(trap, state, account.names));
     }
     format!("{text}\n{}", registers(state))
+}
+
+/// What a run was judged by besides: the map, what was expected, what it said.
+pub fn judged(account: &Account) -> String {
+    let judged = account.judged;
+    let map = judged.map.as_ref();
+    let map = map.map_or(String::new(), |map| map.text(account.names));
+    let console = judged.console.as_ref();
+    let console = console.map_or(String::new(), Said::line);
+    format!("{map}{}{console}", judged.values())
 }
 
 /// The counts of a run, and how it ended.
@@ -92,6 +104,8 @@ pub fn counts(state: &State, outcome: &Outcome) -> String {
         ),
         End::Trap(_) => "Stopped at the trap.".into(),
         End::Break => format!("Stopped before the step at {at:08x}."),
+        End::Exit => format!("The program ended: it came to {at:08x}."),
+        End::Stuck => format!("Nothing handles the trap: every further step traps, at {at:08x}."),
     };
     format!("{retired} retired, {trapped} trapped. {end}\n")
 }

@@ -1,9 +1,9 @@
 //! `bench reach`: a run to the handover, then what any run from there may do to each region of the board.
 
-use super::look::address;
+use super::look::even_place;
 use super::run::{with_files, Task};
 use super::{say, say_json};
-use crate::arguments::{Reach as Asked, Run};
+use crate::arguments::{Reach as Asked, Run, Terms};
 use crate::reach::{page, rows, text, value, Account, Never};
 use crate::{handover, report, Status};
 use lent::PCC;
@@ -11,7 +11,10 @@ use lent::PCC;
 pub fn obey(asked: Asked) -> Result<Status, String> {
     let run = Run {
         from: asked.from,
-        steps: asked.steps,
+        terms: Terms {
+            steps: asked.steps,
+            ..Terms::default()
+        },
         json: asked.json,
         report: asked.report,
         ..Run::default()
@@ -27,8 +30,9 @@ fn judge(task: &Task, at: Option<&str>, nevers: &[Never]) -> Result<Status, Stri
         .iter()
         .try_for_each(|never| never.check(&board.sheet))?;
     let mut ready = task.ready().map_err(|halt| halt.said())?;
-    let at = at.map(|place| address("--at", place, &ready)).transpose()?;
-    let steps = at.map(|at| handover::arrive(&mut ready.state, at, task.asked.steps));
+    let at = at.map(|place| even_place("--at", place, &ready));
+    let at = at.transpose()?;
+    let steps = at.map(|at| handover::arrive(&mut ready.state, at, task.asked.terms.steps));
     let steps = steps.transpose()?;
     let state = &ready.state;
     let rows = rows(state, &board.sheet).map_err(|refusal| report::refused(refusal, state))?;

@@ -55,7 +55,8 @@ fn shelf(asked: &Asked, board: Board) -> Result<Shelf, String> {
         board_name: asked.board.clone(),
         board,
         with: with.collect::<Result<_, String>>()?,
-        steps: asked.steps,
+        setting: asked.setting.clone(),
+        terms: asked.terms.clone(),
         handover: asked.handover.clone(),
         nevers: asked.never.clone(),
         pages: asked.report.clone(),
@@ -135,10 +136,7 @@ fn conclude(
         _ => text(&mut out, results),
     };
     unless_closed(said.and_then(|()| out.flush()))?;
-    Ok(match Counted::of(results).all_good() {
-        true => Status::Ran,
-        false => Status::NoFit,
-    })
+    Ok(Counted::of(results).status())
 }
 
 fn text(out: &mut impl Write, results: &Results) -> Result<(), Error> {

@@ -106,7 +106,7 @@ fn a_run_through_traps_counts_them_all() {
     let mut state = counting(10, EBREAK);
     let outcome = driven(&mut state, 5_000, true);
     assert_eq!(outcome.counts, counts(20, 4_980));
-    assert_eq!(outcome.end, End::Steps);
+    assert_eq!(outcome.end, End::Stuck);
 }
 
 #[test]

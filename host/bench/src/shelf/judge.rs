@@ -5,17 +5,19 @@ use super::Shelf;
 use crate::account::Account;
 use crate::arguments::{Run, Start};
 use crate::command::fit::{Beside, Labelled};
-use crate::command::look::address;
-use crate::command::run::{ran_page, ready, Ready};
+use crate::command::look::even_place;
+use crate::command::run::{ran_page, ready, Halt, Ready};
+use crate::console::Console;
 use crate::drive::{self, Outcome, Plan, Refused};
 use crate::image::{self, Format, Segment};
 use crate::last::Last;
 use crate::page::{self, Answer, Source, Subject, LAST};
+use crate::payload::Outside;
 use crate::proved::Counts;
 use crate::reach::{self, rows};
-use crate::sheet::label::Placed;
 use crate::sheet::Bad;
-use crate::{handover, report};
+use crate::trial::Trial;
+use crate::{handover, report, verdict};
 use lent::State;
 use std::panic::{catch_unwind, AssertUnwindSafe};
 use std::path::{Path, PathBuf};
@@ -74,7 +76,7 @@ impl Image<'_> {
             return self.run(row, &fits);
         }
         row.label = Label::Misfit;
-        row.why = reasons(&fits[0].regions);
+        row.why = reasons(&fits[0]);
         let page = self.page(|| page::of(&self.subject(&[], &fits), &Answer::Misfit));
         Ok(Judged {
             row,
@@ -82,36 +84,49 @@ impl Image<'_> {
         })
     }
 
-    /// The image in the board's memory, beside the board's own files, and run.
-    fn run(&self, mut row: Row, fits: &[Beside]) -> Result<Judged, String> {
-        let with = &self.shelf.with;
-        let own = with.iter().map(|(path, _)| path.clone());
+    /// What is asked of the image: the board's own files beside it, and the shelf's terms.
+    fn asked(&self) -> Run {
+        let own = self.shelf.with.iter().map(|(path, _)| path.clone());
         let from = Start {
             images: own.chain([self.name.into()]).collect(),
+            setting: self.shelf.setting.clone(),
             ..Start::default()
         };
-        let asked = Run {
+        Run {
             from,
-            steps: self.shelf.steps,
+            terms: self.shelf.terms.clone(),
             ..Run::default()
-        };
-        let own = with.iter().map(|(_, bytes)| bytes.as_slice());
+        }
+    }
+
+    /// The image in the board's memory, beside the board's own files, and run.
+    fn run(&self, mut row: Row, fits: &[Beside]) -> Result<Judged, String> {
+        let asked = self.asked();
+        let own = self.shelf.with.iter().map(|(_, bytes)| bytes.as_slice());
         let files: Vec<&[u8]> = own.chain([self.bytes]).collect();
-        let mut ready = match ready(&asked, &files, Some(&self.shelf.board.sheet)) {
+        let map = Some(&self.shelf.board.sheet);
+        let mut ready = match ready(&asked, &files, map) {
             Ok(ready) => ready,
+            Err(Halt::Outside(outside)) => return self.outside(row, &outside),
             Err(halt) => return self.bad(row, halt.said()),
         };
+        let trial = match Trial::of(&asked.terms, &ready, map) {
+            Ok(trial) => trial,
+            Err(reason) => return self.bad(row, reason),
+        };
         let before = ready.state.clone();
-        let mut last = Last::new(&before, LAST, None);
-        let outcome = match driven(&mut ready, self.shelf.steps, &mut last) {
-            Ok(outcome) => outcome,
+        let mut last = Last::new(&before, LAST, asked.terms.sweep);
+        let (outcome, judged) = match tried(&mut ready, &before, &trial, &mut last) {
+            Ok(judged) => judged,
             Err(refused) => {
                 return self.bad(row, report::refused_on_the_way(refused, &ready.state))
             }
         };
         let named = (&ready.names, ready.stack);
-        let account = Account::of(&ready.state, &outcome, named, fits, false);
+        let judged = (&judged, asked.terms.sweep.is_some());
+        let account = Account::of(&ready.state, &outcome, named, fits, judged);
         row.take(&account);
+        row.note = (!ready.notes.is_empty()).then(|| ready.notes.join("; "));
         if let Err(why) = self.reach(&mut row, &ready, &before) {
             return self.bad(row, why);
         }
@@ -123,14 +138,26 @@ impl Image<'_> {
         })
     }
 
+    /// An image of which a byte lies outside the board.
+    fn outside(&self, mut row: Row, outside: &Outside) -> Result<Judged, String> {
+        row.label = Label::Misfit;
+        row.why = outside.reason();
+        let answer = Answer::Outside(row.why.clone());
+        let page = self.page(|| page::of(&self.subject(&[], &[]), &answer));
+        Ok(Judged {
+            row,
+            page: page.transpose()?,
+        })
+    }
+
     /// What any run of the image from the handover on may do, where that is asked for.
     fn reach(&self, row: &mut Row, ready: &Ready, before: &State) -> Result<(), String> {
         let Some(place) = &self.shelf.handover else {
             return Ok(());
         };
-        let at = address("--handover", place, ready)?;
+        let at = even_place("--handover", place, ready)?;
         let mut state = before.clone();
-        let steps = match handover::arrive(&mut state, at, self.shelf.steps) {
+        let steps = match handover::arrive(&mut state, at, self.shelf.terms.steps) {
             Ok(steps) => Some(steps),
             Err(why) => {
                 row.miss(&why);
@@ -183,23 +210,42 @@ impl Image<'_> {
 }
 
 /// Why an image does not fit: what is said of each region that does not.
-fn reasons(regions: &[Placed]) -> String {
-    let amiss = regions.iter().filter_map(|placed| {
+fn reasons(image: &Beside) -> String {
+    let amiss = image.regions.iter().filter_map(|placed| {
         let reason = placed.place.as_ref().err()?;
         Some(format!("{}: {reason}", placed.region.name))
     });
-    amiss.collect::<Vec<String>>().join("; ")
+    let outside = image.outside.as_ref().map(Outside::reason);
+    amiss.chain(outside).collect::<Vec<String>>().join("; ")
 }
 
-/// Runs, and keeps states for the last steps.
-fn driven(ready: &mut Ready, steps: u64, last: &mut Last) -> Result<Outcome, Refused> {
+/// Runs and judges the run, and keeps states for the last steps.
+fn tried(
+    ready: &mut Ready,
+    before: &State,
+    trial: &Trial,
+    last: &mut Last,
+) -> Result<(Outcome, verdict::Judged), Refused> {
     let mut made = 0;
     let mut watch = |before: &State, _: &State, counts: Counts| {
         last.see(made, before);
         made += counts.steps();
         true
     };
-    drive::run(&mut ready.state, Plan::new(steps, &mut watch))
+    let mut console = trial.console.map(|address| Console::new(address, &|_| ()));
+    let mut hear = console
+        .as_mut()
+        .map(|console| |state: &State| console.hear(state));
+    let plan = Plan {
+        stored: hear.as_mut().map(|hear| hear as &mut dyn FnMut(&State)),
+        ..trial.plan(&mut watch)
+    };
+    let outcome = drive::run(&mut ready.state, plan)?;
+    let said = console.map(Console::said);
+    let judged = trial.judged(before, (&outcome, &ready.state), said);
+    let made = outcome.counts;
+    let judged = judged.map_err(|refusal| Refused { refusal, made })?;
+    Ok((outcome, judged))
 }
 
 #[cfg(test)]
