@@ -60,10 +60,10 @@ runs_on() {
   mkdir -p "$work/onward" && cp "$work/images/image-00099.img" "$work/onward"
   shelf "$work/onward" --color always >"$work/out"
   [ $? -eq 5 ] && grep -q $'\x1b\\[33m  running  \x1b' "$work/out" &&
-    grep -q '^1 image: 0 fit and are good; 1 still ran when the steps were used up\.$' "$work/out" || return 1
+    grep -q '^1 image: 0 fit and are good; 1 have not come to their end\.$' "$work/out" || return 1
   shelf "$work/onward" --may-run-on >"$work/out" && grep -q '^1 image: 1 fit and are good\.$' "$work/out" || return 1
   cp examples/interlock_image.img "$work/onward/good.img" && shelf "$work/onward" --report "$work/onward.pages" >"$work/out"
-  [ $? -eq 5 ] && page says "$work/onward.pages/index.html" "some still ran when the steps were used up" || return 1
+  [ $? -eq 5 ] && page says "$work/onward.pages/index.html" "some have not come to their end" || return 1
   cp "$work/images/image-00090.img" "$work/onward" && shelf "$work/onward" >"$work/out"
   [ $? -eq 1 ]
 }

@@ -8,7 +8,7 @@ use crate::colour::When;
 use crate::image::Format;
 use crate::probe::fetch;
 use crate::reach::Never;
-use clap::{Args, CommandFactory, Parser, Subcommand};
+use clap::{ArgAction, Args, CommandFactory, Parser, Subcommand};
 use std::ops::Deref;
 use std::path::PathBuf;
 use terms::NOT_WITH_STATE;
@@ -18,12 +18,12 @@ const MOST_LAST: u64 = 1_000_000;
 
 /// The bench: runs an image on the proved CHERIoT machine and shows what happened.
 ///
-/// Numbers are decimal, or hexadecimal after 0x. The exit status is 0 if a run is good: it had no trap that nothing
-/// handles, broke no map and left what was expected; 1 if it is not, if two map sheets differ, if no image fits, if a run
-/// could do what it never may or if not every image of a shelf fits and is good; 2 if the machine, the cutter, the lister or the
-/// assembler refused, an image does not fit the board that it is to run on, or a sheet that was to be
-/// judged is bad; 3 for bad usage or a bad file; and 5 if steps were used up before a program came to its end: the one that
-/// --exit-at names, or on a shelf where nothing else is amiss.
+/// Numbers are decimal, or hexadecimal after 0x. The exit status is 0 if a run had no trap that nothing handles, broke no
+/// map and left what was expected, and ended or, where no end is named, used up its steps without a trap; 1 if it is not so,
+/// if two map sheets differ, if no image fits, if a run could do what it never may or if not every image of a shelf fits and
+/// is good; 2 if the machine, the cutter, the lister or the assembler refused, an image does not fit the board that it is to
+/// run on, or a sheet that was to be judged is bad; 3 for bad usage or a bad file; and 5 if a program did not come to its end,
+/// where --exit-at, --exit-value or --expect names one, or on a shelf where nothing else is amiss.
 #[derive(Parser)]
 #[command(name = "bench", version, disable_help_subcommand = true)]
 pub struct Arguments {
@@ -75,7 +75,8 @@ pub struct Start {
     pub images: Vec<PathBuf>,
     #[command(flatten)]
     pub setting: Setting,
-    /// A map sheet that names the board's regions; memory is then what they span
+    /// A map sheet that names the board's regions; memory is then what they span, images have to lie in them, and the
+    /// stores of a run are judged by it
     #[arg(long, value_name = "SHEET")]
     pub map: Option<PathBuf>,
     /// A saved state to start from instead of reset; images are loaded over it
@@ -123,7 +124,7 @@ pub struct Run {
     #[arg(long, value_name = "FILE")]
     pub report: Option<PathBuf>,
     /// Write a part of memory at the end to a file, a word a line in eight digits; START is an address or a symbol
-    #[arg(long, value_names = ["START", "LENGTH", "FILE"], num_args = 3)]
+    #[arg(long, value_names = ["START", "LENGTH", "FILE"], num_args = 3, action = ArgAction::Set)]
     pub signature: Option<Vec<String>>,
 }
 

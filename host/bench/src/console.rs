@@ -55,8 +55,11 @@ impl<'a> Console<'a> {
         self.letter.clear();
     }
 
-    /// What was said, at the end; a last line is ended where it is shown.
+    /// What was said, at the end; a letter that is not whole is written out, and a last line ended, where they are shown.
     pub fn said(self) -> Said {
+        if !self.letter.is_empty() {
+            (self.show)(&self.letter.escape_ascii().to_string());
+        }
         if self.bytes.last().is_some_and(|byte| *byte != b'\n') {
             (self.show)("\n");
         }
@@ -148,5 +151,6 @@ mod tests {
         let (shown, said) = heard(b"\x1b[2J\xff\t\xc3(\n");
         assert_eq!(shown.concat(), "\\u{1b}[2J\\xff\t\\xc3(\n");
         assert_eq!(said.text(99), "\\u{1b}[2J\u{fffd}\t\u{fffd}(\n");
+        assert_eq!(heard(b"a\xe2\x82").0, ["a", "\\xe2\\x82", "\n"]);
     }
 }

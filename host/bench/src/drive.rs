@@ -7,9 +7,10 @@ mod tests;
 use crate::course::Course;
 use crate::cover::Cover;
 use crate::halt::{by_calls, by_steps, bytes_at, is_still, is_stuck, Halt, Pace, Stops};
+use crate::probe;
 use crate::proved::{Counts, Refusal, MOST_STEPS};
 use crate::sweep;
-use lent::{State, Watch, PCC};
+use lent::{State, Watch, COMPARE, PCC};
 use std::collections::BTreeSet;
 
 /// The most steps one by one between two calls of a plan's watch.
@@ -26,6 +27,12 @@ pub enum End {
     Steps,
     /// The program jumps to itself: every further step that was asked for retires and changes time alone.
     Still,
+    /// The same, but the timer is set: it interrupts the program after so many steps, which are more than were left.
+    Waits(u64),
+    /// The same after a trap, and where traps go: nothing handles them.
+    Unhandled,
+    /// The same, but an end was named, and this is not it.
+    Astray,
     /// A step trapped; this is the state before it.
     Trap(Box<State>),
     /// A breakpoint stands at PCC; the step there is not made.
@@ -165,7 +172,24 @@ fn follow(course: &mut Course, mut plan: Plan, done: &mut Outcome) -> Result<(),
         looked = looks;
     }
     done.record = course.record();
+    if done.end == End::Still {
+        done.end = standing(course.state(), &plan.exits, done.counts);
+    }
     Ok(())
+}
+
+/// What it means that a program jumps to itself, after so many steps.
+fn standing(state: &State, exits: &BTreeSet<u32>, made: Counts) -> End {
+    let at = state.capability(PCC).address;
+    // Compare is all ones where nobody has set it.
+    let set = state.long(COMPARE) != u64::MAX;
+    match set.then(|| probe::steps_to_interrupt(state)).flatten() {
+        _ if exits.contains(&at) => End::Exit,
+        _ if made.trapped > 0 && at == probe::handler(state) => End::Unhandled,
+        Some(steps) => End::Waits(steps),
+        None if exits.is_empty() => End::Still,
+        None => End::Astray,
+    }
 }
 
 /// What a halt means for the run. A step that traps, or that stores into a range of which someone is told, is made here.

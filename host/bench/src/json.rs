@@ -41,6 +41,9 @@ fn run(state: &State, outcome: &Outcome, trap: Option<&Trap>, names: &Names) -> 
     let end = match outcome.end {
         End::Steps => "steps",
         End::Still => "still",
+        End::Waits(_) => "waits",
+        End::Unhandled => "unhandled",
+        End::Astray => "astray",
         End::Trap(_) => "trap",
         End::Break => "break",
         End::Exit => "exit",
@@ -231,6 +234,7 @@ fn beside(image: &Beside) -> Value {
         "regions": regions.collect::<Vec<Value>>(),
         "outside": image.outside.as_ref().map(outside),
         "broken": image.broken,
+        "notes": image.notes,
     })
 }
 

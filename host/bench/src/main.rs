@@ -70,7 +70,7 @@ pub enum Status {
     Could,
     Refused,
     Bad,
-    /// The steps were used up before the program came to its end.
+    /// The program has not come to its end.
     Running,
 }
 

@@ -109,15 +109,16 @@ impl Forbidden {
         for (place, _) in hit {
             broken.extend(place.iter().map(Part::range));
         }
-        let counts = again.counted(&broken)?;
-        for (range, stores) in broken.iter().zip(counts) {
+        let each = again.counted(&broken)?;
+        for (range, stores) in broken.iter().zip(each) {
             if let Some(part) = parts.iter_mut().find(|part| part.range() == *range) {
                 part.stores = stores;
             }
         }
         let first = again.first(&broken)?;
         let first = first.map(|at| First::of(at.made + 1, at.course.state(), &parts));
-        Ok(Stores { parts, first })
+        let all = counts.iter().map(|count| u64::from(*count)).sum();
+        Ok(Stores { parts, all, first })
     }
 }
 
@@ -164,6 +165,9 @@ impl First {
 #[derive(Clone, PartialEq, Eq, Debug)]
 pub struct Stores {
     pub parts: Vec<Part>,
+    /// How many stores there were. Parts that follow one another are counted as one, and what may be written lies between
+    /// others, so that no store is counted twice unless it reaches over a stretch that may be written of at most 6 bytes.
+    pub all: u64,
     pub first: Option<First>,
 }
 
@@ -177,12 +181,6 @@ impl Stores {
     /// Whether a store broke the map.
     pub fn broken(&self) -> bool {
         self.first.is_some()
-    }
-
-    /// How many stores touched a part, of all parts together.
-    pub fn all(&self) -> u64 {
-        let stores = self.parts.iter().map(|part| u64::from(part.stores));
-        stores.sum()
     }
 
     /// The stores into each part that has some.
@@ -199,7 +197,7 @@ impl Stores {
             return String::new();
         };
         let step = grouped(first.step);
-        format!("{}; the first is step {step}", self.by_part().join(", "))
+        format!("{}; the first is step {step}", self.by_part().join("; "))
     }
 
     /// For a person.
@@ -251,7 +249,7 @@ impl Stores {
             })
         });
         let parts: Vec<Value> = self.parts.iter().map(part).collect();
-        json!({ "breaks": self.broken(), "parts": parts, "first": first })
+        json!({ "breaks": self.broken(), "stores": self.all, "parts": parts, "first": first })
     }
 }
 

@@ -6,7 +6,7 @@ use crate::capability_text::{count, grouped};
 use crate::changes::{self, Stretch};
 use crate::command::fit::Beside;
 use crate::console::Said;
-use crate::drive::End;
+use crate::drive::{End, Outcome};
 use crate::image::Segment;
 use crate::map::{Kind, Map, Shape, Strip};
 use crate::names::{Name, Names};
@@ -101,6 +101,8 @@ pub struct Subject<'a> {
     pub board: Option<(Source, &'a Sheet)>,
     pub segments: &'a [Segment],
     pub fits: &'a [Beside<'a>],
+    /// What headers say of another core.
+    pub notes: &'a [String],
 }
 
 /// What came of it.
@@ -167,6 +169,7 @@ pub fn about(subject: &Subject) -> Value {
     json!({
         "title": format!("{}{on}", names.join(", ")),
         "version": env!("CARGO_PKG_VERSION"),
+        "notes": subject.notes,
         "files": subject.files.iter().chain(board).map(Source::value).collect::<Vec<Value>>(),
         "board": subject.board.is_some(),
         "fits": subject.fits.iter().map(fit).collect::<Vec<Value>>(),
@@ -218,15 +221,23 @@ fn headed(account: &Account) -> (&'static str, String) {
             "trapped",
             format!("It was stopped by a trap: {}.", trap.cause),
         ),
-        (Verdict::Trapped, _, End::Stuck) => {
+        (Verdict::Trapped, _, End::Stuck | End::Unhandled) => {
             ("trapped", "It traps, and nothing handles it.".into())
         }
         (Verdict::Trapped, ..) => ("trapped", "It ran, with traps.".into()),
         (Verdict::Wrong, ..) => ("trapped", "It did not leave what was expected.".into()),
-        (_, Some(_), End::Still | End::Exit) => (calm, "It ran to its end, through traps.".into()),
-        (_, None, End::Still | End::Exit) => (calm, "It ran to its end without a trap.".into()),
-        (_, Some(_), _) => (calm, "It ran through traps, and has not ended.".into()),
-        (_, None, _) => (calm, "It ran without a trap, and has not ended.".into()),
+        _ => (calm, went(account.outcome).into()),
+    }
+}
+
+/// How a run went that nothing is amiss with but that it may not have ended.
+fn went(outcome: &Outcome) -> &'static str {
+    let ended = matches!(outcome.end, End::Still | End::Exit);
+    match (ended, outcome.counts.trapped) {
+        (true, 0) => "It ran to its end without a trap.",
+        (true, _) => "It ran to its end, through traps.",
+        (false, 0) => "It ran without a trap, and has not ended.",
+        (false, _) => "It ran through traps, and has not ended.",
     }
 }
 

@@ -27,7 +27,8 @@ impl Whose {
 pub struct Outside {
     /// The part, with its file and where it lies.
     pub part: String,
-    pub address: u32,
+    /// Up to 2^32, where no region is.
+    pub address: u64,
     pub whose: Whose,
     pub nearest: Option<Record>,
 }
@@ -49,12 +50,12 @@ impl Outside {
 }
 
 /// A region, and on which side of an address outside it it lies.
-fn beside(region: &Record, address: u32) -> String {
+fn beside(region: &Record, address: u64) -> String {
     let (name, start, end) = (&region.name, region.start, region.end());
-    let side = match u64::from(address).checked_sub(end) {
+    let side = match address.checked_sub(end) {
         Some(0) => "ends there".into(),
         Some(bytes) => format!("ends {} before", count(bytes, "byte")),
-        None => format!("begins {} after", count((start - address).into(), "byte")),
+        None => format!("begins {} after", count(u64::from(start) - address, "byte")),
     };
     format!("{name}, [{start:08x}, {end:08x}), which {side}")
 }
@@ -79,21 +80,20 @@ fn of(segments: &[Segment], regions: &[Record], whose: Whose) -> Option<Outside>
 }
 
 /// The first address of a range that no region holds.
-fn first_outside((low, high): (u64, u64), regions: &[Record]) -> Option<u32> {
+fn first_outside((low, high): (u64, u64), regions: &[Record]) -> Option<u64> {
     let mut address = low;
     while address < high {
         let holds = |region: &&Record| (region.start.into()..region.end()).contains(&address);
         match regions.iter().find(holds) {
             Some(region) => address = region.end(),
-            None => return u32::try_from(address).ok(),
+            None => return Some(address),
         }
     }
     None
 }
 
 /// The region with the fewest bytes between it and an address outside all of them.
-fn nearest(address: u32, regions: &[Record]) -> Option<&Record> {
-    let address = u64::from(address);
+fn nearest(address: u64, regions: &[Record]) -> Option<&Record> {
     regions.iter().min_by_key(|region| {
         let before = address.saturating_sub(region.end());
         let after = u64::from(region.start).saturating_sub(address);
@@ -127,13 +127,16 @@ mod tests {
         for low in 0..28 {
             for high in low..28 {
                 let expected = (low..high).find(|address| !held(*address));
+                let expected = expected.map(u64::from);
                 let range = (low.into(), high.into());
                 assert_eq!(first_outside(range, &regions), expected, "{low} {high}");
             }
         }
         assert_eq!(first_outside((0, 1), &[]), Some(0));
         let last = super::tests::regions(&[(u32::MAX, 1)]);
-        assert_eq!(first_outside((u32::MAX.into(), 1 << 32), &last), None);
+        let end = 1 << 32;
+        assert_eq!(first_outside((u32::MAX.into(), end), &last), None);
+        assert_eq!(first_outside((u32::MAX.into(), end + 1), &last), Some(end));
     }
 
     #[test]

@@ -21,6 +21,8 @@ pub struct Trial<'a> {
     pub console: Option<u32>,
     expected: Vec<(u32, &'a Expect)>,
     forbidden: Option<Forbidden>,
+    /// Whether there is a map, and stores are not judged by it.
+    map_off: bool,
     /// The ranges whose stores are counted: those that are watched, and then those that the map forbids.
     ranges: Vec<Range>,
 }
@@ -46,6 +48,7 @@ impl<'a> Trial<'a> {
             console: console_of(terms, ready, map)?,
             expected: expected.collect::<Result<_, String>>()?,
             forbidden,
+            map_off: map.is_some() && !judges,
             ranges,
         })
     }
@@ -95,7 +98,8 @@ impl<'a> Trial<'a> {
             console,
             through_traps: self.terms.through_traps,
             may_run_on: self.terms.may_run_on,
-            exit_named: self.terms.exit_at.is_some(),
+            map_off: self.map_off,
+            exit_named: self.terms.names_an_end(),
         })
     }
 

@@ -18,7 +18,7 @@ pub enum Verdict {
     Trapped,
     /// A register or memory does not hold what was expected at the end.
     Wrong,
-    /// The steps were used up, and the program has not ended.
+    /// The program has not ended: the steps were used up, it waits for its timer, or it jumps to itself where its end is not.
     Running,
     Good,
 }
@@ -63,7 +63,10 @@ pub struct Judged {
     pub map: Option<Stores>,
     pub compared: Vec<Compared>,
     pub console: Option<Said>,
-    /// Whether a trap may be handled, whether it may still run at the end, and whether a place was named where it ends.
+    /// Whether there was a map, and its stores were not judged.
+    pub map_off: bool,
+    /// Whether a trap may be handled, whether it may still run at the end, and whether it has to end: a place or a value at
+    /// its end was named.
     pub through_traps: bool,
     pub may_run_on: bool,
     pub exit_named: bool,
@@ -88,21 +91,22 @@ impl Judged {
         let handled = self.through_traps || outcome.counts.trapped == 0;
         match outcome.end {
             _ if self.map.as_ref().is_some_and(Stores::broken) => Verdict::Breaks,
-            End::Trap(_) | End::Stuck => Verdict::Trapped,
+            End::Trap(_) | End::Stuck | End::Unhandled => Verdict::Trapped,
             _ if !handled => Verdict::Trapped,
             _ if !self.wrong().is_empty() => Verdict::Wrong,
-            End::Steps | End::Break if !self.may_run_on => Verdict::Running,
+            End::Astray => Verdict::Running,
+            End::Steps | End::Break | End::Waits(_) if !self.may_run_on => Verdict::Running,
             _ => Verdict::Good,
         }
     }
 
-    /// The status of a run by itself. Whoever asks for so many steps and names no end has them all, so that such a run is
-    /// good where it had no trap.
+    /// The status of a run by itself. Whoever asks for so many steps and names nothing of the end has them all, so that such
+    /// a run is good where it had no trap.
     pub fn status(&self, outcome: &Outcome) -> Status {
         match self.verdict(outcome) {
             Verdict::Good => Status::Ran,
+            Verdict::Running if self.exit_named && outcome.end != End::Break => Status::Running,
             Verdict::Running if outcome.counts.trapped > 0 => Status::Trapped,
-            Verdict::Running if self.exit_named && outcome.end == End::Steps => Status::Running,
             Verdict::Running => Status::Ran,
             _ => Status::Trapped,
         }
@@ -111,7 +115,11 @@ impl Judged {
     pub fn put(&self, outcome: &Outcome, value: &mut Value) {
         let verdict = serde_json::to_value(self.verdict(outcome));
         value["verdict"] = verdict.unwrap_or_default();
-        value["map_stores"] = self.map.as_ref().map(Stores::json).into();
+        value["map_stores"] = match &self.map {
+            Some(map) => map.json(),
+            None if self.map_off => "off".into(),
+            None => Value::Null,
+        };
         value["expected"] = self.compared.iter().map(Compared::json).collect();
         value["console"] = self.console.as_ref().map(Said::json).into();
     }
@@ -145,17 +153,28 @@ mod tests {
 
     #[test]
     fn ends_are_told_apart() {
-        let ends = [End::Still, End::Exit, End::Steps, End::Break, End::Stuck];
+        let ends = [
+            End::Still,
+            End::Exit,
+            End::Steps,
+            End::Break,
+            End::Waits(9),
+            End::Astray,
+            End::Stuck,
+            End::Unhandled,
+        ];
         let verdicts = |judged: &Judged, trapped| {
             let verdict = |end: &End| judged.verdict(&outcome(end.clone(), trapped));
             ends.iter().map(verdict).collect::<Vec<Verdict>>()
         };
         use Verdict::{Good, Running, Trapped};
-        let plain = [Good, Good, Running, Running, Trapped];
+        let plain = [
+            Good, Good, Running, Running, Running, Running, Trapped, Trapped,
+        ];
         assert_eq!(verdicts(&judged(false, false, false), 0), plain);
         assert_eq!(verdicts(&judged(true, false, false), 7), plain);
-        assert_eq!(verdicts(&judged(false, false, false), 7), [Trapped; 5]);
-        let on = [Good, Good, Good, Good, Trapped];
+        assert_eq!(verdicts(&judged(false, false, false), 7), [Trapped; 8]);
+        let on = [Good, Good, Good, Good, Good, Running, Trapped, Trapped];
         assert_eq!(verdicts(&judged(true, true, false), 7), on);
     }
 
@@ -171,6 +190,13 @@ mod tests {
         assert_eq!(status(&judged(true, true, false), End::Steps, 1), 0);
         assert_eq!(status(&judged(true, false, false), End::Still, 1), 0);
         assert_eq!(status(&judged(true, true, false), End::Stuck, 1), 1);
+        assert_eq!(status(&judged(true, true, false), End::Unhandled, 1), 1);
+        // Where an end is named, that it was not come to is said before that traps were handled.
+        assert_eq!(status(&judged(true, false, true), End::Steps, 1), 5);
+        assert_eq!(status(&judged(false, true, true), End::Astray, 0), 5);
+        assert_eq!(status(&judged(false, false, true), End::Waits(9), 0), 5);
+        assert_eq!(status(&judged(false, false, false), End::Waits(9), 0), 0);
+        assert_eq!(status(&judged(true, false, false), End::Waits(9), 1), 1);
     }
 
     #[test]

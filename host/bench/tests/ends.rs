@@ -4,7 +4,7 @@
 mod common;
 
 use common::elf::{program, Symbol};
-use common::{assembled, bench_in, changed, directory, sheet};
+use common::{assembled, bench_in, changed, directory, examples, sheet, SMALL};
 use serde_json::json;
 use std::path::{Path, PathBuf};
 
@@ -55,7 +55,7 @@ fn an_image_that_never_ends_is_not_good_on_a_shelf() {
     assert_eq!(judged(&directory, &on), said(0, "good", "steps", 0));
     let shelf = ["shelf", "shelf", "--board", "board", "--steps", "1000"];
     let answer = bench_in(&directory, &shelf);
-    let count = "1 image: 0 fit and are good; 1 still ran when the steps were used up.\n";
+    let count = "1 image: 0 fit and are good; 1 have not come to their end.\n";
     assert!(answer.out.ends_with(count), "{}", answer.out);
     let painted = bench_in(&directory, &[&shelf[..], &["--color", "always"]].concat());
     assert!(
@@ -251,4 +251,165 @@ fn a_handled_tick_does_not_make_a_run_bad() {
     assert_eq!(judged(&directory, &tick), said(1, "trapped", "trap", 1));
     let through = [&tick[..], &["--through-traps", "--exit-value", "a0=2"]].concat();
     assert_eq!(judged(&directory, &through), said(0, "good", "still", 0));
+}
+
+/// What a shelf says of its one image, and the head of its page.
+fn shelved(directory: &Path, more: &[&str]) -> (serde_json::Value, String) {
+    let shelf = [
+        "shelf", "shelf", "--board", "board", "--report", "pages", "--json",
+    ];
+    let row = bench_in(directory, &[&shelf[..], more].concat()).json()["rows"][0].clone();
+    let pages = std::fs::read_dir(directory.join("pages")).unwrap();
+    let own = pages.map(|entry| entry.unwrap().path());
+    let own = own.filter(|path| {
+        path.file_name()
+            .unwrap()
+            .to_str()
+            .unwrap()
+            .starts_with("one-")
+    });
+    let text = std::fs::read_to_string(own.last().expect("its page")).unwrap();
+    (row, text)
+}
+
+// The board's own handler is the demonstration's: a jump to itself.
+#[test]
+fn a_trap_of_the_demonstration_is_not_handled_by_a_loop() {
+    let run = [&SMALL[..], &["--through-traps"]].concat();
+    let answer = bench_in(&examples(), &run);
+    assert_eq!(answer.status, 1, "{}", answer.out);
+    let told = "1 trapped. Nothing handles the trap: the handler jumps to itself at ";
+    assert!(answer.out.contains(told), "{}", answer.out);
+    let value = bench_in(
+        &examples(),
+        &[&run[..], &["--json", "--may-run-on"]].concat(),
+    )
+    .json();
+    assert_eq!(
+        (&value["verdict"], &value["end"], &value["trap"]["gone_on"]),
+        (&json!("trapped"), &json!("unhandled"), &json!(false))
+    );
+}
+
+/// A call of the environment, whose handler is the jump to itself behind it; by one byte of the second word, the word after that.
+const LOOPS: &str =
+    "auipcc 5 0; cincaddrimm 5 5 16; cspecialrw 0 5 28; ecall; cjal 0 0; addi 0 0 0; cjal 0 0";
+
+#[test]
+fn a_handler_that_loops_handles_nothing() {
+    let (directory, bytes) = with_image("ends_unhandled", LOOPS);
+    let through = ["--through-traps", "--steps", "1000"];
+    assert_eq!(
+        judged(&directory, &through),
+        said(1, "trapped", "unhandled", 1)
+    );
+    let (row, page) = shelved(&directory, &through);
+    let why = "environment call (ECALL); nothing handles the trap: the handler jumps to itself at 20000010";
+    assert_eq!((&row["run"], &row["why"]), (&json!("trapped"), &json!(why)));
+    let line = "1 trapped. Nothing handles the trap: the handler jumps to itself at 20000010.";
+    assert!(
+        page.contains("It traps, and nothing handles it.") && page.contains(line),
+        "{page}"
+    );
+    // One byte: the handler does something before it loops, which is not seen; an end that is named tells it.
+    put(&directory, &changed(&bytes, 6, 0x02, 0x42));
+    assert_eq!(judged(&directory, &through), said(0, "good", "still", 0));
+    let named = [&through[..], &["--exit-at", "0x20000010"]].concat();
+    assert_eq!(judged(&directory, &named), said(5, "running", "astray", 5));
+}
+
+#[test]
+fn a_jump_to_itself_is_no_end_where_another_is_named() {
+    let (directory, _) = with_image(
+        "ends_astray",
+        "bne 10 10 8; addi 11 0 1; cjal 0 0; cjal 0 0",
+    );
+    let at = |address: &'static str| ["--steps", "1000", "--exit-at", address];
+    assert_eq!(
+        judged(&directory, &at("0x20000008")),
+        said(0, "good", "exit", 0)
+    );
+    assert_eq!(
+        judged(&directory, &at("0x2000000c")),
+        said(5, "running", "astray", 5)
+    );
+    // That it may run on does not make it good: it runs nowhere.
+    let on = [&at("0x2000000c")[..], &["--may-run-on"]].concat();
+    assert_eq!(judged(&directory, &on), said(5, "running", "astray", 5));
+    let run = ["run", "--map", "board", "shelf/one"];
+    let answer = bench_in(&directory, &[&run[..], &at("0x2000000c")].concat());
+    let told = "The program has not come to its end: it jumps to itself at 20000008.\n";
+    assert!(answer.out.contains(told), "{}", answer.out);
+    let (row, page) = shelved(&directory, &at("0x2000000c"));
+    let why = "the program has not come to its end: it jumps to itself at 20000008";
+    assert_eq!((&row["run"], &row["why"]), (&json!("running"), &json!(why)));
+    assert!(
+        page.contains("It ran without a trap, and has not ended."),
+        "{page}"
+    );
+    // Without an end that is named it is one.
+    assert_eq!(
+        judged(&directory, &["--steps", "1000"]),
+        said(0, "good", "still", 0)
+    );
+}
+
+#[test]
+fn what_is_expected_at_the_end_needs_an_end() {
+    let (directory, bytes) = with_image("ends_expected", COUNTS);
+    put(&directory, &changed(&bytes, 6, 0xA5, 0x05));
+    for expected in [["--exit-value", "a0=500"], ["--expect", "0x20000000=13"]] {
+        let more = [&["--steps", "1000"][..], &expected].concat();
+        assert_eq!(judged(&directory, &more), said(5, "running", "steps", 5));
+        let on = [&more[..], &["--may-run-on"]].concat();
+        assert_eq!(judged(&directory, &on), said(0, "good", "steps", 0));
+    }
+    let wrong = ["--steps", "1000", "--exit-value", "a0=1"];
+    assert_eq!(judged(&directory, &wrong), said(1, "wrong", "steps", 1));
+}
+
+// The handler returns behind the call, and the program goes back to it.
+#[test]
+fn run_and_shelf_agree_on_traps_before_an_end_that_is_not_come_to() {
+    let calls = CALLS.replacen("cjal 0 0; addi 0 0 0", "cjal 0 -4; cjal 0 0", 1);
+    let (directory, _) = with_image("ends_agree", &calls);
+    let through = ["--through-traps", "--steps", "1001"];
+    assert_eq!(judged(&directory, &through), said(1, "running", "steps", 5));
+    let named = [&through[..], &["--exit-at", "0x20000014"]].concat();
+    assert_eq!(judged(&directory, &named), said(5, "running", "steps", 5));
+}
+
+#[test]
+fn an_image_that_waits_for_its_timer_has_not_ended() {
+    let (directory, bytes) = with_image("ends_waits", "csrrwi 0 768 8; cjal 0 0");
+    let tick = ["--compare", "5000", "--steps", "1000"];
+    assert_eq!(judged(&directory, &tick), said(0, "running", "waits", 5));
+    let on = [&tick[..], &["--may-run-on"]].concat();
+    assert_eq!(judged(&directory, &on), said(0, "good", "waits", 0));
+    let (row, _) = shelved(&directory, &tick);
+    let why = "the program waits: it jumps to itself at 20000004, and the timer would interrupt it in 4,999 steps, \
+               which is more than were left";
+    assert_eq!((&row["run"], &row["why"]), (&json!("running"), &json!(why)));
+    // Nobody has set the timer, or one byte: interrupts are off.
+    assert_eq!(judged(&directory, &[]), said(0, "good", "still", 0));
+    put(&directory, &changed(&bytes, 2, 0x04, 0x00));
+    assert_eq!(judged(&directory, &tick), said(0, "good", "still", 0));
+}
+
+// A program that clears mcause and mtval in its handler leaves no trap to tell, and it is counted nevertheless.
+#[test]
+fn a_page_says_traps_by_their_count() {
+    let code = "auipcc 5 0; cincaddrimm 5 5 24; cspecialrw 0 5 28; ecall; csrrw 0 0 834; cjal 0 0; \
+                cspecialrw 6 0 31; cincaddrimm 6 6 4; cspecialrw 0 6 31; csrrw 0 0 834; csrrw 0 0 835; mret";
+    let (directory, _) = with_image("ends_page", code);
+    let through = ["--through-traps", "--steps", "1000"];
+    assert_eq!(judged(&directory, &through), said(0, "good", "still", 0));
+    let run = ["run", "--map", "board", "shelf/one", "--json"];
+    let value = bench_in(&directory, &[&run[..], &through].concat()).json();
+    assert_eq!(
+        (&value["trapped"], &value["trap"]),
+        (&json!(1), &json!(null))
+    );
+    let (_, page) = shelved(&directory, &through);
+    assert!(page.contains("It ran to its end, through traps."), "{page}");
 }

@@ -315,3 +315,88 @@ fn kept_results_are_of_the_same_options() {
         assert_eq!(shelf(more), "", "{more:?}");
     }
 }
+
+// What may be given once is refused a second time, and is not left out.
+#[test]
+fn options_that_may_be_given_once_are_refused_a_second_time() {
+    let (directory, _) = with_image("given_twice", SAYS);
+    let run = ["run", "shelf/image", "--map", "board"];
+    let shelf = ["shelf", "shelf", "--board", "board"];
+    let first = ["--signature", "0x20000300", "4", "a"];
+    let second = ["--signature", "0x20000300", "4", "b"];
+    assert_eq!(bench_in(&directory, &[&run[..], &first].concat()).status, 0);
+    let mut commands = vec![[&run[..], &first, &second].concat()];
+    for option in ["--window", "--stack"] {
+        let once = [option, "0", "64"];
+        for command in [&run[..], &shelf] {
+            assert_eq!(bench_in(&directory, &[command, &once].concat()).status, 0);
+            commands.push([command, &once, &once].concat());
+        }
+    }
+    for command in commands {
+        let answer = bench_in(&directory, &command);
+        assert_eq!((answer.status, answer.out.as_str()), (3, ""), "{command:?}");
+        assert!(
+            answer.err.contains("cannot be used multiple times"),
+            "{}",
+            answer.err
+        );
+    }
+    assert!(!directory.join("b").exists());
+}
+
+#[test]
+fn what_no_image_can_meet_is_bad_usage_of_a_shelf() {
+    let (directory, _) = with_image("shelf_usage", SAYS);
+    let shelf = ["shelf", "shelf", "--board", "board", "--results", "results"];
+    let watch = ["--watch", "0", "4"].repeat(3);
+    for (more, status, said) in [
+        (&watch[..], 3, "--watch is given at most twice"),
+        (
+            &["--revoke", "0x20000244", "8"],
+            3,
+            "--revoke 0x20000244 8: a granule",
+        ),
+        (
+            &["--revoke", "0x20000340", "8"],
+            3,
+            "not all inside the window",
+        ),
+        (
+            &["--console", "0x30000000"],
+            3,
+            "--console 30000000: not all inside memory",
+        ),
+        (
+            &["--expect", "0x30000000=00"],
+            3,
+            "--expect 30000000: not all inside memory",
+        ),
+        (&["--exit-at", "0x20000001"], 3, "odd"),
+        (
+            &["--stack", "0xffffffff", "16"],
+            3,
+            "the stack ends past 2^32",
+        ),
+        (&["--size", "100"], 2, "refused, number 2"),
+    ] {
+        let answer = bench_in(&directory, &[&shelf[..], more].concat());
+        assert_eq!(
+            (answer.status, answer.out.as_str()),
+            (status, ""),
+            "{more:?}"
+        );
+        assert!(answer.err.contains(said), "{}", answer.err);
+        assert!(!directory.join("results").exists());
+    }
+    // A symbol is an image's own: each has a row that says whether it has it.
+    for option in ["--console", "--exit-at"] {
+        let answer = bench_in(&directory, &[&shelf[..], &[option, "somewhere"]].concat());
+        assert_eq!(answer.status, 1, "{}", answer.err);
+        assert!(
+            answer.out.contains("no symbol or line of an image"),
+            "{}",
+            answer.out
+        );
+    }
+}

@@ -73,11 +73,17 @@ fn a_payload_outside_its_label_is_refused_everywhere() {
     write(&directory, "image", &changed(&good, place, b'8', b'7'));
     let answers = everywhere(&directory);
     assert_eq!(answers.each_ref().map(|answer| answer.0), [1, 2, 1]);
-    let said = "image: raw bytes at [20000000, 20000018): 20000017 lies in no region of the image's label; \
+    let said =
+        "raw bytes at [20000000, 20000018): 20000017 lies in no region of the image's label; \
                 the nearest is mine, [20000000, 20000017), which ends there";
     for (_, text) in &answers {
         assert!(text.contains(said), "{text}");
     }
+    // A shelf has the name before it.
+    let named = answers
+        .each_ref()
+        .map(|answer| answer.1.contains(&format!("image: {said}")));
+    assert_eq!(named, [true, true, false], "{answers:?}");
     let value = bench_in(&directory, &["fit", "board", "image", "--json"]).json();
     let outside = &value["images"][0]["outside"];
     assert_eq!(
@@ -143,6 +149,8 @@ fn a_file_without_a_label_is_held_to_the_board() {
                 "board",
                 "--start",
                 "0x20000000",
+                "--size",
+                "0x1000",
                 "--csv",
             ],
         );
@@ -214,12 +222,26 @@ fn a_header_of_another_core_is_told() {
             usize::from(said.is_some())
         );
         let shelf = bench_in(&directory, &["shelf", "shelf", "--board", "board"]);
+        let reach = bench_in(
+            &directory,
+            &[
+                "reach",
+                "--map",
+                "board",
+                "image",
+                "--report",
+                "page.html",
+                "--json",
+            ],
+        );
+        let page = std::fs::read_to_string(directory.join("page.html")).unwrap();
+        let notes = reach.json()["notes"].as_array().unwrap().len();
+        assert_eq!(notes, usize::from(said.is_some()));
         if let Some(text) = said {
-            assert!(
-                answer.err.contains(text) && shelf.out.contains(text),
-                "{}",
-                answer.err
-            );
+            for told in [&answer.err, &shelf.out, &reach.err, &page] {
+                assert!(told.contains(text), "{told}");
+            }
+            assert!(!shelf.out.contains("image: its header"), "{}", shelf.out);
         }
     }
     for (place, to, said) in [
@@ -267,9 +289,10 @@ fn one_byte_decides_whether_a_store_breaks_the_map() {
             &directory,
             &["run", "--map", "board", "image", "--map-stores", "off"],
         );
+        let told = "Map: stores were not judged (--map-stores off).\n";
         assert_eq!(
-            (off.status, off.out.contains("map")),
-            (0, false),
+            (off.status, off.out.contains(told)),
+            (0, true),
             "{}",
             off.out
         );
@@ -360,4 +383,202 @@ fn a_map_that_may_be_written_everywhere_judges_nothing() {
     assert_eq!(answer.status, 0);
     let said = "Map: every byte of memory may be written, so that no store was judged. Loads are not counted.\n";
     assert!(answer.out.contains(said), "{}", answer.out);
+}
+
+#[test]
+fn that_stores_were_not_judged_is_said_in_every_form() {
+    let directory = board("stores_off");
+    write(&directory, "image", &storing(&directory, HOLE));
+    let run = [
+        "run",
+        "--map",
+        "board",
+        "image",
+        "--json",
+        "--report",
+        "page.html",
+    ];
+    let off = bench_in(&directory, &[&run[..], &["--map-stores", "off"]].concat());
+    let page = std::fs::read_to_string(directory.join("page.html")).unwrap();
+    assert_eq!((off.status, &off.json()["map_stores"]), (0, &json!("off")));
+    assert!(
+        page.contains("Map: stores were not judged (--map-stores off)."),
+        "{page}"
+    );
+    let none = bench_in(&directory, &["run", "image", "--json"]).json();
+    assert_eq!(none["map_stores"], json!(null));
+}
+
+// A note of the label's own payload.
+#[test]
+fn a_fit_tells_of_another_core() {
+    let directory = board("fit_notes");
+    let elf = one_segment(&assembled(&directory, STORES));
+    let label = ["mine 20000000 00000100 rx"];
+    for (flags, notes) in [(8, 0), (0, 1)] {
+        write(
+            &directory,
+            "image",
+            &labelled(&label, &changed(&elf, 36, 8, flags)),
+        );
+        let answer = bench_in(&directory, &["fit", "board", "image", "--json"]);
+        let told = answer.json()["images"][0]["notes"]
+            .as_array()
+            .unwrap()
+            .len();
+        assert_eq!((answer.status, told), (0, notes), "{}", answer.err);
+        assert_eq!(
+            answer.err.contains("32 registers"),
+            notes == 1,
+            "{}",
+            answer.err
+        );
+    }
+}
+
+// A label and a board may end at 2^32; bytes may not go on after that.
+#[test]
+fn a_payload_that_ends_past_2_to_the_32_does_not_fit() {
+    let directory = board("payload_past");
+    std::fs::write(
+        directory.join("board"),
+        sheet(&["all ffff0000 00010000 rwx"]),
+    )
+    .unwrap();
+    let label = ["mine fffffffc 00000004 rx"];
+    let code = assembled(&directory, "cjal 0 0; addi 0 0 0");
+    write(&directory, "image", &labelled(&label, &code[..4]));
+    assert_eq!(bench_in(&directory, &["fit", "board", "image"]).status, 0);
+    write(&directory, "image", &labelled(&label, &code));
+    let answers = everywhere(&directory);
+    assert_eq!(
+        answers.each_ref().map(|answer| answer.0),
+        [1, 3, 1],
+        "{answers:?}"
+    );
+    for (_, text) in &answers {
+        assert!(text.contains("payload: the bytes end past 2^32"), "{text}");
+    }
+    let raw = ["run", "--start", "0xffffffc0", "--size", "64", "long"];
+    for (bytes, status) in [(64, 1), (65, 3)] {
+        std::fs::write(directory.join("long"), vec![0; bytes]).unwrap();
+        let answer = bench_in(&directory, &raw);
+        assert_eq!(answer.status, status, "{}", answer.err);
+        assert_eq!(answer.err.contains("the bytes end past 2^32"), status == 3);
+    }
+}
+
+/// A shelf with one good image, and a file of the board's own beside it.
+fn with_own(directory: &Path, own: &[u8], more: &[&str]) -> (i32, String, String) {
+    let code = assembled(directory, STORES);
+    write(
+        directory,
+        "image",
+        &labelled(&["mine 20000000 00000018 rx"], &code),
+    );
+    std::fs::write(directory.join("own"), own).unwrap();
+    let shelf = ["shelf", "shelf", "--board", "board", "--with", "own"];
+    let answer = bench_in(directory, &[&shelf[..], more].concat());
+    (answer.status, answer.out, answer.err)
+}
+
+#[test]
+fn the_boards_own_files_are_judged_once_and_first() {
+    let directory = board("own_files");
+    let own = labelled(&["own 20000040 00000004 rx"], &[0; 4]);
+    let (status, out, err) = with_own(&directory, &own, &[]);
+    assert_eq!((status, err.as_str()), (0, ""), "{out}");
+    // One byte of its label: no region of the board has w there; or its payload is longer; or it has none, and lies elsewhere.
+    let place = sheet(&["own 20000040 00000004 rx"]).len() - 2;
+    let long = labelled(&["own 20000040 00000004 rx"], &[0; 5]);
+    for (own, said) in [
+        (changed(&own, place, b'x', b'w'), "own does not fit board"),
+        (long, "20000044 lies in no region of the image's label"),
+        (
+            hex(0x300, &[0; 4]),
+            "20000300 lies in no region of the board's sheet",
+        ),
+    ] {
+        let (status, out, err) = with_own(&directory, &own, &[]);
+        assert_eq!((status, out.as_str()), (2, ""), "{err}");
+        assert!(err.contains(said), "{err}");
+        let (status, out, _) = with_own(&directory, &own, &["--json"]);
+        assert!(status == 2 && out.contains("\"refused\""), "{out}");
+    }
+    let (status, _, err) = with_own(&directory, b":00", &[]);
+    assert!(status == 3 && err.contains("own: line 1"), "{err}");
+}
+
+// With --format raw the label is the first bytes of the code, for the judgement too.
+#[test]
+fn a_shelf_judges_and_loads_by_one_format() {
+    let directory = board("one_format");
+    let code = assembled(&directory, STORES);
+    write(
+        &directory,
+        "image",
+        &labelled(&["mine 20000000 00000018 rx"], &code),
+    );
+    let shelf = ["shelf", "shelf", "--board", "board", "--json"];
+    for (format, label, run) in [
+        ("auto", "fits", "ended"),
+        ("labelled", "fits", "ended"),
+        ("raw", "none", "trapped"),
+        ("elf", "none", "no"),
+        ("hex", "none", "no"),
+    ] {
+        let answer = bench_in(&directory, &[&shelf[..], &["--format", format]].concat());
+        let row = &answer.json()["rows"][0];
+        assert_eq!(
+            (&row["label"], &row["run"]),
+            (&json!(label), &json!(run)),
+            "{row}"
+        );
+    }
+    write(&directory, "image", &code);
+    let answer = bench_in(
+        &directory,
+        &[&shelf[..], &["--format", "labelled"]].concat(),
+    );
+    assert_eq!(answer.json()["rows"][0]["label"], "bad");
+}
+
+// A store over the edge of two parts is one store, and is told of both.
+#[test]
+fn a_store_into_two_parts_is_one_store() {
+    let directory = board("stores_one");
+    let code =
+        "cspecialrw 2 0 29; lui 5 131072; csetaddr 2 2 5; csc 2 0 248; csw 2 10 508; cjal 0 0";
+    write(&directory, "image", &assembled(&directory, code));
+    let sheets = sheet(&BOARD).replacen("20000000\t00000100", "20000000\t000000fc", 1);
+    let sheets = sheets.replacen("20000100\t00000100", "200000fc\t00000104", 1);
+    std::fs::write(directory.join("board"), sheets).unwrap();
+    let value = bench_in(&directory, &["run", "--map", "board", "image", "--json"]).json();
+    let stores = &value["map_stores"];
+    let parts = stores["parts"].as_array().unwrap();
+    let counts: Vec<_> = parts.iter().map(|part| &part["stores"]).collect();
+    assert_eq!(counts[..2], [&json!(1), &json!(2)], "{stores}");
+    assert_eq!(stores["stores"], 2);
+    let shelf = ["shelf", "shelf", "--board", "board", "--json"];
+    let row = &bench_in(&directory, &shelf).json()["rows"][0];
+    assert_eq!(row["map_stores"], 2);
+    let why = "1 store into code, [20000000, 200000fc) rx; 2 stores into table, [200000fc, 20000200) r; the first is step 4";
+    assert_eq!(row["why"], why);
+}
+
+#[test]
+fn no_reach_is_told_of_what_lies_outside_the_board() {
+    let directory = board("reach_outside");
+    std::fs::write(directory.join("image"), hex(0x300, &[0; 4])).unwrap();
+    let run = |command: &str| {
+        let words = [command, "--map", "board", "image", "--json"];
+        let answer = bench_in(&directory, &words);
+        (answer.status, answer.out, answer.err)
+    };
+    let answer = run("reach");
+    assert_eq!(answer, run("run"));
+    assert!(
+        answer.0 == 2 && answer.1.contains("\"nearest\""),
+        "{answer:?}"
+    );
 }

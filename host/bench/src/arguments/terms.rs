@@ -23,7 +23,7 @@ pub struct Setting {
     pub size: Option<u64>,
     /// The part of memory that has revocation bits, its start counted from memory's [default: the
     /// map's region heap, else all of memory]
-    #[arg(long, value_names = ["START", "SIZE"], num_args = 2, value_parser = word)]
+    #[arg(long, value_names = ["START", "SIZE"], num_args = 2, value_parser = word, action = ArgAction::Set)]
     pub window: Option<Vec<u32>>,
     /// Set the revocation bits of a range of addresses at the start, whole granules of 8 bytes in the window; may be
     /// given again
@@ -31,7 +31,7 @@ pub struct Setting {
     pub revoke: Vec<u32>,
     /// The stack that the mark is set for, by its first address and its bytes [default: the map's region
     /// stack, else none]
-    #[arg(long, value_names = ["START", "SIZE"], num_args = 2, value_parser = word)]
+    #[arg(long, value_names = ["START", "SIZE"], num_args = 2, value_parser = word, action = ArgAction::Set)]
     pub stack: Option<Vec<u32>>,
     /// The time at the start, which goes on by one a step [default: 0, or the saved state's]
     #[arg(long, value_name = "NUMBER", value_parser = number)]
@@ -68,17 +68,18 @@ pub struct Terms {
     /// Go on after a trap, at MTCC; a run that then ends is good
     #[arg(long)]
     pub through_traps: bool,
-    /// The program has ended where it comes to an address or a symbol of the image, besides where it jumps to itself;
-    /// the steps are then made one by one
+    /// The program has ended where it comes to an address or a symbol of the image, and nowhere else; the steps are then
+    /// made one by one
     #[arg(long, value_name = "ADDRESS|SYMBOL")]
     pub exit_at: Option<String>,
-    /// A program that has not ended when the steps are used up is good nevertheless
+    /// A program that still runs when the steps are used up, or waits for its timer, is good nevertheless
     #[arg(long)]
     pub may_run_on: bool,
-    /// What a register's address must be at the end; may be given again
+    /// What a register's address must be at the end, which the program has to come to; may be given again
     #[arg(long, value_name = "REGISTER=VALUE", value_parser = exit_value)]
     pub exit_value: Vec<ExitValue>,
-    /// The bytes, as pairs of digits, that must be at an address or a symbol at the end; may be given again
+    /// The bytes, as pairs of digits, that must be at an address or a symbol at the end, which the program has to come to;
+    /// may be given again
     #[arg(long, value_name = "ADDRESS=HEX", value_parser = expect)]
     pub expect: Vec<Expect>,
     /// Show each byte that is stored to an address or a symbol as text, as it comes [default: the start of the map's region
@@ -88,6 +89,23 @@ pub struct Terms {
     /// Whether stores into a hole of the map, or a region of it without w, are counted and make the run bad
     #[arg(long, value_name = "WHETHER", value_enum, default_value_t)]
     pub map_stores: MapStores,
+}
+
+impl Terms {
+    /// Whether something of the end is named, so that the program has to come to one.
+    pub fn names_an_end(&self) -> bool {
+        self.exit_at.is_some() || !self.exit_value.is_empty() || !self.expect.is_empty()
+    }
+
+    /// What of them is the same for any image: without the places that may be symbols or lines of it.
+    pub fn of_any_image(&self) -> Terms {
+        let is_number = |place: &String| number(place).is_ok();
+        let mut terms = self.clone();
+        terms.exit_at = terms.exit_at.filter(is_number);
+        terms.console = terms.console.filter(is_number);
+        terms.expect.retain(|expect| is_number(&expect.place));
+        terms
+    }
 }
 
 /// Whether stores are judged by the map.

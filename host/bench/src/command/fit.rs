@@ -8,7 +8,7 @@ use crate::payload::{self, Outside};
 use crate::proved::sheets::{self, BadLine, Fit, Label, BAD_BOARD, BAD_IMAGE};
 use crate::sheet::label::{placed, Placed};
 use crate::sheet::{self, letters, Bad, Sheet};
-use crate::{file, json, Status};
+use crate::{complain, file, json, Status};
 use std::path::Path;
 
 /// A board: the bytes of its sheet, which is good, and its regions.
@@ -58,6 +58,8 @@ pub struct Beside<'a> {
     pub outside: Option<Outside>,
     /// Why its payload cannot be loaded.
     pub broken: Option<String>,
+    /// What its payload's header says of another core.
+    pub notes: Vec<String>,
 }
 
 impl Beside<'_> {
@@ -67,16 +69,16 @@ impl Beside<'_> {
         // What a label that does not fit holds is not looked at.
         let loaded = if fits { image.loaded() } else { Ok(None) };
         let regions = &board.sheet.regions;
-        let outside = loaded
-            .as_ref()
-            .ok()
-            .and_then(|image| payload::outside(image.as_ref()?, regions));
+        let payload = loaded.as_ref().ok().and_then(Option::as_ref);
+        let outside = payload.and_then(|image| payload::outside(image, regions));
+        let notes = payload.map_or(Vec::new(), |image| image.notes.clone());
         Beside {
             path: image.path,
             fits: fits && outside.is_none(),
             regions: placed(&image.label.regions, regions, fits),
             outside,
             broken: loaded.err(),
+            notes,
         }
     }
 
@@ -137,6 +139,8 @@ fn conclude(asked: &Asked, board: &Board, images: &[Vec<u8>]) -> Result<Status, 
             length: bytes.len() - label.payload,
         }
     });
+    let notes = images.iter().flat_map(|image| &image.notes);
+    notes.for_each(|note| complain(note));
     if asked.json {
         say_json(&json::fit(chosen.as_ref(), &images))?;
     } else {

@@ -40,11 +40,7 @@ pub fn run(asked: Run) -> Result<Status, String> {
             Err(Halt::Refused(refusal, state)) => {
                 return refused_state(refusal, &state, asked.json)
             }
-            Err(Halt::Outside(outside)) => {
-                let said = outside.reason();
-                task.write_page(|| page::of(&task.subject(&[])?, &Answer::Outside(said)))?;
-                return refused_outside(&outside, asked.json);
-            }
+            Err(Halt::Outside(outside)) => return task.outside(&outside),
             Err(Halt::Bad(reason)) => return Err(reason),
             Ok(ready) => ready,
         };
@@ -85,7 +81,7 @@ pub fn with_files(
         page: page.transpose()?,
     };
     if let Some(image) = fits.iter().find(|image| !image.fits) {
-        task.write_page(|| page::of(&task.subject(&[])?, &Answer::Misfit))?;
+        task.write_page(|| page::of(&task.subject(None)?, &Answer::Misfit))?;
         return misfit(asked, image);
     }
     go_on(&task, &labelled)
@@ -141,14 +137,21 @@ impl<'a> Task<'a> {
         });
         let signed = signature.map_or(Ok(()), |signature| signature.write(&ready.state));
         let paged = last.map_or(Ok(()), |last| {
-            let subject = self.subject(&ready.segments);
+            let subject = self.subject(Some(&ready));
             self.write_page(|| ran_page(&subject?, &account, &before, &last))
         });
         saved.and(signed).and(paged).and(said)
     }
 
-    /// What the page is about.
-    pub fn subject(&self, segments: &'a [Segment]) -> Result<Subject<'a>, String> {
+    /// Says that a byte of an image lies outside the board, on the page too; nothing is run.
+    pub fn outside(&self, outside: &Outside) -> Result<Status, String> {
+        let said = outside.reason();
+        self.write_page(|| page::of(&self.subject(None)?, &Answer::Outside(said)))?;
+        refused_outside(outside, self.asked.json)
+    }
+
+    /// What the page is about, with what is ready, if something is.
+    pub fn subject(&self, ready: Option<&'a Ready>) -> Result<Subject<'a>, String> {
         let images = self.asked.images.iter().zip(self.files);
         let mut files: Vec<Source> = images
             .map(|(path, bytes)| Source::of(path, bytes))
@@ -160,8 +163,9 @@ impl<'a> Task<'a> {
         Ok(Subject {
             files,
             board: named.map(|(path, board)| (Source::of(path, &board.bytes), &board.sheet)),
-            segments,
+            segments: ready.map_or(&[], |ready| &ready.segments),
             fits: self.fits,
+            notes: ready.map_or(&[], |ready| &ready.notes),
         })
     }
 
@@ -423,23 +427,11 @@ fn refused_after(outcome: &Outcome) -> impl Fn(Refusal) -> Refused {
 fn drive(
     asked: &Run,
     ready: &mut Ready,
-    mut last: Option<&mut Last>,
+    last: Option<&mut Last>,
     (look, trial): (&mut Look, &Trial),
 ) -> Result<(Outcome, Option<Said>), Refused> {
     let bar = progress(asked);
-    let mut number = 0;
-    let mut watch = |before: &State, after: &State, made: Counts| {
-        if let Some(last) = &mut last {
-            last.see(number, before);
-        }
-        number += made.steps();
-        if asked.trace {
-            let line = trace::line(number, before, after, made);
-            return tell(asked.json, &line) || asked.save.is_some();
-        }
-        bar.set_position(number);
-        true
-    };
+    let mut watch = watch(asked, &bar, last);
     let show = |text: &str| match asked.json {
         true => (),
         false => bar.suspend(|| say_bytes(text.as_bytes()).unwrap_or(())),
@@ -460,6 +452,27 @@ fn drive(
     let outcome = drive::run(&mut ready.state, plan);
     bar.finish_and_clear();
     outcome.map(|outcome| (outcome, console.map(Console::said)))
+}
+
+/// Who is shown each call of a run, keeps states on the way and shows a line a step, or how far it has come.
+fn watch<'a>(
+    asked: &'a Run,
+    bar: &'a ProgressBar,
+    mut last: Option<&'a mut Last>,
+) -> impl FnMut(&State, &State, Counts) -> bool + 'a {
+    let mut number = 0;
+    move |before, after, made| {
+        if let Some(last) = &mut last {
+            last.see(number, before);
+        }
+        number += made.steps();
+        if asked.trace {
+            let line = trace::line(number, before, after, made);
+            return tell(asked.json, &line) || asked.save.is_some();
+        }
+        bar.set_position(number);
+        true
+    }
 }
 
 /// A bar on standard error for long runs; it draws nothing where that is no terminal.

@@ -9,7 +9,7 @@ use crate::command::look::even_place;
 use crate::command::run::{ran_page, ready, Halt, Ready};
 use crate::console::Console;
 use crate::drive::{self, Outcome, Plan, Refused};
-use crate::image::{self, Format, Segment};
+use crate::image;
 use crate::last::Last;
 use crate::page::{self, Answer, Source, Subject, LAST};
 use crate::payload::Outside;
@@ -59,7 +59,7 @@ struct Image<'a> {
 
 impl Image<'_> {
     fn judged(&self, mut row: Row) -> Result<Judged, String> {
-        if !image::is_labelled(Format::Auto, self.bytes) {
+        if !image::is_labelled(self.shelf.setting.format, self.bytes) {
             row.label = Label::None;
             return self.run(row, &[]);
         }
@@ -76,8 +76,8 @@ impl Image<'_> {
             return self.run(row, &fits);
         }
         row.label = Label::Misfit;
-        row.why = reasons(&fits[0]);
-        let page = self.page(|| page::of(&self.subject(&[], &fits), &Answer::Misfit));
+        row.why = self.unnamed(reasons(&fits[0]));
+        let page = self.page(|| page::of(&self.subject(None, &fits), &Answer::Misfit));
         Ok(Judged {
             row,
             page: page.transpose()?,
@@ -126,11 +126,11 @@ impl Image<'_> {
         let judged = (&judged, asked.terms.sweep.is_some());
         let account = Account::of(&ready.state, &outcome, named, fits, judged);
         row.take(&account);
-        row.note = (!ready.notes.is_empty()).then(|| ready.notes.join("; "));
+        row.note = self.note(&ready);
         if let Err(why) = self.reach(&mut row, &ready, &before) {
-            return self.bad(row, why);
+            row.miss(&why);
         }
-        let subject = || self.subject(&ready.segments, fits);
+        let subject = || self.subject(Some(&ready), fits);
         let page = self.page(|| ran_page(&subject(), &account, &before, &last));
         Ok(Judged {
             row,
@@ -141,29 +141,23 @@ impl Image<'_> {
     /// An image of which a byte lies outside the board.
     fn outside(&self, mut row: Row, outside: &Outside) -> Result<Judged, String> {
         row.label = Label::Misfit;
-        row.why = outside.reason();
+        row.why = self.unnamed(outside.reason());
         let answer = Answer::Outside(row.why.clone());
-        let page = self.page(|| page::of(&self.subject(&[], &[]), &answer));
+        let page = self.page(|| page::of(&self.subject(None, &[]), &answer));
         Ok(Judged {
             row,
             page: page.transpose()?,
         })
     }
 
-    /// What any run of the image from the handover on may do, where that is asked for.
+    /// What any run of the image from the handover on may do, where that is asked for; or why that is not known.
     fn reach(&self, row: &mut Row, ready: &Ready, before: &State) -> Result<(), String> {
         let Some(place) = &self.shelf.handover else {
             return Ok(());
         };
         let at = even_place("--handover", place, ready)?;
         let mut state = before.clone();
-        let steps = match handover::arrive(&mut state, at, self.shelf.terms.steps) {
-            Ok(steps) => Some(steps),
-            Err(why) => {
-                row.miss(&why);
-                return Ok(());
-            }
-        };
+        let steps = Some(handover::arrive(&mut state, at, self.shelf.terms.steps)?);
         let rows = rows(&state, &self.shelf.board.sheet);
         let rows = rows.map_err(|refusal| report::refused(refusal, &state))?;
         row.take_reach(&reach::Account {
@@ -175,14 +169,26 @@ impl Image<'_> {
         Ok(())
     }
 
-    /// An image that cannot be judged or run, and why; its own name is not said again.
-    fn bad(&self, mut row: Row, why: String) -> Result<Judged, String> {
+    /// What is said of the image, which does not name it again.
+    fn unnamed(&self, said: String) -> String {
         let own = [self.shelf.folder.join(self.name), self.name.into()];
         let own = own.map(|path| format!("{}: ", path.display()));
-        let short = own.iter().find_map(|own| why.strip_prefix(own));
-        row.why = short.unwrap_or(&why).into();
+        let short = own.iter().find_map(|own| said.strip_prefix(own));
+        short.map(str::to_string).unwrap_or(said)
+    }
+
+    /// What headers say of another core.
+    fn note(&self, ready: &Ready) -> Option<String> {
+        let notes = ready.notes.iter().cloned();
+        let notes: Vec<String> = notes.map(|note| self.unnamed(note)).collect();
+        (!notes.is_empty()).then(|| notes.join("; "))
+    }
+
+    /// An image that cannot be judged or run, and why.
+    fn bad(&self, mut row: Row, why: String) -> Result<Judged, String> {
+        row.why = self.unnamed(why);
         let answer = Answer::Bad(row.why.clone());
-        let page = self.page(|| page::of(&self.subject(&[], &[]), &answer));
+        let page = self.page(|| page::of(&self.subject(None, &[]), &answer));
         Ok(Judged {
             row,
             page: page.transpose()?,
@@ -193,7 +199,7 @@ impl Image<'_> {
         self.shelf.pages.as_ref().map(|_| made())
     }
 
-    fn subject<'b>(&'b self, segments: &'b [Segment], fits: &'b [Beside<'b>]) -> Subject<'b> {
+    fn subject<'b>(&'b self, ready: Option<&'b Ready>, fits: &'b [Beside<'b>]) -> Subject<'b> {
         let own = self.shelf.with.iter();
         let own = own.map(|(path, bytes)| Source::of(path, bytes));
         let (name, board) = (&self.shelf.board_name, &self.shelf.board);
@@ -203,8 +209,9 @@ impl Image<'_> {
                 .chain(own)
                 .collect(),
             board: Some((Source::of(name, &board.bytes), &board.sheet)),
-            segments,
+            segments: ready.map_or(&[], |ready| &ready.segments),
             fits,
+            notes: ready.map_or(&[], |ready| &ready.notes),
         }
     }
 }
@@ -267,6 +274,7 @@ mod tests {
             board: None,
             segments: &[],
             fits: &[],
+            notes: &[],
         };
         let page = page::of(&subject, &Answer::Bad(why)).unwrap();
         assert!(page.contains("c4 [05000000, 04000000)"));

@@ -2,9 +2,9 @@
 
 use crate::account::Account;
 use crate::drive::End;
-use crate::map_stores::Stores;
 use crate::proved::instruction;
 use crate::reach::{self, text};
+use crate::report;
 use crate::stack::Used;
 use crate::verdict::Verdict;
 use serde::{Deserialize, Serialize};
@@ -27,7 +27,7 @@ pub enum Label {
 pub enum Ran {
     /// To its end: it jumps to itself, or came to where it ends.
     Ended,
-    /// All the steps that were asked for.
+    /// It has not come to its end, by the steps that were asked for or where it stands.
     Running,
     Trapped,
     /// It was not run.
@@ -41,7 +41,7 @@ pub enum Kept {
     Holds,
     /// A run could do what none may.
     Could,
-    /// The handover was not reached.
+    /// The handover is no place of the image, or was not reached.
     Missed,
 }
 
@@ -127,8 +127,8 @@ impl Row {
         let (outcome, trap) = (account.outcome, account.trap.as_ref());
         self.run = match outcome.end {
             End::Still | End::Exit => Ran::Ended,
-            End::Steps | End::Break => Ran::Running,
-            End::Trap(_) | End::Stuck => Ran::Trapped,
+            End::Steps | End::Break | End::Waits(_) | End::Astray => Ran::Running,
+            End::Trap(_) | End::Stuck | End::Unhandled => Ran::Trapped,
         };
         self.judge(account);
         self.retired = Some(outcome.counts.retired);
@@ -137,6 +137,7 @@ impl Row {
         let stopped = account.verdict() == Verdict::Trapped;
         if let Some(trap) = trap.filter(|_| stopped) {
             self.why.clone_from(&trap.cause);
+            self.say_also(&report::unended(account.state, outcome));
             self.at = Some(trap.pcc.address);
             self.instruction = trap.word.map(instruction);
         }
@@ -159,9 +160,10 @@ impl Row {
         self.why = match (verdict, &judged.map) {
             (Verdict::Breaks, Some(map)) => map.why(),
             (Verdict::Wrong, _) => judged.wrong().join("; "),
-            _ => String::new(),
+            (Verdict::Good, _) => String::new(),
+            _ => report::unended(account.state, account.outcome),
         };
-        self.map_stores = judged.map.as_ref().map(Stores::all);
+        self.map_stores = judged.map.as_ref().map(|map| map.all);
         let counts = judged.watched.iter().map(|range| range.count.to_string());
         let counts: Vec<String> = counts.collect();
         self.watch = (!counts.is_empty()).then(|| counts.join(" "));

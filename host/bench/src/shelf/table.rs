@@ -17,7 +17,7 @@ pub struct Counted {
     pub good: u64,
     pub misfits: u64,
     pub trapped: u64,
-    /// A store broke the map, what was expected is not there, the steps were used up.
+    /// A store broke the map, what was expected is not there, it has not ended.
     pub breaks: u64,
     pub wrong: u64,
     pub running: u64,
@@ -78,7 +78,7 @@ impl Counted {
             ),
             (Status::Running, _) => (
                 "running",
-                "Every image fits the board, and some still ran when the steps were used up.",
+                "Every image fits the board, and some have not come to their end.",
             ),
             (_, 0) => ("bad", "Not every image fits the board and is good."),
             _ => (
@@ -102,7 +102,7 @@ impl Counted {
             (self.breaks, "break the map"),
             (self.trapped, "trapped"),
             (self.wrong, "did not leave what was expected"),
-            (self.running, "still ran when the steps were used up"),
+            (self.running, "have not come to their end"),
             (self.bad, "could not be run"),
             (self.unlabelled, "have no label to be judged by"),
             (self.could, "could do what they never may"),
