@@ -40,7 +40,7 @@ ALLOWED = {
         wrapping_sub_u32 returns-5 libc::read io::write_all""",
     "the report's": "setCapBounds getCapLength",
     "words of a format, of an option or of a pattern": """c0 c15 word66 word72 mshwm mshwmb imm type cap explain _ STACK_END outside marked
-        later""",
+        later exit astray waits stuck unhandled""",
     "libgcc's and Debian's": """__divsi3 __modsi3 __umodsi3 __udivsi3 __mulsi3 __ashldi3 __bswapsi2 __paritysi2 memset
         binutils-riscv64-unknown-elf librust-clap-dev librust-indicatif-dev
         librust-object-dev librust-serde-json-dev librust-csv-dev librust-serde-dev librust-serde-derive-dev librust-sha2-dev librust-tera-dev

@@ -135,6 +135,13 @@ def holds(board, image):
     return all(any(at <= start and end <= to and rights <= has for _, at, to, has in board) for _, start, end, rights in image)
 
 
+def loads(image, own, board):
+    """Whether each byte of a payload, raw from its label's first region on, lies in a region of the label and in one of the board."""
+    payload, start = image.partition(b"\n\n")[2], own[0][1]
+    inside = lambda sheet, address: any(at <= address < to for _, at, to, _ in sheet)
+    return all(inside(own, start + place) and inside(board, start + place) for place in range(len(payload)))
+
+
 def fits():
     """Two images on a board: which fits, the first bad sheet, or neither."""
     answers = dict.fromkeys(["first", "second", "neither", "bad"], 0)
@@ -154,7 +161,7 @@ def fits():
             assert status == 2 and err.startswith(f"bench: {name}: line {judged[bad]}: "), (board, one, two, judged, err)
             answers["bad"] += 1
             continue
-        first, second = (holds(judged[0], image) for image in judged[1:])
+        first, second = (holds(judged[0], own) and loads(image, own, judged[0]) for image, own in zip((one, two), judged[1:]))
         right = "Image 1 fits" if first else "Image 2 fits" if second else "Neither image fits"
         assert status == (0 if first or second else 1) and out.startswith(right), (board, one, two, out, err)
         answers["first" if first else "second" if second else "neither"] += 1

@@ -46,7 +46,10 @@ def forms(csv_path, json_path, table_path):
     assert [{name: text(value) for name, value in row.items()} for row in whole["rows"]] == rows
     counts = whole["counts"]
     assert counts["images"] == len(rows)
-    assert counts["good"] == sum(row["label"] == "fits" and row["run"] in ("ended", "running") for row in rows)
+    assert counts["good"] == sum(row["label"] == "fits" and row["run"] == "ended" for row in rows)
+    assert counts["running"] == sum(row["run"] == "running" for row in rows) > 0
+    verdict = lambda row: {"ended": "good", "no": ""}.get(row["run"], row["run"])
+    assert all(row["verdict"] == verdict(row) and row["map_stores"] == ("" if row["run"] == "no" else "0") for row in rows)
     assert counts["misfits"] == sum(row["label"] == "misfit" for row in rows)
     assert counts["trapped"] == sum(row["run"] == "trapped" for row in rows)
     assert counts["bad"] == sum(row["label"] == "bad" for row in rows)

@@ -34,7 +34,7 @@ all_pages() { page alone "$work"/pages1/*.html && [ "$(page links "$work/pages1/
 
 statuses() {
   mkdir -p "$work/good" "$work/empty/folder" && cp examples/interlock_image.img "$work/good/a.img"
-  shelf "$work/good" >"$work/out" && grep -q '^1 image: 1 fit and ran without a trap\.$' "$work/out" || return 1
+  shelf "$work/good" >"$work/out" && grep -q '^1 image: 1 fit and are good\.$' "$work/out" || return 1
   # The board's own files are no images, wherever they lie.
   cp examples/interlock_large.map examples/interlock_large.hex "$work/good"
   "$bench" shelf "$work/good" --board "$work/good/interlock_large.map" --with "$work/good/interlock_large.hex" >"$work/out" || return 1
@@ -55,11 +55,24 @@ LIST
   [ $? -eq 2 ] && [ ! -s "$work/out" ] && grep -q 'a.img: line 4' "$work/err"
 }
 
+# An image that never ends is not good, with a status, a count and a colour of its own, unless it may run on.
+runs_on() {
+  mkdir -p "$work/onward" && cp "$work/images/image-00099.img" "$work/onward"
+  shelf "$work/onward" --color always >"$work/out"
+  [ $? -eq 5 ] && grep -q $'\x1b\\[33m  running  \x1b' "$work/out" &&
+    grep -q '^1 image: 0 fit and are good; 1 have not come to their end\.$' "$work/out" || return 1
+  shelf "$work/onward" --may-run-on >"$work/out" && grep -q '^1 image: 1 fit and are good\.$' "$work/out" || return 1
+  cp examples/interlock_image.img "$work/onward/good.img" && shelf "$work/onward" --report "$work/onward.pages" >"$work/out"
+  [ $? -eq 5 ] && page says "$work/onward.pages/index.html" "some have not come to their end" || return 1
+  cp "$work/images/image-00090.img" "$work/onward" && shelf "$work/onward" >"$work/out"
+  [ $? -eq 1 ]
+}
+
 # A label alone makes no shelf good: without one an image is run, and the shelf is not all fit.
 unlabelled() {
   mkdir -p "$work/plain" && cp examples/interlock_image.hex "$work/plain"
   shelf "$work/plain" >"$work/out"
-  [ $? -eq 1 ] && grep -q '^1 image: 0 fit and ran without a trap; 1 have no label to be judged by\.$' "$work/out"
+  [ $? -eq 1 ] && grep -q '^1 image: 0 fit and are good; 1 have no label to be judged by\.$' "$work/out"
 }
 
 # Broken and hostile files stand in rows of their own, and the good one is as good as ever.
@@ -128,7 +141,7 @@ pages_anew() { # after any_jobs: a page that is gone or was changed is made agai
 # How many steps an image that never ends makes in so many seconds, here and now.
 steps_in() { # SECONDS
   mkdir -p "$work/endless" && cp "$work/images/image-00099.img" "$work/endless"
-  python3 - "$1" "$bench" shelf "$work/endless" "${large[@]}" --steps <<'PYTHON'
+  python3 - "$1" "$bench" shelf "$work/endless" "${large[@]}" --may-run-on --steps <<'PYTHON'
 import subprocess, sys, time
 steps, seconds = 1000000, 0
 while seconds < 0.2:
@@ -175,7 +188,7 @@ browser_shows() {
   local run=(timeout 60 chromium --headless --no-sandbox --disable-gpu --disable-dev-shm-usage --hide-scrollbars --user-data-dir="$work/profile")
   run+=(--enable-logging=stderr --v=0)
   "${run[@]}" --dump-dom "file://$work/broken.pages/index.html" >"$work/dom.html" 2>"$work/browser" && ! grep CONSOLE "$work/browser" &&
-    page says "$work/dom.html" '<script>alert(1)<script>' 'new\nline\u{1b}[31m\u{202e}' 'Not every image fits the board and ran without a trap.' &&
+    page says "$work/dom.html" '<script>alert(1)<script>' 'new\nline\u{1b}[31m\u{202e}' 'Not every image fits the board and is good.' &&
     "${run[@]}" --window-size=1000,900 --screenshot="$work/index.png" "file://$work/broken.pages/index.html" 2>/dev/null &&
     page pixels "$work/index.png" 9b1c1c 1000 ffffff 100000
 }
@@ -186,6 +199,7 @@ check "a row says what fit and run say of the image alone" alone_alike
 check "any number of jobs gives the same bytes" any_jobs
 check "a shelf's pages load nothing and its links lead to pages" all_pages
 check "a shelf's exit status" statuses
+check "an image that never ends is not good on a shelf" runs_on
 check "an image without a label makes no shelf good" unlabelled
 check "a broken file stops no other" broken_files
 check "host/bench/README.md shows a shelf" readme_shows

@@ -1,7 +1,7 @@
 # Sourced by scripts of tests/, after check.sh: the commands of docs/TUTORIAL.md, and whether they print what it shows.
 
 # The parts that have commands.
-tutorial_parts=(1 2 3 4 5 6 7)
+tutorial_parts=(1 2 3 4 5 6 7 8)
 
 # Puts the lines in blocks of each part into a file, and the heading above them beside it: part1, part1.name and so on.
 split_tutorial() {

@@ -5,8 +5,9 @@ use crate::drive::{End, Outcome};
 use crate::names::Names;
 use crate::stack::Stack;
 use crate::trap::Trap;
+use crate::verdict::{Judged, Verdict};
 use crate::Status;
-use lent::{Range, State};
+use lent::State;
 
 /// A run that was made, on which board and with which images.
 pub struct Account<'a> {
@@ -19,8 +20,8 @@ pub struct Account<'a> {
     pub fits: &'a [Beside<'a>],
     /// Whether memory was to be swept on the way.
     pub swept: bool,
-    /// The watched ranges at the end, where stores were to be counted.
-    pub watched: &'a [Range],
+    /// What it is judged by.
+    pub judged: &'a Judged,
 }
 
 impl<'a> Account<'a> {
@@ -30,7 +31,7 @@ impl<'a> Account<'a> {
         outcome: &'a Outcome,
         (names, stack): (&'a Names, Option<Stack>),
         fits: &'a [Beside<'a>],
-        swept: bool,
+        (judged, swept): (&'a Judged, bool),
     ) -> Account<'a> {
         let trap = match &outcome.end {
             End::Trap(before) => Some(Trap::of_step(before, state)),
@@ -45,14 +46,15 @@ impl<'a> Account<'a> {
             stack,
             fits,
             swept,
-            watched: &[],
+            judged,
         }
     }
 
+    pub fn verdict(&self) -> Verdict {
+        self.judged.verdict(self.outcome)
+    }
+
     pub fn status(&self) -> Status {
-        match self.outcome.counts.trapped {
-            0 => Status::Ran,
-            _ => Status::Trapped,
-        }
+        self.judged.status(self.outcome)
     }
 }

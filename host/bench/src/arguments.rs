@@ -1,25 +1,30 @@
 //! The command line.
 
+mod terms;
+
+pub use terms::{ExitValue, Expect, MapStores, Setting, Terms};
+
 use crate::colour::When;
-use crate::edition::Edition;
 use crate::image::Format;
 use crate::probe::fetch;
-use crate::proved::engine::Engine;
 use crate::reach::Never;
 use clap::{ArgAction, Args, CommandFactory, Parser, Subcommand};
 use std::ops::Deref;
 use std::path::PathBuf;
+use terms::NOT_WITH_STATE;
 
 /// The most steps that are kept to be shown.
 const MOST_LAST: u64 = 1_000_000;
 
 /// The bench: runs an image on the proved CHERIoT machine and shows what happened.
 ///
-/// Numbers are decimal, or hexadecimal after 0x. The exit status is 0 if a run had no trap, 1 if it
-/// trapped, if two map sheets differ, if no image fits, if a run could do what it never may or if not every
-/// image of a shelf is good, 2 if the machine, the cutter, the lister or the assembler refused, an image
-/// does not fit the board that it is to run on, or a sheet that was to be judged is bad, and 3 for bad
-/// usage, a bad file or, of reach, a handover that is not reached or a state that is refused.
+/// Numbers are decimal, or hexadecimal after 0x. The exit status is 0 if a run had no trap that nothing handles, broke no
+/// map and left what was expected, and ended or, where no end is named, used up its steps without a trap; 1 if it is not so,
+/// if two map sheets differ, if no image fits, if a run could do what it never may or if not every image of a shelf fits and
+/// is good; 2 if the machine, the cutter, the lister or the assembler refused, an image does not fit the board that it is to
+/// run on, or a sheet that was to be judged is bad; 3 for bad usage, a bad file or, of reach, a handover that is not reached
+/// or a state that is refused; and 5 if a program did not come to its end, where --exit-at, --exit-value or --expect names
+/// one, or on a shelf where nothing else is amiss.
 #[derive(Parser)]
 #[command(name = "bench", version, disable_help_subcommand = true)]
 pub struct Arguments {
@@ -69,68 +74,37 @@ pub struct Start {
     /// The files to load: raw, ELF or Intel HEX, with a map sheet and an empty line before it or not
     #[arg(required_unless_present = "state")]
     pub images: Vec<PathBuf>,
-    /// The form of the images
-    #[arg(long, value_enum, default_value_t = Format::Auto)]
-    pub format: Format,
-    /// The address of memory's first byte [default: 0x20000000, or the map's]
-    #[arg(long, value_parser = word, conflicts_with = "state")]
-    pub start: Option<u32>,
-    /// The bytes of memory [default: 65536, or the map's]
-    #[arg(long, value_parser = size, conflicts_with = "state")]
-    pub size: Option<u64>,
-    /// The part of memory that has revocation bits, its start counted from memory's [default: the
-    /// map's region heap, else all of memory]
-    #[arg(long, value_names = ["START", "SIZE"], num_args = 2, value_parser = word, conflicts_with = "state")]
-    pub window: Option<Vec<u32>>,
-    /// The stack that the mark is set for, by its first address and its bytes [default: the map's region
-    /// stack, else none]
-    #[arg(long, value_names = ["START", "SIZE"], num_args = 2, value_parser = word, conflicts_with = "state")]
-    pub stack: Option<Vec<u32>>,
-    /// The time at the start, which goes on by one a step [default: 0, or the saved state's]
-    #[arg(long, value_name = "NUMBER", value_parser = number)]
-    pub time: Option<u64>,
-    /// The time from which on the timer interrupts where MIE is set [default: 2^64 - 1, or the saved state's]
-    #[arg(long, value_name = "NUMBER", value_parser = number)]
-    pub compare: Option<u64>,
-    /// The edition of the architecture [default: report]
-    #[arg(long, value_enum, conflicts_with = "state")]
-    pub edition: Option<Edition>,
-    /// The engine that makes the steps; both give the same answers
-    #[arg(long, value_enum, default_value_t)]
-    pub engine: Engine,
-    /// The address of the first instruction, even [default: the image's, else memory's start]
-    #[arg(long, value_parser = even, conflicts_with = "state")]
-    pub entry: Option<u32>,
-    /// A map sheet that names the board's regions; memory is then what they span
+    #[command(flatten)]
+    pub setting: Setting,
+    /// A map sheet that names the board's regions; memory is then what they span, images have to lie in them, and the
+    /// stores of a run are judged by it
     #[arg(long, value_name = "SHEET")]
     pub map: Option<PathBuf>,
     /// A saved state to start from instead of reset; images are loaded over it
-    #[arg(long, value_name = "FILE")]
+    #[arg(long, value_name = "FILE", conflicts_with_all = NOT_WITH_STATE)]
     pub state: Option<PathBuf>,
+}
+
+impl Deref for Start {
+    type Target = Setting;
+
+    fn deref(&self) -> &Setting {
+        &self.setting
+    }
 }
 
 #[derive(Args, Default)]
 pub struct Run {
     #[command(flatten)]
     pub from: Start,
-    /// The most steps to run
-    #[arg(long, value_parser = number, default_value = "1000000")]
-    pub steps: u64,
-    /// Sweep all of memory after every so many steps
-    #[arg(long, value_name = "STEPS", value_parser = not_zero)]
-    pub sweep: Option<u64>,
-    /// Count the stores that touch a range of addresses; may be given twice
-    #[arg(long, value_names = ["START", "LENGTH"], num_args = 2, value_parser = word, action = ArgAction::Append)]
-    pub watch: Vec<u32>,
+    #[command(flatten)]
+    pub terms: Terms,
     /// Where to save the state at the end
     #[arg(long, value_name = "FILE")]
     pub save: Option<PathBuf>,
     /// Stop after the first step that traps (the default)
     #[arg(long, conflicts_with = "through_traps")]
     pub until_trap: bool,
-    /// Go on after a trap, at MTCC
-    #[arg(long)]
-    pub through_traps: bool,
     /// Stop before a step at a number, a symbol of the image or a FILE:LINE of its source; the first
     /// step is made nevertheless. May be given again
     #[arg(long = "break", value_name = "WHERE")]
@@ -150,6 +124,9 @@ pub struct Run {
     /// Where to write the result as a page, one HTML file that loads nothing
     #[arg(long, value_name = "FILE")]
     pub report: Option<PathBuf>,
+    /// Write a part of memory at the end to a file, a word a line in eight digits; START is an address or a symbol
+    #[arg(long, value_names = ["START", "LENGTH", "FILE"], num_args = 3, action = ArgAction::Set)]
+    pub signature: Option<Vec<String>>,
 }
 
 /// The options of the start are those of a run.
@@ -317,12 +294,10 @@ pub struct Shelf {
     /// A file of the board's own that is loaded beside each image; may be given more than once
     #[arg(long, value_name = "FILE")]
     pub with: Vec<PathBuf>,
-    /// The most steps to run of each image
-    #[arg(long, value_parser = number, default_value = "1000000")]
-    pub steps: u64,
-    /// The engine that makes the steps; both give the same answers
-    #[arg(long, value_enum, default_value_t)]
-    pub engine: Engine,
+    #[command(flatten)]
+    pub setting: Setting,
+    #[command(flatten)]
+    pub terms: Terms,
     /// The handover, a number, a symbol of an image or a FILE:LINE of its source: what any run from there on
     /// may write is told of each image
     #[arg(long, value_name = "WHERE")]
@@ -429,7 +404,7 @@ fn port(text: &str) -> Result<u16, String> {
     u16::try_from(number(text)?).map_err(|_| "not 0 to 65535".into())
 }
 
-fn word(text: &str) -> Result<u32, String> {
+pub fn word(text: &str) -> Result<u32, String> {
     u32::try_from(number(text)?).map_err(|_| "not below 2^32".into())
 }
 

@@ -89,8 +89,9 @@ fn painted(line: &str) -> String {
 }
 
 /// How lines that stand out as a whole begin.
-const HEADS: [(&str, &str); 7] = [
+const HEADS: [(&str, &str); 8] = [
     ("Trap: ", BAD),
+    ("Breaks the map: ", BAD),
     ("The program has gone on", CHANGED),
     ("Neither image fits ", BAD),
     ("  register ", HEAD),
@@ -107,9 +108,13 @@ const ENDS: [(&str, &str); 3] = [
 ];
 
 /// What stands out in a line, for itself.
-const WORDS: [(&str, &str); 11] = [
+const WORDS: [(&str, &str); 15] = [
     ("does not fit", BAD),
     ("  trapped  ", BAD),
+    ("  breaks  ", BAD),
+    ("  wrong  ", BAD),
+    (" was expected", BAD),
+    ("  running  ", CHANGED),
     (" fits ", GOOD),
     (" is never ", GOOD),
     ("no hole is ever ", GOOD),

@@ -10,6 +10,7 @@ mod reach;
 pub mod run;
 pub mod sheet;
 mod shelf;
+mod signature;
 mod sweep;
 
 use crate::arguments::{Cap, Command, Cut};
@@ -52,7 +53,7 @@ fn engine_of(command: &Command) -> Engine {
         Command::Run(run) => run.engine,
         Command::Gdb(asked) => asked.from.engine,
         Command::Reach(asked) => asked.from.engine,
-        Command::Shelf(asked) => asked.engine,
+        Command::Shelf(asked) => asked.setting.engine,
         _ => Engine::default(),
     }
 }

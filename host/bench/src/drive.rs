@@ -6,10 +6,11 @@ mod tests;
 
 use crate::course::Course;
 use crate::cover::Cover;
-use crate::halt::{by_calls, by_steps, is_still, Halt, Pace, Stops};
+use crate::halt::{by_calls, by_steps, bytes_at, is_still, is_stuck, Halt, Pace, Stops};
+use crate::probe;
 use crate::proved::{Counts, Refusal, MOST_STEPS};
 use crate::sweep;
-use lent::{State, Watch};
+use lent::{State, Watch, COMPARE, PCC};
 use std::collections::BTreeSet;
 
 /// The most steps one by one between two calls of a plan's watch.
@@ -26,10 +27,20 @@ pub enum End {
     Steps,
     /// The program jumps to itself: every further step that was asked for retires and changes time alone.
     Still,
+    /// The same, but the timer is set: it interrupts the program after so many steps, which are more than were left.
+    Waits(u64),
+    /// The same after a trap, and where traps go: nothing handles them.
+    Unhandled,
+    /// The same, but an end was named, and this is not it.
+    Astray,
     /// A step trapped; this is the state before it.
     Trap(Box<State>),
     /// A breakpoint stands at PCC; the step there is not made.
     Break,
+    /// The program came to where it ends; the step there is not made.
+    Exit,
+    /// All the steps were made, and nothing handles the last trap: every further step traps and changes time alone.
+    Stuck,
 }
 
 /// How often memory was swept during a run, and how many tags went.
@@ -68,8 +79,12 @@ pub struct Plan<'a> {
     pub record: Watch,
     /// Where the run stops before a step, but for its first.
     pub breaks: BTreeSet<u32>,
+    /// Where the program has ended.
+    pub exits: BTreeSet<u32>,
     /// What is told of each word that retires.
     pub cover: Option<&'a mut Cover>,
+    /// Who is told of each store into a range of the record, as it comes, by the state after it.
+    pub stored: Option<&'a mut dyn FnMut(&State)>,
     pub watch: &'a mut dyn FnMut(&State, &State, Counts) -> bool,
 }
 
@@ -83,7 +98,9 @@ impl<'a> Plan<'a> {
             sweep: None,
             record: Watch::default(),
             breaks: BTreeSet::new(),
+            exits: BTreeSet::new(),
             cover: None,
+            stored: None,
             watch,
         }
     }
@@ -125,6 +142,10 @@ pub fn run(state: &mut State, plan: Plan) -> Result<Outcome, Refused> {
 
 fn follow(course: &mut Course, mut plan: Plan, done: &mut Outcome) -> Result<(), Refusal> {
     course.may_start()?;
+    if plan.exits.contains(&course.state().capability(PCC).address) {
+        done.end = End::Exit;
+    }
+    plan.breaks.extend(&plan.exits);
     let (mut call, mut looked, mut wanted) = (1, false, true);
     while wanted && done.end == End::Steps && done.counts.steps() < plan.steps {
         let before = course.state().clone();
@@ -134,27 +155,69 @@ fn follow(course: &mut Course, mut plan: Plan, done: &mut Outcome) -> Result<(),
         let pace = plan.pace(done.counts.steps(), call, looks);
         let (mut made, halt) = advance(course, pace, looks, &mut plan);
         done.counts += made;
-        done.end = match halt {
-            Halt::Refused(refusal) => return Err(refusal),
-            Halt::Steps | Halt::Watch(_) => End::Steps,
-            Halt::Break => End::Break,
-            Halt::Still => End::Still,
-            Halt::Trap => {
-                let before = Box::new(course.state().clone());
-                let trap = course.run(1)?;
-                made += trap;
-                done.counts += trap;
-                End::Trap(before)
-            }
+        // After a store they do too: the next one is not far.
+        call = if matches!(halt, Halt::Watch(_)) {
+            1
+        } else {
+            (2 * call).min(MOST_STEPS)
         };
+        let (end, more) = ended(course, halt, &mut plan)?;
+        made += more;
+        done.counts += more;
+        done.end = end;
         wanted = made.steps() == 0 || (plan.watch)(&before, course.state(), made);
         if done.end == End::Steps {
             pause(course, &plan, done)?;
         }
-        (call, looked) = ((2 * call).min(MOST_STEPS), looks);
+        looked = looks;
     }
     done.record = course.record();
+    if done.end == End::Still {
+        done.end = standing(course.state(), &plan.exits, done.counts);
+    }
     Ok(())
+}
+
+/// What it means that a program jumps to itself, after so many steps.
+fn standing(state: &State, exits: &BTreeSet<u32>, made: Counts) -> End {
+    let at = state.capability(PCC).address;
+    // Compare is all ones where nobody has set it.
+    let set = state.long(COMPARE) != u64::MAX;
+    match set.then(|| probe::steps_to_interrupt(state)).flatten() {
+        _ if exits.contains(&at) => End::Exit,
+        _ if made.trapped > 0 && at == probe::handler(state) => End::Unhandled,
+        Some(steps) => End::Waits(steps),
+        None if exits.is_empty() => End::Still,
+        None => End::Astray,
+    }
+}
+
+/// What a halt means for the run. A step that traps, or that stores into a range of which someone is told, is made here.
+fn ended(course: &mut Course, halt: Halt, plan: &mut Plan) -> Result<(End, Counts), Refusal> {
+    let none = Counts::default();
+    let at = course.state().capability(PCC).address;
+    match halt {
+        Halt::Refused(refusal) => Err(refusal),
+        Halt::Steps => Ok((End::Steps, none)),
+        Halt::Break if plan.exits.contains(&at) => Ok((End::Exit, none)),
+        Halt::Break => Ok((End::Break, none)),
+        Halt::Still => Ok((End::Still, none)),
+        Halt::Trap => {
+            let before = Box::new(course.state().clone());
+            Ok((End::Trap(before), course.run(1)?))
+        }
+        Halt::Watch(_) => {
+            let bytes = bytes_at(course.state(), at);
+            let made = course.run(1)?;
+            if let Some(cover) = &mut plan.cover {
+                cover.retired(at, bytes);
+            }
+            if let Some(stored) = &mut plan.stored {
+                stored(course.state());
+            }
+            Ok((End::Steps, made))
+        }
+    }
 }
 
 /// Makes the steps of a pace, or as many as may be made at once.
@@ -162,7 +225,7 @@ fn advance(course: &mut Course, pace: Pace, looks: bool, plan: &mut Plan) -> (Co
     let stops = Stops {
         breaks: std::mem::take(&mut plan.breaks),
         traps: !plan.through_traps,
-        stores: false,
+        stores: plan.stored.is_some(),
     };
     let made = match looks {
         false => by_calls(course, pace, &stops),
@@ -185,9 +248,16 @@ fn pause(course: &mut Course, plan: &Plan, done: &mut Outcome) -> Result<(), Ref
     }
     if is_still(course, plan.steps - made) {
         done.end = End::Still;
-    } else if sweeps {
+        return Ok(());
+    }
+    if sweeps {
         done.swept.passes += 1;
         done.swept.tags += sweep::pass(course.change(), |_| ())?.len() as u64;
+    }
+    if made >= plan.steps && plan.exits.contains(&course.state().capability(PCC).address) {
+        done.end = End::Exit;
+    } else if made >= plan.steps && plan.through_traps && is_stuck(course) {
+        done.end = End::Stuck;
     }
     Ok(())
 }

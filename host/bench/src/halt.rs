@@ -98,7 +98,7 @@ fn taken_back(course: &mut Course, halt: Halt, left: u64) -> Option<Halt> {
 }
 
 /// Up to four bytes at an address, as one number: no word is longer.
-fn bytes_at(state: &State, address: u32) -> u32 {
+pub fn bytes_at(state: &State, address: u32) -> u32 {
     let half = || state.half(address).map(u32::from);
     state.word(address).or_else(half).unwrap_or(0)
 }
@@ -164,6 +164,13 @@ pub fn is_still(course: &Course, left: u64) -> bool {
     let retires = next.run(1).is_ok_and(|made| made.retired == 1);
     let (now, next) = (course.state(), next.into_state());
     retires && is_same_but_for_time(next, now) && !probe::interrupts_within(now, left)
+}
+
+/// Whether a step traps and changes time alone, so that every further step traps too: nothing handles the trap.
+pub fn is_stuck(course: &Course) -> bool {
+    let mut next = course.clone();
+    let traps = next.run(1).is_ok_and(|made| made.trapped == 1);
+    traps && is_same_but_for_time(next.into_state(), course.state())
 }
 
 fn is_same_but_for_time(mut next: State, now: &State) -> bool {

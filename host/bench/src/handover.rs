@@ -37,11 +37,11 @@ fn missed(state: &State, at: u32, outcome: &Outcome) -> String {
             outcome.counts.steps(),
             address(before)
         ),
-        End::Still => format!(
+        End::Still | End::Waits(_) | End::Unhandled | End::Astray => format!(
             "after {steps} the program ended at {:08x}, where it jumps to itself",
             address(state)
         ),
-        End::Steps | End::Break => {
+        End::Steps | End::Break | End::Exit | End::Stuck => {
             format!("{steps} were made, and it is at {:08x}", address(state))
         }
     };

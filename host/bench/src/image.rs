@@ -6,7 +6,7 @@ pub mod lines;
 
 use crate::names::Name;
 use crate::probe::value::stored;
-use crate::proved::sheets;
+use crate::proved::sheets::{self, Record};
 use crate::sheet::Bad;
 use lent::{State, GRANULE};
 use lines::Lines;
@@ -63,6 +63,10 @@ pub struct Image {
     /// Every symbol's name and address, those without a size too.
     pub labels: Vec<(String, u32)>,
     pub lines: Lines,
+    /// The regions of its label, where it has one.
+    pub label: Option<Vec<Record>>,
+    /// What its header says of another core.
+    pub notes: Vec<String>,
 }
 
 /// The image of a file's bytes; raw bytes go to `start`.
@@ -74,8 +78,9 @@ pub fn read(path: &Path, bytes: &[u8], format: Format, start: u32) -> Result<Ima
         format => plain(bytes, format, start),
     };
     let mut image = image.map_err(|reason| format!("{}: {reason}", path.display()))?;
-    for segment in &mut image.segments {
-        segment.origin = format!("{}: {}", path.display(), segment.origin);
+    let own = image.segments.iter_mut().map(|segment| &mut segment.origin);
+    for said in own.chain(&mut image.notes) {
+        *said = format!("{}: {said}", path.display());
     }
     Ok(image)
 }
@@ -116,28 +121,35 @@ fn payload(bytes: &[u8]) -> Result<Image, String> {
         _ if bytes.is_empty() => Err("it is empty".into()),
         format => plain(bytes, format, start),
     };
-    image.map_err(|reason| format!("payload: {reason}"))
+    let image = image.map_err(|reason| format!("payload: {reason}"))?;
+    Ok(Image {
+        label: Some(label.regions),
+        ..image
+    })
 }
 
 fn plain(bytes: &[u8], format: Format, start: u32) -> Result<Image, String> {
     match format {
         Format::Elf => elf::read(bytes),
         Format::Hex => hex::read(bytes),
-        _ => Ok(raw(bytes.to_vec(), start)),
+        _ => raw(bytes.to_vec(), start),
     }
 }
 
-fn raw(bytes: Vec<u8>, address: u32) -> Image {
+fn raw(bytes: Vec<u8>, address: u32) -> Result<Image, String> {
+    if u64::from(address) + bytes.len() as u64 > 1 << 32 {
+        return Err("the bytes end past 2^32".into());
+    }
     let segment = Segment {
         address,
         bytes,
         zeros: 0,
         origin: "raw bytes".into(),
     };
-    Image {
+    Ok(Image {
         segments: vec![segment],
         ..Image::default()
-    }
+    })
 }
 
 /// Puts segments into a state's memory and clears the tags of the granules they touch. Nothing is
@@ -207,4 +219,27 @@ fn tagged_parts(state: &State, address: u32, bytes: &[u8]) -> Vec<(u32, [u8; GRA
             (at(offset), left, tag)
         })
         .collect()
+}
+
+#[cfg(test)]
+mod tests {
+    use super::*;
+
+    #[test]
+    fn raw_bytes_end_at_2_to_the_32_at_most() {
+        let read = |bytes: &[u8], format| read(Path::new("i"), bytes, format, u32::MAX);
+        let label = b"region\tr\tffffffff\t00000001\tr\n\n";
+        for (bytes, format, fits) in [
+            (&b"\0"[..], Format::Raw, true),
+            (b"\0\0", Format::Raw, false),
+            (b"\0\0", Format::Auto, false),
+            (&[&label[..], b"\0"].concat(), Format::Auto, true),
+            (&[&label[..], b"\0\0"].concat(), Format::Auto, false),
+        ] {
+            match read(bytes, format) {
+                Ok(image) => assert!(fits && image.segments[0].end() == 1 << 32),
+                Err(why) => assert!(!fits && why.ends_with("the bytes end past 2^32"), "{why}"),
+            }
+        }
+    }
 }

@@ -9,6 +9,7 @@ use crate::edition;
 use crate::listing::Part;
 use crate::memory_rows::rows;
 use crate::names::Names;
+use crate::payload::Outside;
 use crate::probe;
 use crate::proved::sheets::{Record, NEITHER};
 use crate::proved::{bounds, instruction, word_length, Refusal, Region, UNSOUND};
@@ -30,7 +31,8 @@ pub fn account(account: &Account) -> Value {
     value["swept"] = account.swept.then(|| sweeps(outcome.swept)).into();
     value["fit"] = images(account.fits);
     value["stack"] = stack(state, account.stack);
-    value["watch"] = watch(account.watched);
+    value["watch"] = watch(&account.judged.watched);
+    account.judged.put(outcome, &mut value);
     value
 }
 
@@ -39,8 +41,13 @@ fn run(state: &State, outcome: &Outcome, trap: Option<&Trap>, names: &Names) -> 
     let end = match outcome.end {
         End::Steps => "steps",
         End::Still => "still",
+        End::Waits(_) => "waits",
+        End::Unhandled => "unhandled",
+        End::Astray => "astray",
         End::Trap(_) => "trap",
         End::Break => "break",
+        End::Exit => "exit",
+        End::Stuck => "stuck",
     };
     json!({
         "retired": outcome.counts.retired,
@@ -178,6 +185,22 @@ pub fn misfit(image: &Beside) -> Value {
     json!({ "refused": { "number": NEITHER, "reason": reason, "image": image } })
 }
 
+/// A byte of an image outside the board that it was to run on.
+pub fn refused_outside(outside: &Outside) -> Value {
+    json!({ "refused": self::outside(outside) })
+}
+
+/// What is loaded outside a sheet: the part, the first such byte, whose sheet it is, and the nearest region.
+fn outside(outside: &Outside) -> Value {
+    json!({
+        "reason": outside.reason(),
+        "part": outside.part,
+        "address": outside.address,
+        "sheet": outside.whose.word(),
+        "nearest": outside.nearest.as_ref().map(record),
+    })
+}
+
 /// Images beside a board.
 pub fn images(images: &[Beside]) -> Value {
     images.iter().map(beside).collect()
@@ -209,6 +232,9 @@ fn beside(image: &Beside) -> Value {
         "file": image.path.display().to_string(),
         "fits": image.fits,
         "regions": regions.collect::<Vec<Value>>(),
+        "outside": image.outside.as_ref().map(outside),
+        "broken": image.broken,
+        "notes": image.notes,
     })
 }
 

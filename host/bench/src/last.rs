@@ -8,16 +8,17 @@ use lent::{State, Watch};
 
 /// A state of a run, and how many steps led to it.
 #[derive(Clone)]
-struct Kept {
-    made: u64,
-    course: Course,
+pub struct Kept {
+    pub made: u64,
+    pub course: Course,
 }
 
 impl Kept {
-    fn new(made: u64, state: &State) -> Kept {
+    /// A state with the record that its steps are counted by.
+    pub fn new(made: u64, state: &State, record: Watch) -> Kept {
         Kept {
             made,
-            course: Course::new(state.clone(), Watch::default()),
+            course: Course::new(state.clone(), record),
         }
     }
 }
@@ -36,7 +37,7 @@ impl Last {
         Last {
             wanted,
             sweep,
-            older: Kept::new(0, start),
+            older: Kept::new(0, start, Watch::default()),
             newer: None,
         }
     }
@@ -47,7 +48,7 @@ impl Last {
         if made < newest.made + self.wanted {
             return;
         }
-        let mut kept = Kept::new(made, state);
+        let mut kept = Kept::new(made, state, Watch::default());
         if kept.course.may_start().is_err() {
             return;
         }
@@ -103,7 +104,7 @@ impl Last {
 }
 
 /// Makes some steps, at most up to the next sweep, which is then made.
-fn advance(at: &mut Kept, steps: u64, sweep: Option<u64>) -> Result<(), Refusal> {
+pub fn advance(at: &mut Kept, steps: u64, sweep: Option<u64>) -> Result<(), Refusal> {
     let call = steps.min(sweep::left(sweep, at.made)).min(at.course.room());
     at.course.run(call)?;
     at.made += call;

@@ -1,11 +1,13 @@
 //! The bench command: runs an image on the proved machine and shows what happened, and lists it.
 
 mod account;
+mod again;
 mod arguments;
 mod capability_text;
 mod changes;
 mod colour;
 mod command;
+mod console;
 mod course;
 mod cover;
 mod digits;
@@ -22,15 +24,18 @@ mod last;
 mod listing;
 mod manual;
 mod map;
+mod map_stores;
 mod memory_rows;
 mod names;
 mod page;
+mod payload;
 mod probe;
 mod proved;
 mod reach;
 mod recent;
 mod report;
 mod request;
+mod revoke;
 #[cfg(test)]
 mod samples;
 mod save;
@@ -43,6 +48,8 @@ mod state_file;
 mod sweep;
 mod trace;
 mod trap;
+mod trial;
+mod verdict;
 mod visible;
 
 use arguments::Arguments;
@@ -63,6 +70,8 @@ pub enum Status {
     Could,
     Refused,
     Bad,
+    /// The program has not come to its end.
+    Running,
 }
 
 impl Status {
@@ -73,6 +82,8 @@ impl Status {
             Status::Trapped | Status::Differ | Status::NoFit | Status::Could => 1,
             Status::Refused => 2,
             Status::Bad => 3,
+            // 4 is of ./bench: something could not be built.
+            Status::Running => 5,
         }
     }
 }

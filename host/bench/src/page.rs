@@ -5,7 +5,8 @@ use crate::account::Account;
 use crate::capability_text::{count, grouped};
 use crate::changes::{self, Stretch};
 use crate::command::fit::Beside;
-use crate::drive::End;
+use crate::console::Said;
+use crate::drive::{End, Outcome};
 use crate::image::Segment;
 use crate::map::{Kind, Map, Shape, Strip};
 use crate::names::{Name, Names};
@@ -15,6 +16,7 @@ use crate::report::{self, Held};
 use crate::sheet::{letters, Sheet};
 use crate::stack::Used;
 use crate::trap::Trap;
+use crate::verdict::Verdict;
 use crate::visible::{self, shortened};
 use lent::{place_name, State, CAPABILITIES};
 use serde_json::{json, Value};
@@ -28,6 +30,8 @@ pub const LAST: u64 = 24;
 /// The most parts of an image that are drawn: as many as a sheet has regions.
 const MOST_PARTS: usize = 64;
 
+/// The most bytes of what a program said.
+const MOST_SAID: usize = 1 << 16;
 /// The most names that are told of a trap's places.
 const MOST_NAMES: usize = 16;
 /// How many times the board's size the picture goes past the board.
@@ -97,6 +101,8 @@ pub struct Subject<'a> {
     pub board: Option<(Source, &'a Sheet)>,
     pub segments: &'a [Segment],
     pub fits: &'a [Beside<'a>],
+    /// What headers say of another core.
+    pub notes: &'a [String],
 }
 
 /// What came of it.
@@ -109,6 +115,8 @@ pub enum Answer<'a> {
         last: Vec<String>,
     },
     Misfit,
+    /// It loads a byte outside the board, and which.
+    Outside(String),
     /// It could not be run, and why.
     Bad(String),
 }
@@ -126,7 +134,9 @@ pub fn of(subject: &Subject, answer: &Answer) -> Result<String, String> {
     } = answer
     {
         value["swept"] = account.swept.into();
-        value["watched"] = (!account.watched.is_empty()).into();
+        value["watched"] = (!account.judged.watched.is_empty()).into();
+        value["stores"] = account.judged.map.is_some().into();
+        value["console"] = account.judged.console.as_ref().map(said).into();
         value["trap"] = account
             .trap
             .as_ref()
@@ -138,6 +148,11 @@ pub fn of(subject: &Subject, answer: &Answer) -> Result<String, String> {
         value["control"] = report::control_lines(account.state).into();
     }
     filled("page.html", &value)
+}
+
+/// What a program said, a line each.
+fn said(said: &Said) -> Vec<String> {
+    said.text(MOST_SAID).lines().map(str::to_string).collect()
 }
 
 /// What every page has: what it is about, and nothing yet of what came of it.
@@ -154,10 +169,11 @@ pub fn about(subject: &Subject) -> Value {
     json!({
         "title": format!("{}{on}", names.join(", ")),
         "version": env!("CARGO_PKG_VERSION"),
+        "notes": subject.notes,
         "files": subject.files.iter().chain(board).map(Source::value).collect::<Vec<Value>>(),
         "board": subject.board.is_some(),
         "fits": subject.fits.iter().map(fit).collect::<Vec<Value>>(),
-        "ran": false, "reach": false, "swept": false, "watched": false,
+        "ran": false, "reach": false, "swept": false, "watched": false, "stores": false, "console": null,
         "trap": null, "last": null, "changes": null, "registers": null, "control": null,
     })
 }
@@ -169,6 +185,10 @@ fn verdict(answer: &Answer) -> Value {
             let head = "It does not fit the board, and was not run.".to_string();
             ("misfit", head, Vec::new())
         }
+        Answer::Outside(reason) => {
+            let head = "It does not fit the board, and was not run.".to_string();
+            ("misfit", head, vec![reason.clone()])
+        }
         Answer::Bad(reason) => ("bad", "It could not be run.".into(), vec![reason.clone()]),
         Answer::Ran { account, .. } => ran(account),
     };
@@ -177,22 +197,48 @@ fn verdict(answer: &Answer) -> Value {
 
 fn ran(account: &Account) -> (&'static str, String, Vec<String>) {
     let Account { state, outcome, .. } = account;
-    let (kind, head) = match (&account.trap, &outcome.end) {
-        (Some(trap), End::Trap(_)) => (
-            "trapped",
-            format!("It was stopped by a trap: {}.", trap.cause),
-        ),
-        _ if outcome.counts.trapped > 0 => ("trapped", "It ran, with traps.".into()),
-        (_, End::Still) => ("quiet", "It ran to its end without a trap.".into()),
-        _ => ("quiet", "It ran without a trap, and has not ended.".into()),
-    };
+    let (kind, head) = headed(account);
     let mut text = report::counts(state, outcome);
     text.push_str(&report::stack(state, account.stack));
-    text.push_str(&report::watch(account.watched));
+    text.push_str(&report::watch(&account.judged.watched));
     if account.swept {
         text.push_str(&report::sweeps(outcome.swept));
     }
+    text.push_str(&report::judged(account));
     (kind, head, text.lines().map(str::to_string).collect())
+}
+
+/// The verdict in a sentence, and its colour.
+fn headed(account: &Account) -> (&'static str, String) {
+    let (verdict, end) = (account.verdict(), &account.outcome.end);
+    let calm = match verdict {
+        Verdict::Running => "running",
+        _ => "quiet",
+    };
+    match (verdict, &account.trap, end) {
+        (Verdict::Breaks, ..) => ("trapped", "It breaks the map.".into()),
+        (Verdict::Trapped, Some(trap), End::Trap(_)) => (
+            "trapped",
+            format!("It was stopped by a trap: {}.", trap.cause),
+        ),
+        (Verdict::Trapped, _, End::Stuck | End::Unhandled) => {
+            ("trapped", "It traps, and nothing handles it.".into())
+        }
+        (Verdict::Trapped, ..) => ("trapped", "It ran, with traps.".into()),
+        (Verdict::Wrong, ..) => ("trapped", "It did not leave what was expected.".into()),
+        _ => (calm, went(account.outcome).into()),
+    }
+}
+
+/// How a run went that nothing is amiss with but that it may not have ended.
+fn went(outcome: &Outcome) -> &'static str {
+    let ended = matches!(outcome.end, End::Still | End::Exit);
+    match (ended, outcome.counts.trapped) {
+        (true, 0) => "It ran to its end without a trap.",
+        (true, _) => "It ran to its end, through traps.",
+        (false, 0) => "It ran without a trap, and has not ended.",
+        (false, _) => "It ran through traps, and has not ended.",
+    }
 }
 
 fn fit(image: &Beside) -> Value {
@@ -207,6 +253,7 @@ fn fit(image: &Beside) -> Value {
         "file": shortened(&image.path.display().to_string()),
         "fits": image.fits,
         "regions": regions.collect::<Vec<Value>>(),
+        "amiss": image.amiss(),
     })
 }
 

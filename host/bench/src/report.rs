@@ -3,6 +3,7 @@
 use crate::account::Account;
 use crate::capability_text::{count, grouped, is_integer, length, region};
 use crate::capability_text::{revocation_words, rights, type_words};
+use crate::console::Said;
 use crate::drive::{End, Outcome, Refused, Swept};
 use crate::edition;
 use crate::listing::Part;
@@ -68,15 +69,29 @@ pub fn run(account: &Account) -> String {
     let Account { state, outcome, .. } = account;
     let mut text = counts(state, outcome);
     text.push_str(&stack(state, account.stack));
-    text.push_str(&watch(account.watched));
+    text.push_str(&watch(&account.judged.watched));
     if account.swept {
         text.push_str(&sweeps(outcome.swept));
     }
+    text.push_str(&judged(account));
     if let Some(trap) = &account.trap {
         text.push('\n');
         text.push_str(&self::trap(trap, state, account.names));
     }
     format!("{text}\n{}", registers(state))
+}
+
+/// What a run was judged by besides: the map, what was expected, what it said.
+pub fn judged(account: &Account) -> String {
+    let judged = account.judged;
+    let map = match &judged.map {
+        Some(map) => map.text(account.names),
+        None if judged.map_off => "Map: stores were not judged (--map-stores off).\n".into(),
+        None => String::new(),
+    };
+    let console = judged.console.as_ref();
+    let console = console.map_or(String::new(), Said::line);
+    format!("{map}{}{console}", judged.values())
 }
 
 /// The counts of a run, and how it ended.
@@ -86,24 +101,41 @@ pub fn counts(state: &State, outcome: &Outcome) -> String {
     let at = state.capability(PCC).address;
     let end = match outcome.end {
         End::Steps => format!("All steps asked for were made; the next is at {at:08x}."),
-        End::Still => format!(
-            "The program ended: it jumps to itself at {at:08x}.{}",
-            waiting(state)
-        ),
+        End::Still => format!("The program ended: it jumps to itself at {at:08x}."),
+        End::Waits(_) | End::Unhandled | End::Astray => sentence(&unended(state, outcome)),
         End::Trap(_) => "Stopped at the trap.".into(),
         End::Break => format!("Stopped before the step at {at:08x}."),
+        End::Exit => format!("The program ended: it came to {at:08x}."),
+        End::Stuck => format!("Nothing handles the trap: every further step traps, at {at:08x}."),
     };
     format!("{retired} retired, {trapped} trapped. {end}\n")
 }
 
-/// What a program that stands still may wait for: a compare that is set, where interrupts are enabled.
-fn waiting(state: &State) -> String {
-    let set = state.long(COMPARE) != u64::MAX;
-    let Some(steps) = set.then(|| probe::steps_to_interrupt(state)).flatten() else {
-        return String::new();
-    };
-    let steps = count(steps, "step");
-    format!(" The timer would interrupt it in {steps}, which is more than were left.")
+/// How a program jumps to itself that has not ended by that; nothing of other ends.
+pub fn unended(state: &State, outcome: &Outcome) -> String {
+    let at = state.capability(PCC).address;
+    match outcome.end {
+        End::Unhandled => {
+            format!("nothing handles the trap: the handler jumps to itself at {at:08x}")
+        }
+        End::Astray => {
+            format!("the program has not come to its end: it jumps to itself at {at:08x}")
+        }
+        End::Waits(steps) => {
+            let steps = count(steps, "step");
+            format!(
+                "the program waits: it jumps to itself at {at:08x}, and the timer would interrupt it in {steps}, \
+                 which is more than were left"
+            )
+        }
+        _ => String::new(),
+    }
+}
+
+/// Words as a sentence.
+fn sentence(words: &str) -> String {
+    let (first, rest) = words.split_at(words.len().min(1));
+    format!("{}{rest}.", first.to_uppercase())
 }
 
 /// How deep the stack went; nothing where no mark was set.

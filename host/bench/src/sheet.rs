@@ -11,6 +11,9 @@ use std::path::Path;
 /// The letters of each rights number, r 1, w 2 and x 4.
 const RIGHTS: [&str; 8] = ["", "r", "w", "rw", "x", "rx", "wx", "rwx"];
 
+/// The right to write.
+pub const WRITE: u32 = 2;
+
 /// The letters of rights.
 pub fn letters(rights: u32) -> &'static str {
     RIGHTS[(rights & 7) as usize]

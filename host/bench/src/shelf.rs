@@ -11,9 +11,11 @@ mod work;
 pub use results::Results;
 pub use work::{work, Done};
 
+use crate::arguments::{Setting, Terms};
 use crate::command::fit::Board;
 use crate::file;
 use crate::page::digest;
+use crate::proved::engine::Engine;
 use crate::reach::Never;
 use std::ffi::{OsStr, OsString};
 use std::fs;
@@ -26,7 +28,9 @@ pub struct Shelf {
     pub board: Board,
     /// The board's own files, with their bytes.
     pub with: Vec<(PathBuf, Vec<u8>)>,
-    pub steps: u64,
+    /// What each image starts with, and by what its run is judged.
+    pub setting: Setting,
+    pub terms: Terms,
     /// From where on every run is judged, and what none of them may do.
     pub handover: Option<String>,
     pub nevers: Vec<Never>,
@@ -62,7 +66,12 @@ impl Shelf {
     pub fn key(&self) -> Result<String, String> {
         let program = std::env::current_exe().and_then(fs::read);
         let program = program.map_err(|error| format!("the program's own file: {error}"))?;
-        let mut parts = vec![digest(&program), self.steps.to_string()];
+        // The engines give the same answers.
+        let setting = Setting {
+            engine: Engine::default(),
+            ..self.setting.clone()
+        };
+        let mut parts = vec![digest(&program), format!("{setting:?} {:?}", self.terms)];
         parts.push(format!(
             "{:?} {}",
             self.board_name,

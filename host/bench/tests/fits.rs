@@ -168,8 +168,8 @@ fn a_fit_as_json() {
         "fits": 2,
         "payload": { "start": 37, "length": 8 },
         "images": [
-            { "file": "long", "fits": false, "regions": [long] },
-            { "file": "good", "fits": true, "regions": [good] },
+            { "file": "long", "fits": false, "regions": [long], "outside": null, "broken": null, "notes": [] },
+            { "file": "good", "fits": true, "regions": [good], "outside": null, "broken": null, "notes": [] },
         ],
     });
     assert_eq!(value, expected);

@@ -147,9 +147,9 @@ fn a_program_that_waits_is_told_from_one_that_has_ended() {
         (1, "5,000 steps retired, 1 trapped. Stopped at the trap.")
     );
     let (status, line) = first_line(&["--steps", "5000"]);
-    let ended = "2 steps retired, 0 trapped. The program ended: it jumps to itself at 20000008. The timer would \
+    let waits = "2 steps retired, 0 trapped. The program waits: it jumps to itself at 20000008, and the timer would \
                  interrupt it in 4,998 steps, which is more than were left.";
-    assert_eq!((status, line.as_str()), (0, ended));
+    assert_eq!((status, line.as_str()), (0, waits));
     let (status, line) = first_line(&["--compare", "0xffffffffffffffff"]);
     let ended = "2 steps retired, 0 trapped. The program ended: it jumps to itself at 20000008.";
     assert_eq!((status, line.as_str()), (0, ended));
@@ -175,7 +175,7 @@ fn a_state_file_of_version_2_has_compare_0() {
     let value = bench_in(&directory, &later).json();
     assert_eq!(
         [&value["retired"], &value["end"]],
-        [&json!(2), &json!("still")]
+        [&json!(2), &json!("waits")]
     );
 }
 

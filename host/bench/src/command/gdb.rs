@@ -5,7 +5,7 @@ use super::run::{self, Halt};
 use crate::arguments::{Gdb, Run};
 use crate::capability_text::{count, grouped};
 use crate::gdb::{serve, Served, Target};
-use crate::{file, Status};
+use crate::{complain, file, Status};
 use std::io::Write;
 use std::net::{Ipv4Addr, TcpListener};
 
@@ -28,10 +28,12 @@ pub fn obey(asked: Gdb) -> Result<Status, String> {
     }
     let ready = match run::ready(&asked, &files, map) {
         Err(Halt::Refused(refusal, state)) => return refused_state(refusal, &state, false),
+        Err(Halt::Outside(outside)) => return run::refused_outside(&outside, false),
         Err(Halt::Bad(reason)) => return Err(reason),
         Ok(ready) => ready,
     };
     tell(&run::labels_told(&asked, &labelled, &fits));
+    ready.notes.iter().for_each(|note| complain(note));
     hold(
         Target::new(ready.state, ready.names, ready.stack),
         port,

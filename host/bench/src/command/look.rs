@@ -20,7 +20,7 @@ pub struct Look {
 impl Look {
     pub fn of(asked: &Run, ready: &Ready) -> Result<Look, String> {
         let breaks = asked.breaks.iter();
-        let breaks = breaks.map(|place| address("--break", place, ready));
+        let breaks = breaks.map(|place| even_place("--break", place, ready));
         Ok(Look {
             breaks: breaks.collect::<Result<_, String>>()?,
             cover: asked.cover.then(|| Cover::new(&ready.state)),
@@ -55,13 +55,27 @@ impl Look {
     }
 }
 
-/// The address that an option names: an image's symbol, a line of its source, or a number.
-pub fn address(option: &str, place: &str, ready: &Ready) -> Result<u32, String> {
+/// The address of a place that an option names: an image's symbol, a line of its source, or a number.
+pub fn place(option: &str, place: &str, ready: &Ready) -> Result<u32, String> {
+    address(option, place, ready, arguments::word)
+}
+
+/// The same of a place where an instruction may stand.
+pub fn even_place(option: &str, place: &str, ready: &Ready) -> Result<u32, String> {
+    address(option, place, ready, arguments::even)
+}
+
+fn address(
+    option: &str,
+    place: &str,
+    ready: &Ready,
+    number: impl Fn(&str) -> Result<u32, String>,
+) -> Result<u32, String> {
     let label = ready.labels.iter().find(|(name, _)| name == place);
     let label = label.map(|(_, address)| *address);
     match label.or_else(|| ready.lines.address(place)) {
         Some(address) => Ok(address),
-        None => arguments::even(place).map_err(|reason| {
+        None => number(place).map_err(|reason| {
             format!("{option} {place}: no symbol or line of an image has that name, and as a number it is {reason}")
         }),
     }

@@ -2,9 +2,10 @@
 
 use super::fit::{rows, verdict, Beside, Board, Labelled};
 use super::look::Look;
-use super::{read_state, refused_on_the_way, refused_state, say, say_json};
+use super::{read_state, refused_on_the_way, refused_state, say, say_bytes, say_json, signature};
 use crate::account::Account;
 use crate::arguments::Run;
+use crate::console::{Console, Said};
 use crate::drive::{self, Outcome, Plan, Refused};
 use crate::edition::Edition;
 use crate::image::lines::Lines;
@@ -12,15 +13,17 @@ use crate::image::{self, Image, Segment, DEFAULT_START};
 use crate::last::Last;
 use crate::names::Names;
 use crate::page::{self, Answer, Source, Subject, LAST};
+use crate::payload::{self, Outside};
 use crate::probe::fetch;
 use crate::proved::sheets::NEITHER;
 use crate::proved::{self, Counts, Refusal, MOST_STEPS};
 use crate::save::Place;
 use crate::sheet::Sheet;
 use crate::stack::Stack;
-use crate::{colour, complain, file, json, report, state_file, trace, Status};
+use crate::trial::Trial;
+use crate::{colour, complain, file, json, report, revoke, state_file, trace, Status};
 use indicatif::{ProgressBar, ProgressStyle};
-use lent::{Range, State, Watch, Window, COMPARE, TIME};
+use lent::{State, Window, COMPARE, TIME};
 use std::io::Write;
 use std::path::{Path, PathBuf};
 
@@ -37,10 +40,14 @@ pub fn run(asked: Run) -> Result<Status, String> {
             Err(Halt::Refused(refusal, state)) => {
                 return refused_state(refusal, &state, asked.json)
             }
+            Err(Halt::Outside(outside)) => return task.outside(&outside),
             Err(Halt::Bad(reason)) => return Err(reason),
             Ok(ready) => ready,
         };
         let look = Look::of(&asked, &ready)?;
+        let map = task.board.map(|board| &board.sheet);
+        let trial = Trial::of(&asked.terms, &ready, map)?;
+        let signature = signature::Asked::of(&asked, &ready)?;
         let place = asked.save.as_deref().map(|path| place(path, &asked));
         let place = place.transpose()?;
         let told = if asked.json {
@@ -48,7 +55,8 @@ pub fn run(asked: Run) -> Result<Status, String> {
         } else {
             say(&labels_told(&asked, labelled, task.fits))
         };
-        let status = task.carry_out(ready, look, place)?;
+        ready.notes.iter().for_each(|note| complain(note));
+        let status = task.carry_out(ready, look, &trial, (place, signature))?;
         told.map(|()| status)
     })
 }
@@ -73,7 +81,7 @@ pub fn with_files(
         page: page.transpose()?,
     };
     if let Some(image) = fits.iter().find(|image| !image.fits) {
-        task.write_page(|| page::of(&task.subject(&[])?, &Answer::Misfit))?;
+        task.write_page(|| page::of(&task.subject(None)?, &Answer::Misfit))?;
         return misfit(asked, image);
     }
     go_on(&task, &labelled)
@@ -100,39 +108,50 @@ impl<'a> Task<'a> {
         &self,
         mut ready: Ready,
         mut look: Look,
-        place: Option<Place>,
+        trial: &Trial,
+        (place, signature): (Option<Place>, Option<signature::Asked>),
     ) -> Result<Status, String> {
         let asked = self.asked;
-        let before = self.page.as_ref().map(|_| ready.state.clone());
-        let wanted = asked.last.max(before.as_ref().map(|_| LAST));
-        let mut last = wanted.map(|wanted| Last::new(&ready.state, wanted, asked.sweep));
-        let run = drive(asked, &mut ready, last.as_mut(), &mut look).and_then(|outcome| {
-            let made = outcome.counts;
-            let looked = look.back(asked, last.as_ref(), made.steps());
-            let refused = |refusal| Refused { refusal, made };
-            looked.map(|()| outcome).map_err(refused)
+        let before = ready.state.clone();
+        let wanted = asked.last.max(self.page.as_ref().map(|_| LAST));
+        let mut last = wanted.map(|wanted| Last::new(&before, wanted, asked.terms.sweep));
+        let run = drive(asked, &mut ready, last.as_mut(), (&mut look, trial));
+        let run = run.and_then(|(outcome, said)| {
+            let refused = refused_after(&outcome);
+            let looked = look.back(asked, last.as_ref(), outcome.counts.steps());
+            let judged = trial.judged(&before, (&outcome, &ready.state), said);
+            let judged = looked.and(judged).map_err(refused)?;
+            Ok((outcome, judged))
         });
-        let outcome = match run {
+        let (outcome, judged) = match run {
             Err(refused) => return refused_on_the_way(refused, &ready.state, asked.json),
-            Ok(outcome) => outcome,
+            Ok(judged) => judged,
         };
-        let (named, swept) = ((&ready.names, ready.stack), asked.sweep.is_some());
-        let mut account = Account::of(&ready.state, &outcome, named, self.fits, swept);
-        account.watched = left(asked, &outcome);
+        let named = (&ready.names, ready.stack);
+        let judged = (&judged, asked.terms.sweep.is_some());
+        let account = Account::of(&ready.state, &outcome, named, self.fits, judged);
         // What cannot be said is saved nevertheless, and what cannot be saved is said.
         let said = conclude(asked, &ready, &account, &look);
         let saved = place.map_or(Ok(()), |place| {
             place.write(state_file::write(&ready.state).as_bytes())
         });
-        let paged = before.zip(last).map_or(Ok(()), |(before, last)| {
-            let subject = self.subject(&ready.segments);
+        let signed = signature.map_or(Ok(()), |signature| signature.write(&ready.state));
+        let paged = last.map_or(Ok(()), |last| {
+            let subject = self.subject(Some(&ready));
             self.write_page(|| ran_page(&subject?, &account, &before, &last))
         });
-        saved.and(paged).and(said)
+        saved.and(signed).and(paged).and(said)
     }
 
-    /// What the page is about.
-    pub fn subject(&self, segments: &'a [Segment]) -> Result<Subject<'a>, String> {
+    /// Says that a byte of an image lies outside the board, on the page too; nothing is run.
+    pub fn outside(&self, outside: &Outside) -> Result<Status, String> {
+        let said = outside.reason();
+        self.write_page(|| page::of(&self.subject(None)?, &Answer::Outside(said)))?;
+        refused_outside(outside, self.asked.json)
+    }
+
+    /// What the page is about, with what is ready, if something is.
+    pub fn subject(&self, ready: Option<&'a Ready>) -> Result<Subject<'a>, String> {
         let images = self.asked.images.iter().zip(self.files);
         let mut files: Vec<Source> = images
             .map(|(path, bytes)| Source::of(path, bytes))
@@ -144,8 +163,9 @@ impl<'a> Task<'a> {
         Ok(Subject {
             files,
             board: named.map(|(path, board)| (Source::of(path, &board.bytes), &board.sheet)),
-            segments,
+            segments: ready.map_or(&[], |ready| &ready.segments),
             fits: self.fits,
+            notes: ready.map_or(&[], |ready| &ready.notes),
         })
     }
 
@@ -159,6 +179,8 @@ impl<'a> Task<'a> {
 /// Why nothing is run.
 pub enum Halt {
     Refused(Refusal, Box<State>),
+    /// A byte of an image lies outside the board.
+    Outside(Outside),
     Bad(String),
 }
 
@@ -167,6 +189,7 @@ impl Halt {
     pub fn said(self) -> String {
         match self {
             Halt::Refused(refusal, state) => report::refused(refusal, &state),
+            Halt::Outside(outside) => outside.reason(),
             Halt::Bad(reason) => reason,
         }
     }
@@ -186,18 +209,19 @@ pub struct Ready {
     pub stack: Option<Stack>,
     pub labels: Vec<(String, u32)>,
     pub lines: Lines,
-    pub record: Watch,
+    /// What the images' headers say of another core.
+    pub notes: Vec<String>,
 }
 
 /// The images in memory, and what is known of it.
 pub fn ready(asked: &Run, files: &[&[u8]], map: Option<&Sheet>) -> Result<Ready, Halt> {
     let stack = stack(asked, map)?;
-    let record = record(&asked.watch)?;
     let (mut state, images) = start(asked, files, map)?;
     set_words(asked, stack, &mut state);
     if let Err(refusal) = proved::run(&mut state, 0) {
         return Err(Halt::Refused(refusal, Box::new(state)));
     }
+    revoke::set(&mut state, &asked.revoke)?;
     image::load(&mut state, &images.segments)?;
     let mut names = map.map_or(Vec::new(), Sheet::names);
     names.extend(images.names);
@@ -208,7 +232,7 @@ pub fn ready(asked: &Run, files: &[&[u8]], map: Option<&Sheet>) -> Result<Ready,
         stack,
         labels: images.labels,
         lines: images.lines,
-        record,
+        notes: images.notes,
     })
 }
 
@@ -294,8 +318,17 @@ pub fn misfit(asked: &Run, image: &Beside) -> Result<Status, String> {
     Ok(Status::Refused)
 }
 
+/// Says that a byte of an image lies outside the board; nothing is run.
+pub fn refused_outside(outside: &Outside, as_json: bool) -> Result<Status, String> {
+    if as_json {
+        say_json(&json::refused_outside(outside))?;
+    }
+    complain(&format!("refused: {}", outside.reason()));
+    Ok(Status::Refused)
+}
+
 /// The state to start from, a saved one or reset, and the images that go into its memory.
-fn start(asked: &Run, files: &[&[u8]], map: Option<&Sheet>) -> Result<(State, Image), String> {
+fn start(asked: &Run, files: &[&[u8]], map: Option<&Sheet>) -> Result<(State, Image), Halt> {
     let saved = asked.state.as_deref().map(read_state).transpose()?;
     let span = map.and_then(Sheet::span);
     let (map_start, map_size) = span.unwrap_or((DEFAULT_START, DEFAULT_SIZE));
@@ -304,11 +337,14 @@ fn start(asked: &Run, files: &[&[u8]], map: Option<&Sheet>) -> Result<(State, Im
     let mut images = Image::default();
     for (path, bytes) in asked.images.iter().zip(files) {
         let image = image::read(path, bytes, asked.format, start)?;
+        let outside = map.and_then(|map| payload::outside(&image, &map.regions));
+        outside.map_or(Ok(()), |outside| Err(Halt::Outside(outside)))?;
         images.entry = images.entry.or(image.entry);
         images.segments.extend(image.segments);
         images.names.extend(image.names);
         images.labels.extend(image.labels);
         images.lines.0.extend(image.lines.0);
+        images.notes.extend(image.notes);
     }
     if let Some(state) = saved {
         return Ok((state, images));
@@ -316,7 +352,7 @@ fn start(asked: &Run, files: &[&[u8]], map: Option<&Sheet>) -> Result<(State, Im
     let entry = asked.entry.or(images.entry).unwrap_or(start);
     if !fetch::is_place(entry) {
         let odd = "odd, and an instruction's address is even";
-        return Err(format!("the image's start, {entry:08x}, is {odd}"));
+        return Err(format!("the image's start, {entry:08x}, is {odd}").into());
     }
     let size = asked.size.unwrap_or(map_size).min(MOST_SIZE);
     let mut state = State::reset(start, vec![0; size as usize], entry);
@@ -353,20 +389,6 @@ fn stack(asked: &Run, map: Option<&Sheet>) -> Result<Option<Stack>, String> {
     }
 }
 
-/// The record of the ranges that are watched, none or one or two; one that is not asked for is empty.
-fn record(numbers: &[u32]) -> Result<Watch, String> {
-    let range = |range: &[u32]| Range {
-        start: range[0],
-        length: range[1],
-        count: 0,
-    };
-    let mut ranges = numbers.chunks(2).map(range);
-    match numbers.len() {
-        0..=4 => Ok([(); 2].map(|()| ranges.next().unwrap_or_default())),
-        _ => Err("--watch is given at most twice".into()),
-    }
-}
-
 /// Sets the mark for the stack at reset, and the timer as it is asked for.
 fn set_words(asked: &Run, stack: Option<Stack>, state: &mut State) {
     if let (None, Some(stack)) = (&asked.state, stack) {
@@ -395,16 +417,51 @@ fn place(path: &Path, asked: &Run) -> Result<Place, String> {
     Place::apart(path, &read)
 }
 
+/// What a run that made its steps is refused for afterwards, where they cannot be made again.
+fn refused_after(outcome: &Outcome) -> impl Fn(Refusal) -> Refused {
+    let made = outcome.counts;
+    move |refusal| Refused { refusal, made }
+}
+
 /// Runs, with a line a step or a bar of progress. Where the last steps are wanted, states are kept on the way.
 fn drive(
     asked: &Run,
     ready: &mut Ready,
-    mut last: Option<&mut Last>,
-    look: &mut Look,
-) -> Result<Outcome, Refused> {
+    last: Option<&mut Last>,
+    (look, trial): (&mut Look, &Trial),
+) -> Result<(Outcome, Option<Said>), Refused> {
     let bar = progress(asked);
+    let mut watch = watch(asked, &bar, last);
+    let show = |text: &str| match asked.json {
+        true => (),
+        false => bar.suspend(|| say_bytes(text.as_bytes()).unwrap_or(())),
+    };
+    let mut console = trial.console.map(|address| Console::new(address, &show));
+    let mut hear = console
+        .as_mut()
+        .map(|console| |state: &State| console.hear(state));
+    let mut plan = Plan {
+        breaks: std::mem::take(&mut look.breaks),
+        cover: look.cover.as_mut(),
+        stored: hear.as_mut().map(|hear| hear as &mut dyn FnMut(&State)),
+        ..trial.plan(&mut watch)
+    };
+    if asked.trace {
+        plan.call = 1;
+    }
+    let outcome = drive::run(&mut ready.state, plan);
+    bar.finish_and_clear();
+    outcome.map(|outcome| (outcome, console.map(Console::said)))
+}
+
+/// Who is shown each call of a run, keeps states on the way and shows a line a step, or how far it has come.
+fn watch<'a>(
+    asked: &'a Run,
+    bar: &'a ProgressBar,
+    mut last: Option<&'a mut Last>,
+) -> impl FnMut(&State, &State, Counts) -> bool + 'a {
     let mut number = 0;
-    let mut watch = |before: &State, after: &State, made: Counts| {
+    move |before, after, made| {
         if let Some(last) = &mut last {
             last.see(number, before);
         }
@@ -415,32 +472,18 @@ fn drive(
         }
         bar.set_position(number);
         true
-    };
-    let mut plan = Plan {
-        through_traps: asked.through_traps,
-        sweep: asked.sweep,
-        record: ready.record,
-        breaks: std::mem::take(&mut look.breaks),
-        cover: look.cover.as_mut(),
-        ..Plan::new(asked.steps, &mut watch)
-    };
-    if asked.trace {
-        plan.call = 1;
     }
-    let outcome = drive::run(&mut ready.state, plan);
-    bar.finish_and_clear();
-    outcome
 }
 
 /// A bar on standard error for long runs; it draws nothing where that is no terminal.
 fn progress(asked: &Run) -> ProgressBar {
-    if asked.trace || asked.steps <= MOST_STEPS {
+    if asked.trace || asked.terms.steps <= MOST_STEPS {
         return ProgressBar::hidden();
     }
     let form = "{elapsed_precise} {wide_bar} {human_pos} of {human_len} steps, {eta} left";
     let style = ProgressStyle::with_template(form);
     let style = style.unwrap_or_else(|_| ProgressStyle::default_bar());
-    ProgressBar::new(asked.steps).with_style(style)
+    ProgressBar::new(asked.terms.steps).with_style(style)
 }
 
 /// A line of the trace, and whether it was written: whoever closes the output does not want the
@@ -453,15 +496,11 @@ fn tell(on_error: bool, line: &str) -> bool {
     writeln!(std::io::stdout(), "{}", colour::output(line)).is_ok()
 }
 
-/// The watched ranges at the end, as many as were asked for.
-fn left<'a>(asked: &Run, outcome: &'a Outcome) -> &'a [Range] {
-    &outcome.record[..asked.watch.len() / 2]
-}
-
 /// Says how the run went, and what was seen of its steps.
 fn conclude(asked: &Run, ready: &Ready, account: &Account, look: &Look) -> Result<Status, String> {
     if asked.json {
         let mut value = json::account(account);
+        value["notes"] = ready.notes.clone().into();
         look.put(ready, &mut value);
         say_json(&value)?;
     } else {

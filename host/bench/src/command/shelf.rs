@@ -1,13 +1,15 @@
 //! `bench shelf`: every image of a folder on a board.
 
-use super::refused_sheet;
-use crate::arguments::Shelf as Asked;
+use super::run::{self, Halt};
+use super::{refused_sheet, refused_state};
+use crate::arguments::{Run, Shelf as Asked, Start};
 use crate::colour::Painter;
 use crate::command::fit::Board;
 use crate::proved::sheets::BAD_BOARD;
 use crate::save::Place;
 use crate::shelf::table::{self, Counted};
 use crate::shelf::{work, Done, Results, Shelf};
+use crate::trial::Trial;
 use crate::{complain, file, Status};
 use indicatif::{ProgressBar, ProgressStyle};
 use std::fs;
@@ -26,6 +28,9 @@ pub fn obey(asked: &Asked) -> Result<Status, String> {
         .nevers
         .iter()
         .try_for_each(|never| never.check(sheet))?;
+    if let Some(status) = refused_at_once(asked, &shelf)? {
+        return Ok(status);
+    }
     let names = shelf.names()?;
     if names.is_empty() {
         return Err(format!(
@@ -55,11 +60,46 @@ fn shelf(asked: &Asked, board: Board) -> Result<Shelf, String> {
         board_name: asked.board.clone(),
         board,
         with: with.collect::<Result<_, String>>()?,
-        steps: asked.steps,
+        setting: asked.setting.clone(),
+        terms: asked.terms.clone(),
         handover: asked.handover.clone(),
         nevers: asked.never.clone(),
         pages: asked.report.clone(),
     })
+}
+
+/// Judges once what is the same for any image, as `run` does: whether the board's own files fit it, and whether what is
+/// asked for can be. What is refused is told.
+fn refused_at_once(asked: &Asked, shelf: &Shelf) -> Result<Option<Status>, String> {
+    let from = Start {
+        images: asked.with.clone(),
+        setting: asked.setting.clone(),
+        map: Some(asked.board.clone()),
+        ..Start::default()
+    };
+    let run = Run {
+        from,
+        json: asked.json,
+        ..Run::default()
+    };
+    let files = shelf.with.iter().map(|(_, bytes)| bytes.as_slice());
+    let files: Vec<&[u8]> = files.collect();
+    let labelled = run::labelled(&run, &files);
+    let fits = run::fits(Some(&shelf.board), &labelled);
+    if let Some(file) = fits.iter().find(|file| !file.fits) {
+        return run::misfit(&run, file).map(Some);
+    }
+    let map = Some(&shelf.board.sheet);
+    let refused = match run::ready(&run, &files, map) {
+        Ok(ready) => {
+            let terms = asked.terms.of_any_image();
+            return Trial::of(&terms, &ready, map).map(|_| None);
+        }
+        Err(Halt::Refused(refusal, state)) => refused_state(refusal, &state, asked.json),
+        Err(Halt::Outside(outside)) => run::refused_outside(&outside, asked.json),
+        Err(Halt::Bad(reason)) => Err(reason),
+    };
+    refused.map(Some)
 }
 
 /// The jobs that are asked for, or one for each core.
@@ -135,10 +175,7 @@ fn conclude(
         _ => text(&mut out, results),
     };
     unless_closed(said.and_then(|()| out.flush()))?;
-    Ok(match Counted::of(results).all_good() {
-        true => Status::Ran,
-        false => Status::NoFit,
-    })
+    Ok(Counted::of(results).status())
 }
 
 fn text(out: &mut impl Write, results: &Results) -> Result<(), Error> {

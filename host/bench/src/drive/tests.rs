@@ -5,9 +5,9 @@ mod looked;
 use super::*;
 use crate::probe;
 use crate::proved::{self, UNSOUND};
-use crate::samples::{counting, loading, plan, storing};
-use crate::samples::{EBREAK, JUMP_TO_ITSELF, LOADED, LOOP, STORED};
-use lent::{Capability, Range, COMPARE, MCAUSE};
+use crate::samples::{coded, counting, loading, plan, storing};
+use crate::samples::{COUNT, EBREAK, JUMP_TO_ITSELF, LOADED, LOOP, NOP, START, STORED};
+use lent::{Capability, Range, COMPARE, EXECUTABLE_ROOT, MCAUSE, MTCC};
 use lent::{MIE, MSTATUS, PCC, TIME, TIMER_INTERRUPT};
 
 /// addi c4, c0, 0, which clears the register of the load.
@@ -68,12 +68,13 @@ fn a_program_that_waits_for_the_timer_is_not_at_its_end() {
 
 #[test]
 fn a_timer_that_no_step_reaches_does_not_keep_a_program_running() {
-    for (mie, time, compare, steps) in [
-        (MIE, 0, u64::MAX, 1_000_000),
-        (MIE, 0, 5_000, 5_000),
-        (MIE, u64::MAX - 5_000, u64::MAX, 5_000),
-        (!MIE, 0, 0, u64::MAX),
-        (!MIE, u64::MAX - 3, u64::MAX, 5_000),
+    for (mie, time, compare, steps, end) in [
+        (MIE, 0, u64::MAX, 1_000_000, End::Still),
+        (MIE, 0, 5_000, 5_000, End::Waits(4_980)),
+        (MIE, 0, 1 << 40, 5_000, End::Waits((1 << 40) - 20)),
+        (MIE, u64::MAX - 5_000, u64::MAX, 5_000, End::Still),
+        (!MIE, 0, 0, u64::MAX, End::Still),
+        (!MIE, u64::MAX - 3, u64::MAX, 5_000, End::Still),
     ] {
         let mut state = counting(10, JUMP_TO_ITSELF);
         state.regs[MSTATUS] = mie;
@@ -81,7 +82,7 @@ fn a_timer_that_no_step_reaches_does_not_keep_a_program_running() {
         state.set_long(COMPARE, compare);
         let outcome = driven(&mut state, steps, false);
         assert_eq!(outcome.counts, counts(20, 0), "{compare} {steps}");
-        assert_eq!(outcome.end, End::Still);
+        assert_eq!(outcome.end, end);
         assert_eq!(state.long(TIME), time.wrapping_add(20));
     }
 }
@@ -106,7 +107,36 @@ fn a_run_through_traps_counts_them_all() {
     let mut state = counting(10, EBREAK);
     let outcome = driven(&mut state, 5_000, true);
     assert_eq!(outcome.counts, counts(20, 4_980));
-    assert_eq!(outcome.end, End::Steps);
+    assert_eq!(outcome.end, End::Stuck);
+}
+
+// The handler is the last word, which a program without the trap comes to by itself.
+#[test]
+fn a_handler_that_jumps_to_itself_handles_nothing() {
+    for (word, made, end) in [
+        (EBREAK, counts(20, 1), End::Unhandled),
+        (NOP, counts(21, 0), End::Still),
+    ] {
+        let mut state = coded(&[COUNT[0], COUNT[1], word, JUMP_TO_ITSELF]);
+        state.regs[3 * 11] = 10;
+        state.set(MTCC, Capability::tagged(START + 12, EXECUTABLE_ROOT));
+        let outcome = driven(&mut state, 5_000, true);
+        assert_eq!((outcome.end, outcome.counts), (end, made));
+    }
+}
+
+#[test]
+fn a_program_that_stands_still_where_its_end_is_not_has_not_ended() {
+    for (exit, end) in [(8, End::Exit), (12, End::Astray)] {
+        for steps in [20, 5_000] {
+            let plan = Plan {
+                exits: BTreeSet::from([START + exit]),
+                ..plan(steps, false)
+            };
+            let outcome = run(&mut counting(10, JUMP_TO_ITSELF), plan).unwrap();
+            assert_eq!((&outcome.end, outcome.counts), (&end, counts(20, 0)));
+        }
+    }
 }
 
 #[test]

@@ -3,6 +3,7 @@
 
 use super::{lines, Image, Segment};
 use crate::names::Name;
+use object::elf::EF_RISCV_FLOAT_ABI;
 use object::elf::{FileHeader32, ProgramHeader32};
 use object::elf::{EM_RISCV, ET_EXEC, PT_LOAD, SHN_LORESERVE, SHT_SYMTAB};
 use object::elf::{STT_FUNC, STT_NOTYPE, STT_OBJECT};
@@ -12,6 +13,9 @@ use object::LittleEndian as Order;
 // The marks of the file's class and byte order.
 const CLASS_32: u8 = 1;
 const LITTLE_ENDIAN: u8 = 1;
+
+/// The flag of a file for cores with 16 registers (the RISC-V ELF specification).
+const EF_RISCV_RVE: u32 = 8;
 
 fn broken(error: object::Error) -> String {
     format!("it is no whole ELF file: {error}")
@@ -35,6 +39,7 @@ pub fn read(bytes: &[u8]) -> Result<Image, String> {
     let loaded = loaded.filter(|(_, header)| header.p_type(order) == PT_LOAD);
     let mut image = Image {
         entry: Some(header.e_entry(order)),
+        notes: notes(header.e_flags(order)),
         ..Image::default()
     };
     for (index, header) in loaded {
@@ -47,6 +52,21 @@ pub fn read(bytes: &[u8]) -> Result<Image, String> {
         return Err("it has no segment to load".into());
     }
     Ok(image)
+}
+
+/// What the flags of a header say of another core than this one, which has 16 registers and no floating point.
+fn notes(flags: u32) -> Vec<String> {
+    let mut notes = Vec::new();
+    if flags & EF_RISCV_RVE == 0 {
+        notes.push("its header says that it is for a core with 32 registers (not RVE), and this one has 16".into());
+    }
+    if flags & EF_RISCV_FLOAT_ABI != 0 {
+        notes.push(
+            "its header says that it is for a core with floating point, and this one has none"
+                .into(),
+        );
+    }
+    notes
 }
 
 /// A segment with the zeros that it has in memory alone; none if it is empty.

@@ -5,17 +5,19 @@ use super::Shelf;
 use crate::account::Account;
 use crate::arguments::{Run, Start};
 use crate::command::fit::{Beside, Labelled};
-use crate::command::look::address;
-use crate::command::run::{ran_page, ready, Ready};
+use crate::command::look::even_place;
+use crate::command::run::{ran_page, ready, Halt, Ready};
+use crate::console::Console;
 use crate::drive::{self, Outcome, Plan, Refused};
-use crate::image::{self, Format, Segment};
+use crate::image;
 use crate::last::Last;
 use crate::page::{self, Answer, Source, Subject, LAST};
+use crate::payload::Outside;
 use crate::proved::Counts;
 use crate::reach::{self, rows};
-use crate::sheet::label::Placed;
 use crate::sheet::Bad;
-use crate::{handover, report};
+use crate::trial::Trial;
+use crate::{handover, report, verdict};
 use lent::State;
 use std::panic::{catch_unwind, AssertUnwindSafe};
 use std::path::{Path, PathBuf};
@@ -57,7 +59,7 @@ struct Image<'a> {
 
 impl Image<'_> {
     fn judged(&self, mut row: Row) -> Result<Judged, String> {
-        if !image::is_labelled(Format::Auto, self.bytes) {
+        if !image::is_labelled(self.shelf.setting.format, self.bytes) {
             row.label = Label::None;
             return self.run(row, &[]);
         }
@@ -74,49 +76,74 @@ impl Image<'_> {
             return self.run(row, &fits);
         }
         row.label = Label::Misfit;
-        row.why = reasons(&fits[0].regions);
-        let page = self.page(|| page::of(&self.subject(&[], &fits), &Answer::Misfit));
+        row.why = self.unnamed(reasons(&fits[0]));
+        let page = self.page(|| page::of(&self.subject(None, &fits), &Answer::Misfit));
         Ok(Judged {
             row,
             page: page.transpose()?,
         })
     }
 
-    /// The image in the board's memory, beside the board's own files, and run.
-    fn run(&self, mut row: Row, fits: &[Beside]) -> Result<Judged, String> {
-        let with = &self.shelf.with;
-        let own = with.iter().map(|(path, _)| path.clone());
+    /// What is asked of the image: the board's own files beside it, and the shelf's terms.
+    fn asked(&self) -> Run {
+        let own = self.shelf.with.iter().map(|(path, _)| path.clone());
         let from = Start {
             images: own.chain([self.name.into()]).collect(),
+            setting: self.shelf.setting.clone(),
             ..Start::default()
         };
-        let asked = Run {
+        Run {
             from,
-            steps: self.shelf.steps,
+            terms: self.shelf.terms.clone(),
             ..Run::default()
-        };
-        let own = with.iter().map(|(_, bytes)| bytes.as_slice());
+        }
+    }
+
+    /// The image in the board's memory, beside the board's own files, and run.
+    fn run(&self, mut row: Row, fits: &[Beside]) -> Result<Judged, String> {
+        let asked = self.asked();
+        let own = self.shelf.with.iter().map(|(_, bytes)| bytes.as_slice());
         let files: Vec<&[u8]> = own.chain([self.bytes]).collect();
-        let mut ready = match ready(&asked, &files, Some(&self.shelf.board.sheet)) {
+        let map = Some(&self.shelf.board.sheet);
+        let mut ready = match ready(&asked, &files, map) {
             Ok(ready) => ready,
+            Err(Halt::Outside(outside)) => return self.outside(row, &outside),
             Err(halt) => return self.bad(row, halt.said()),
         };
+        let trial = match Trial::of(&asked.terms, &ready, map) {
+            Ok(trial) => trial,
+            Err(reason) => return self.bad(row, reason),
+        };
         let before = ready.state.clone();
-        let mut last = Last::new(&before, LAST, None);
-        let outcome = match driven(&mut ready, self.shelf.steps, &mut last) {
-            Ok(outcome) => outcome,
+        let mut last = Last::new(&before, LAST, asked.terms.sweep);
+        let (outcome, judged) = match tried(&mut ready, &before, &trial, &mut last) {
+            Ok(judged) => judged,
             Err(refused) => {
                 return self.bad(row, report::refused_on_the_way(refused, &ready.state))
             }
         };
         let named = (&ready.names, ready.stack);
-        let account = Account::of(&ready.state, &outcome, named, fits, false);
+        let judged = (&judged, asked.terms.sweep.is_some());
+        let account = Account::of(&ready.state, &outcome, named, fits, judged);
         row.take(&account);
+        row.note = self.note(&ready);
         if let Err(why) = self.reach(&mut row, &ready, &before) {
             row.miss(&why);
         }
-        let subject = || self.subject(&ready.segments, fits);
+        let subject = || self.subject(Some(&ready), fits);
         let page = self.page(|| ran_page(&subject(), &account, &before, &last));
+        Ok(Judged {
+            row,
+            page: page.transpose()?,
+        })
+    }
+
+    /// An image of which a byte lies outside the board.
+    fn outside(&self, mut row: Row, outside: &Outside) -> Result<Judged, String> {
+        row.label = Label::Misfit;
+        row.why = self.unnamed(outside.reason());
+        let answer = Answer::Outside(row.why.clone());
+        let page = self.page(|| page::of(&self.subject(None, &[]), &answer));
         Ok(Judged {
             row,
             page: page.transpose()?,
@@ -128,9 +155,9 @@ impl Image<'_> {
         let Some(place) = &self.shelf.handover else {
             return Ok(());
         };
-        let at = address("--handover", place, ready)?;
+        let at = even_place("--handover", place, ready)?;
         let mut state = before.clone();
-        let steps = Some(handover::arrive(&mut state, at, self.shelf.steps)?);
+        let steps = Some(handover::arrive(&mut state, at, self.shelf.terms.steps)?);
         let rows = rows(&state, &self.shelf.board.sheet);
         let rows = rows.map_err(|refusal| report::refused(refusal, &state))?;
         row.take_reach(&reach::Account {
@@ -142,14 +169,26 @@ impl Image<'_> {
         Ok(())
     }
 
-    /// An image that cannot be judged or run, and why; its own name is not said again.
-    fn bad(&self, mut row: Row, why: String) -> Result<Judged, String> {
+    /// What is said of the image, which does not name it again.
+    fn unnamed(&self, said: String) -> String {
         let own = [self.shelf.folder.join(self.name), self.name.into()];
         let own = own.map(|path| format!("{}: ", path.display()));
-        let short = own.iter().find_map(|own| why.strip_prefix(own));
-        row.why = short.unwrap_or(&why).into();
+        let short = own.iter().find_map(|own| said.strip_prefix(own));
+        short.map(str::to_string).unwrap_or(said)
+    }
+
+    /// What headers say of another core.
+    fn note(&self, ready: &Ready) -> Option<String> {
+        let notes = ready.notes.iter().cloned();
+        let notes: Vec<String> = notes.map(|note| self.unnamed(note)).collect();
+        (!notes.is_empty()).then(|| notes.join("; "))
+    }
+
+    /// An image that cannot be judged or run, and why.
+    fn bad(&self, mut row: Row, why: String) -> Result<Judged, String> {
+        row.why = self.unnamed(why);
         let answer = Answer::Bad(row.why.clone());
-        let page = self.page(|| page::of(&self.subject(&[], &[]), &answer));
+        let page = self.page(|| page::of(&self.subject(None, &[]), &answer));
         Ok(Judged {
             row,
             page: page.transpose()?,
@@ -160,7 +199,7 @@ impl Image<'_> {
         self.shelf.pages.as_ref().map(|_| made())
     }
 
-    fn subject<'b>(&'b self, segments: &'b [Segment], fits: &'b [Beside<'b>]) -> Subject<'b> {
+    fn subject<'b>(&'b self, ready: Option<&'b Ready>, fits: &'b [Beside<'b>]) -> Subject<'b> {
         let own = self.shelf.with.iter();
         let own = own.map(|(path, bytes)| Source::of(path, bytes));
         let (name, board) = (&self.shelf.board_name, &self.shelf.board);
@@ -170,30 +209,50 @@ impl Image<'_> {
                 .chain(own)
                 .collect(),
             board: Some((Source::of(name, &board.bytes), &board.sheet)),
-            segments,
+            segments: ready.map_or(&[], |ready| &ready.segments),
             fits,
+            notes: ready.map_or(&[], |ready| &ready.notes),
         }
     }
 }
 
 /// Why an image does not fit: what is said of each region that does not.
-fn reasons(regions: &[Placed]) -> String {
-    let amiss = regions.iter().filter_map(|placed| {
+fn reasons(image: &Beside) -> String {
+    let amiss = image.regions.iter().filter_map(|placed| {
         let reason = placed.place.as_ref().err()?;
         Some(format!("{}: {reason}", placed.region.name))
     });
-    amiss.collect::<Vec<String>>().join("; ")
+    let outside = image.outside.as_ref().map(Outside::reason);
+    amiss.chain(outside).collect::<Vec<String>>().join("; ")
 }
 
-/// Runs, and keeps states for the last steps.
-fn driven(ready: &mut Ready, steps: u64, last: &mut Last) -> Result<Outcome, Refused> {
+/// Runs and judges the run, and keeps states for the last steps.
+fn tried(
+    ready: &mut Ready,
+    before: &State,
+    trial: &Trial,
+    last: &mut Last,
+) -> Result<(Outcome, verdict::Judged), Refused> {
     let mut made = 0;
     let mut watch = |before: &State, _: &State, counts: Counts| {
         last.see(made, before);
         made += counts.steps();
         true
     };
-    drive::run(&mut ready.state, Plan::new(steps, &mut watch))
+    let mut console = trial.console.map(|address| Console::new(address, &|_| ()));
+    let mut hear = console
+        .as_mut()
+        .map(|console| |state: &State| console.hear(state));
+    let plan = Plan {
+        stored: hear.as_mut().map(|hear| hear as &mut dyn FnMut(&State)),
+        ..trial.plan(&mut watch)
+    };
+    let outcome = drive::run(&mut ready.state, plan)?;
+    let said = console.map(Console::said);
+    let judged = trial.judged(before, (&outcome, &ready.state), said);
+    let made = outcome.counts;
+    let judged = judged.map_err(|refusal| Refused { refusal, made })?;
+    Ok((outcome, judged))
 }
 
 #[cfg(test)]
@@ -215,6 +274,7 @@ mod tests {
             board: None,
             segments: &[],
             fits: &[],
+            notes: &[],
         };
         let page = page::of(&subject, &Answer::Bad(why)).unwrap();
         assert!(page.contains("c4 [05000000, 04000000)"));

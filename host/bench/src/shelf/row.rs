@@ -4,7 +4,9 @@ use crate::account::Account;
 use crate::drive::End;
 use crate::proved::instruction;
 use crate::reach::{self, text};
+use crate::report;
 use crate::stack::Used;
+use crate::verdict::Verdict;
 use serde::{Deserialize, Serialize};
 
 /// What an image's label says beside the board.
@@ -23,9 +25,9 @@ pub enum Label {
 #[derive(Clone, Copy, PartialEq, Eq, Debug, Serialize, Deserialize)]
 #[serde(rename_all = "lowercase")]
 pub enum Ran {
-    /// To its end: it jumps to itself.
+    /// To its end: it jumps to itself, or came to where it ends.
     Ended,
-    /// All the steps that were asked for.
+    /// It has not come to its end, by the steps that were asked for or where it stands.
     Running,
     Trapped,
     /// It was not run.
@@ -50,7 +52,9 @@ pub struct Row {
     pub sha256: String,
     pub label: Label,
     pub run: Ran,
-    /// Why it does not fit, cannot be run or trapped.
+    /// What the run is worth on the board, where there was one.
+    pub verdict: Option<Verdict>,
+    /// Why it does not fit, cannot be run, trapped or is not good.
     pub why: String,
     pub retired: Option<u64>,
     pub trapped: Option<u64>,
@@ -64,6 +68,14 @@ pub struct Row {
     pub stack_used: Option<u64>,
     pub stack_size: Option<u64>,
     pub stack_mark: Option<u32>,
+    /// How many stores broke the map, where they were judged.
+    pub map_stores: Option<u64>,
+    /// The stores into the watched ranges, parted by spaces.
+    pub watch: Option<String>,
+    /// The first of what it said.
+    pub console: Option<String>,
+    /// What its header says of another core.
+    pub note: Option<String>,
     /// Where a handover is asked for: the steps to it, what any run from there may do, by the names of regions, and whether
     /// it keeps to what was asked for.
     pub handover: Option<u64>,
@@ -72,6 +84,9 @@ pub struct Row {
     pub may_execute: Option<String>,
     pub kept: Option<Kept>,
 }
+
+/// The most bytes of what an image said.
+const MOST_SAID: usize = 1 << 10;
 
 impl Row {
     /// The row of an image of which nothing is known yet.
@@ -82,6 +97,7 @@ impl Row {
             sha256,
             label: Label::Bad,
             run: Ran::No,
+            verdict: None,
             why: String::new(),
             retired: None,
             trapped: None,
@@ -94,6 +110,10 @@ impl Row {
             stack_used: None,
             stack_size: None,
             stack_mark: None,
+            map_stores: None,
+            watch: None,
+            console: None,
+            note: None,
             handover: None,
             may_write: None,
             may_read: None,
@@ -106,17 +126,22 @@ impl Row {
     pub fn take(&mut self, account: &Account) {
         let (outcome, trap) = (account.outcome, account.trap.as_ref());
         self.run = match outcome.end {
-            End::Still => Ran::Ended,
-            End::Steps | End::Break => Ran::Running,
-            End::Trap(_) => Ran::Trapped,
+            End::Still | End::Exit => Ran::Ended,
+            End::Steps | End::Break | End::Waits(_) | End::Astray => Ran::Running,
+            End::Trap(_) | End::Stuck | End::Unhandled => Ran::Trapped,
         };
+        self.judge(account);
         self.retired = Some(outcome.counts.retired);
         self.trapped = Some(outcome.counts.trapped);
-        if let Some(trap) = trap {
+        // A trap that was handled is not why.
+        let stopped = account.verdict() == Verdict::Trapped;
+        if let Some(trap) = trap.filter(|_| stopped) {
             self.why.clone_from(&trap.cause);
+            self.say_also(&report::unended(account.state, outcome));
             self.at = Some(trap.pcc.address);
             self.instruction = trap.word.map(instruction);
         }
+        let trap = trap.filter(|_| stopped);
         let asked = trap.and_then(|trap| trap.asked);
         self.asked_low = asked.map(|asked| asked.address);
         self.asked_high = asked.map(|asked| asked.end());
@@ -126,6 +151,24 @@ impl Row {
         let used = Used::of(account.state, account.stack);
         self.stack_mark = used.map(|used| used.mark);
         (self.stack_used, self.stack_size) = used.and_then(|used| used.bytes).unzip();
+    }
+
+    /// Takes up what it is judged by.
+    fn judge(&mut self, account: &Account) {
+        let (judged, verdict) = (account.judged, account.verdict());
+        self.verdict = Some(verdict);
+        self.why = match (verdict, &judged.map) {
+            (Verdict::Breaks, Some(map)) => map.why(),
+            (Verdict::Wrong, _) => judged.wrong().join("; "),
+            (Verdict::Good, _) => String::new(),
+            _ => report::unended(account.state, account.outcome),
+        };
+        self.map_stores = judged.map.as_ref().map(|map| map.all);
+        let counts = judged.watched.iter().map(|range| range.count.to_string());
+        let counts: Vec<String> = counts.collect();
+        self.watch = (!counts.is_empty()).then(|| counts.join(" "));
+        let said = judged.console.as_ref();
+        self.console = said.map(|said| said.text(MOST_SAID));
     }
 
     /// Takes up what any run from the handover on may do.
@@ -158,14 +201,19 @@ impl Row {
         self.why.push_str(why);
     }
 
-    /// Whether it was run without a trap.
-    pub fn is_quiet(&self) -> bool {
-        matches!(self.run, Ran::Ended | Ran::Running)
+    /// Whether it fits by its label, its run is good, and it keeps to what was asked for.
+    pub fn is_good(&self) -> bool {
+        self.is(Verdict::Good)
     }
 
-    /// Whether it fits by its label, was run without a trap, and keeps to what was asked for.
-    pub fn is_good(&self) -> bool {
+    /// Whether all that is amiss is that it still runs.
+    pub fn runs_on(&self) -> bool {
+        self.is(Verdict::Running)
+    }
+
+    /// Whether it fits by its label and keeps to what was asked for, and its run has a verdict.
+    fn is(&self, verdict: Verdict) -> bool {
         let kept = self.kept.is_none_or(|kept| kept == Kept::Holds);
-        self.label == Label::Fits && self.is_quiet() && kept
+        self.label == Label::Fits && kept && self.verdict == Some(verdict)
     }
 }

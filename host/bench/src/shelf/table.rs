@@ -4,17 +4,23 @@ use super::row::{Kept, Label, Ran, Row};
 use super::{page_name, Results, Shelf};
 use crate::capability_text::{count, grouped};
 use crate::page::{filled, Source};
+use crate::verdict::Verdict;
 use crate::visible::{shortened, visible};
+use crate::Status;
 use serde_json::{json, Value};
 use std::io::{Error, Write};
 
-/// How many images are what.
+/// How many images are what. Each that was run has one verdict, whatever its label.
 #[derive(Clone, Copy, Default, PartialEq, Eq, Debug)]
 pub struct Counted {
     pub images: u64,
     pub good: u64,
     pub misfits: u64,
     pub trapped: u64,
+    /// A store broke the map, what was expected is not there, it has not ended.
+    pub breaks: u64,
+    pub wrong: u64,
+    pub running: u64,
     /// Judged or run they could not be.
     pub bad: u64,
     pub unlabelled: u64,
@@ -22,18 +28,25 @@ pub struct Counted {
     pub judged: u64,
     pub could: u64,
     pub missed: u64,
+    /// All that is amiss is that it still runs.
+    runs_on: u64,
 }
 
 impl Counted {
     pub fn of(results: &Results) -> Counted {
         let mut counted = Counted::default();
         for row in results.rows() {
+            let is = |verdict| u64::from(row.verdict == Some(verdict));
             counted.images += 1;
             counted.good += u64::from(row.is_good());
             counted.misfits += u64::from(row.label == Label::Misfit);
-            counted.trapped += u64::from(row.run == Ran::Trapped);
+            counted.trapped += is(Verdict::Trapped);
+            counted.breaks += is(Verdict::Breaks);
+            counted.wrong += is(Verdict::Wrong);
+            counted.running += is(Verdict::Running);
             counted.bad += u64::from(row.run == Ran::No && row.label != Label::Misfit);
             counted.unlabelled += u64::from(row.label == Label::None);
+            counted.runs_on += u64::from(row.runs_on());
             counted.judged += u64::from(row.kept.is_some());
             counted.could += u64::from(row.kept == Some(Kept::Could));
             counted.missed += u64::from(row.kept == Some(Kept::Missed));
@@ -41,37 +54,55 @@ impl Counted {
         counted
     }
 
-    /// Whether every image fits and ran without a trap.
+    /// Whether every image fits and its run is good.
     pub fn all_good(&self) -> bool {
         self.good == self.images
     }
 
-    /// Whether all of them are good, in a sentence.
-    fn verdict(&self) -> &'static str {
-        match (self.all_good(), self.judged) {
-            (true, 0) => "Every image fits the board and ran without a trap.",
-            (false, 0) => "Not every image fits the board and ran without a trap.",
-            (true, _) => {
-                "Every image fits the board, ran without a trap and passes at the handover."
-            }
-            (false, _) => {
-                "Not every image fits the board, ran without a trap and passes at the handover."
-            }
+    /// The status of the shelf: its own where all that is amiss is that images still run.
+    pub fn status(&self) -> Status {
+        match self.good + self.runs_on == self.images {
+            _ if self.all_good() => Status::Ran,
+            true => Status::Running,
+            false => Status::NoFit,
+        }
+    }
+
+    /// Whether all of them are good, in a word and in a sentence.
+    fn verdict(&self) -> (&'static str, &'static str) {
+        match (self.status(), self.judged) {
+            (Status::Ran, 0) => ("quiet", "Every image fits the board and is good."),
+            (Status::Ran, _) => (
+                "quiet",
+                "Every image fits the board, is good and passes at the handover.",
+            ),
+            (Status::Running, _) => (
+                "running",
+                "Every image fits the board, and some have not come to their end.",
+            ),
+            (_, 0) => ("bad", "Not every image fits the board and is good."),
+            _ => (
+                "bad",
+                "Not every image fits the board, is good and passes at the handover.",
+            ),
         }
     }
 
     /// What is wanted of an image.
     fn wanted(&self) -> &'static str {
         match self.judged {
-            0 => "fit and ran without a trap",
-            _ => "fit, ran without a trap and pass at the handover",
+            0 => "fit and are good",
+            _ => "fit, are good and pass at the handover",
         }
     }
 
     fn said(&self) -> String {
         let parts = [
             (self.misfits, "do not fit"),
+            (self.breaks, "break the map"),
             (self.trapped, "trapped"),
+            (self.wrong, "did not leave what was expected"),
+            (self.running, "have not come to their end"),
             (self.bad, "could not be run"),
             (self.unlabelled, "have no label to be judged by"),
             (self.could, "could do what they never may"),
@@ -102,12 +133,15 @@ fn label(row: &Row) -> &'static str {
     }
 }
 
+/// How the run went, or what is wrong with it.
 fn run(row: &Row) -> &'static str {
-    match row.run {
-        Ran::Ended => "ended",
-        Ran::Running => "running",
-        Ran::Trapped => "trapped",
-        Ran::No => "not run",
+    match (row.run, row.verdict) {
+        (_, Some(Verdict::Breaks)) => "breaks",
+        (_, Some(Verdict::Wrong)) => "wrong",
+        (Ran::Ended, _) => "ended",
+        (Ran::Running, _) => "running",
+        (Ran::Trapped, _) => "trapped",
+        (Ran::No, _) => "not run",
     }
 }
 
@@ -131,11 +165,12 @@ fn may_write(row: &Row) -> String {
     }
 }
 
-/// Why, and of a trap where.
+/// Why, and of a trap where; else what its header says.
 fn why(row: &Row) -> String {
-    match row.at {
-        Some(at) => format!("at {at:08x}: {}", row.why),
-        None => row.why.clone(),
+    match (row.at, &row.note) {
+        (Some(at), _) => format!("at {at:08x}: {}", row.why),
+        (None, Some(note)) if row.why.is_empty() => note.clone(),
+        (None, _) => row.why.clone(),
     }
 }
 
@@ -196,6 +231,7 @@ pub fn json(out: &mut impl Write, results: &Results) -> Result<(), Error> {
     let counted = Counted::of(results);
     let counts = json!({
         "images": counted.images, "good": counted.good, "misfits": counted.misfits, "trapped": counted.trapped,
+        "breaks": counted.breaks, "wrong": counted.wrong, "running": counted.running,
         "bad": counted.bad, "unlabelled": counted.unlabelled, "could": counted.could, "missed": counted.missed,
     });
     writeln!(out, "\n  ],\n  \"counts\": {counts}\n}}")
@@ -208,11 +244,12 @@ fn fill(out: &mut impl Write, template: &str, value: &Value) -> Result<(), Error
 
 /// A row of that page.
 fn page_row(row: &Row, judged: bool) -> Value {
-    let kind = match row.label {
-        _ if row.run == Ran::Trapped => "trapped",
-        Label::Misfit => "not-fit",
-        _ if row.run == Ran::No => "bad",
+    let kind = match (row.label, row.verdict) {
+        (_, Some(Verdict::Trapped | Verdict::Breaks | Verdict::Wrong)) => "trapped",
+        (Label::Misfit, _) => "not-fit",
+        (_, None) => "bad",
         _ if matches!(row.kept, Some(Kept::Could | Kept::Missed)) => "bad",
+        (_, Some(Verdict::Running)) => "running",
         _ => "quiet",
     };
     let steps = row.retired.map_or(String::new(), grouped);
@@ -226,12 +263,12 @@ fn page_row(row: &Row, judged: bool) -> Value {
 pub fn page(out: &mut impl Write, results: &Results, shelf: &Shelf) -> Result<(), Error> {
     let counted = Counted::of(results);
     let judged = counted.judged > 0;
-    let kind = if counted.all_good() { "quiet" } else { "bad" };
+    let (kind, said) = counted.verdict();
     let folder = shortened(&shelf.folder.display().to_string());
     let board = shortened(&shelf.board_name.display().to_string());
     let title = format!("{folder} on {board}");
     let head = json!({
-        "title": title, "kind": kind, "head": counted.verdict(), "summary": counted.said(),
+        "title": title, "kind": kind, "head": said, "summary": counted.said(),
         "judged": judged.then_some(MAY_WRITE),
     });
     fill(out, "shelf_head.html", &head)?;

@@ -15,7 +15,7 @@ pub fn elf(class: u8, kind: u16, machine: u16, headers: &[Header], data: &[u8]) 
     ];
     let entry = headers.first().map_or(0, |header| header.address);
     bytes.extend([kind, machine].iter().flat_map(|half| half.to_le_bytes()));
-    let words = [1, entry, 52, 0, 0];
+    let words = [1, entry, 52, 0, RVE];
     bytes.extend(words.iter().flat_map(|word| word.to_le_bytes()));
     let halves = [52, 32, headers.len() as u16, 40, 0, 0];
     bytes.extend(halves.iter().flat_map(|half| half.to_le_bytes()));
@@ -33,6 +33,8 @@ pub fn elf(class: u8, kind: u16, machine: u16, headers: &[Header], data: &[u8]) 
     bytes
 }
 
+/// The flag of a file for a core with 16 registers.
+pub const RVE: u32 = 8;
 pub const EXEC: u16 = 2;
 pub const RISCV: u16 = 243;
 

@@ -93,3 +93,28 @@ pub fn golden(name: &str, text: &str) {
         "{name} differs from its golden file: {differing:?}\n{text}"
     );
 }
+
+/// The bytes that the command assembles of a listing, its fields parted by spaces and its lines by semicolons here.
+pub fn assembled(directory: &Path, listing: &str) -> Vec<u8> {
+    let lines = listing
+        .split("; ")
+        .map(|line| line.trim().replace(' ', "\t") + "\n");
+    std::fs::write(directory.join("listing"), lines.collect::<String>()).expect("a listing");
+    let answer = bench_in(directory, &["assemble", "listing", "-o", "assembled"]);
+    assert_eq!(answer.status, 0, "{}", answer.err);
+    std::fs::read(directory.join("assembled")).expect("the bytes")
+}
+
+/// Bytes with one of them changed.
+pub fn changed(bytes: &[u8], place: usize, from: u8, to: u8) -> Vec<u8> {
+    let mut changed = bytes.to_vec();
+    assert_eq!(changed[place], from, "the byte that is changed");
+    changed[place] = to;
+    changed
+}
+
+/// A sheet of regions, each a name, start, length and rights parted by spaces.
+pub fn sheet(regions: &[&str]) -> String {
+    let line = |region: &&str| format!("region\t{}\n", region.replace(' ', "\t"));
+    regions.iter().map(line).collect()
+}
