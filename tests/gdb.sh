@@ -64,7 +64,7 @@ documented_session() {
   start doors.elf &&
     sed -n 's/^(gdb) //p' "$shown" | sed 's/127.0.0.1:3333/PLACE/' | session doors.elf &&
     sed 's/127.0.0.1:3333/PLACE/' "$shown" | expand | diff - "$work/gdb.out" &&
-    sed "s/$place/127.0.0.1:3333/" "$work/bench.out" | head -n 1 | diff - <(sed 1d "$(block '\$ ./bench gdb')")
+    sed "s/$place/127.0.0.1:3333/" "$work/bench.out" | head -n 2 | diff - <(sed 1d "$(block '\$ ./bench gdb')")
 }
 # The other blocks: commands after a dollar sign, and what they write.
 documented_runs() {
@@ -98,7 +98,7 @@ GDB
   says 'Breakpoint 1, ' '(gdb) stepi' ' in plan ()' 'Breakpoint 1, ' 'tag = 0x1, low = 0x20000480, high = 0x20000800' 'Hardware watchpoint 2' \
     ': store outside the bounds of c2.' 'Program received signal SIGSEGV' '"D15:SHUT"' '(gdb) monitor explain' 'detached' || return 1
   sed '1,/^(gdb) monitor explain/d; /^(gdb) detach/,$d' "$work/gdb.out" | grep . >"$work/explained"
-  sed '1d; /^  register/,$d' "$work/run.out" | grep . | diff - "$work/explained"
+  sed '1d; /^Map: /d; /^  register/,$d' "$work/run.out" | grep . | diff - "$work/explained"
 }
 
 # What is written loses its tag, a tag is not given, and a new start is told.
