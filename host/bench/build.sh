@@ -5,7 +5,7 @@
 set -eu
 cd "$(dirname "$0")"
 
-crates=(addr2line clap clap_complete csv gimli indicatif object serde serde_derive serde_json sha2 tera)
+crates=(addr2line clap clap_complete csv gimli indicatif object serde serde_derive serde_json sha2 signal-hook tempfile tera)
 missing=()
 for crate in "${crates[@]}"; do
   compgen -G "/usr/share/cargo/registry/$crate-[0-9]*" >/dev/null || missing+=("librust-${crate/_/-}-dev")

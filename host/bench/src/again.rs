@@ -3,6 +3,7 @@
 
 use crate::last::{advance, Kept};
 use crate::proved::Refusal;
+use crate::stop;
 use lent::{Range, State, Watch};
 
 /// The most steps of a call. Where a value was loaded that no start may hold, calls go on from the last start before, and
@@ -63,9 +64,9 @@ impl Again<'_> {
         Ok(low)
     }
 
-    /// Makes the steps up to the one of that number.
+    /// Makes the steps up to the one of that number, unless a signal comes: whoever counts looks at that afterwards.
     fn go_to(&self, at: &mut Kept, made: u64) -> Result<(), Refusal> {
-        while at.made < made {
+        while at.made < made && !stop::is_asked() {
             advance(at, (made - at.made).min(CALL), self.sweep)?;
         }
         Ok(())

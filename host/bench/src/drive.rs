@@ -9,7 +9,7 @@ use crate::cover::Cover;
 use crate::halt::{by_calls, by_steps, bytes_at, is_still, is_stuck, Halt, Pace, Stops};
 use crate::probe;
 use crate::proved::{Counts, Refusal, MOST_STEPS};
-use crate::sweep;
+use crate::{stop, sweep};
 use lent::{State, Watch, COMPARE, PCC};
 use std::collections::BTreeSet;
 
@@ -41,6 +41,8 @@ pub enum End {
     Exit,
     /// All the steps were made, and nothing handles the last trap: every further step traps and changes time alone.
     Stuck,
+    /// A signal stopped the run; the further steps are not made.
+    Stopped,
 }
 
 /// How often memory was swept during a run, and how many tags went.
@@ -239,14 +241,12 @@ fn advance(course: &mut Course, pace: Pace, looks: bool, plan: &mut Plan) -> (Co
     made
 }
 
-/// After the last step, and where it is time for a sweep: sees whether the program stands still, and sweeps.
+/// After the last step, and where it is time for a sweep: sees whether the program stands still, and sweeps. On the way it
+/// sees whether someone stops the run.
 fn pause(course: &mut Course, plan: &Plan, done: &mut Outcome) -> Result<(), Refusal> {
     let made = done.counts.steps();
-    let sweeps = sweep::is_due(plan.sweep, made);
-    if !sweeps && made < plan.steps {
-        return Ok(());
-    }
-    if is_still(course, plan.steps - made) {
+    let (sweeps, is_last) = (sweep::is_due(plan.sweep, made), made >= plan.steps);
+    if (sweeps || is_last) && is_still(course, plan.steps - made) {
         done.end = End::Still;
         return Ok(());
     }
@@ -254,10 +254,12 @@ fn pause(course: &mut Course, plan: &Plan, done: &mut Outcome) -> Result<(), Ref
         done.swept.passes += 1;
         done.swept.tags += sweep::pass(course.change(), |_| ())?.len() as u64;
     }
-    if made >= plan.steps && plan.exits.contains(&course.state().capability(PCC).address) {
+    if is_last && plan.exits.contains(&course.state().capability(PCC).address) {
         done.end = End::Exit;
-    } else if made >= plan.steps && plan.through_traps && is_stuck(course) {
+    } else if is_last && plan.through_traps && is_stuck(course) {
         done.end = End::Stuck;
+    } else if !is_last && stop::is_asked() {
+        done.end = End::Stopped;
     }
     Ok(())
 }

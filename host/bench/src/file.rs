@@ -27,7 +27,9 @@ pub fn why(error: &Error) -> String {
         ErrorKind::NotADirectory => "it is a file, and a folder is asked for",
         ErrorKind::AlreadyExists => "it is a file, and a folder is asked for",
         ErrorKind::PermissionDenied => "the system does not permit it",
-        ErrorKind::StorageFull => "no room is left there",
+        ErrorKind::StorageFull | ErrorKind::QuotaExceeded => "no room is left there",
+        ErrorKind::FileTooLarge => "no larger file is possible there",
+        ErrorKind::ReadOnlyFilesystem => "nothing can be written there",
         ErrorKind::AddrInUse => "something listens there already; --port 0 takes a free one",
         _ => return error.to_string(),
     };

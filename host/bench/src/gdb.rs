@@ -2,10 +2,12 @@
 
 mod description;
 mod monitor;
+mod opening;
 mod packet;
 mod query;
 mod registers;
 mod resume;
+mod seat;
 mod server;
 mod session;
 mod stop;

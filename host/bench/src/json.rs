@@ -48,6 +48,7 @@ fn run(state: &State, outcome: &Outcome, trap: Option<&Trap>, names: &Names) -> 
         End::Break => "break",
         End::Exit => "exit",
         End::Stuck => "stuck",
+        End::Stopped => "stopped",
     };
     json!({
         "retired": outcome.counts.retired,

@@ -45,6 +45,7 @@ mod sheet;
 mod shelf;
 mod stack;
 mod state_file;
+mod stop;
 mod sweep;
 mod trace;
 mod trap;
@@ -72,6 +73,8 @@ pub enum Status {
     Bad,
     /// The program has not come to its end.
     Running,
+    /// A signal stopped it; what there was is said and saved.
+    Stopped,
 }
 
 impl Status {
@@ -84,6 +87,7 @@ impl Status {
             Status::Bad => 3,
             // 4 is of ./bench: something could not be built.
             Status::Running => 5,
+            Status::Stopped => stop::end(),
         }
     }
 }
@@ -102,6 +106,7 @@ fn parsed() -> Result<Arguments, clap::Error> {
 }
 
 fn main() -> ExitCode {
+    stop::listen();
     let status = match parsed() {
         Ok(arguments) => {
             colour::ask(arguments.color);

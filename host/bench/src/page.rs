@@ -212,10 +212,11 @@ fn ran(account: &Account) -> (&'static str, String, Vec<String>) {
 fn headed(account: &Account) -> (&'static str, String) {
     let (verdict, end) = (account.verdict(), &account.outcome.end);
     let calm = match verdict {
-        Verdict::Running => "running",
+        Verdict::Running | Verdict::Stopped => "running",
         _ => "quiet",
     };
     match (verdict, &account.trap, end) {
+        (Verdict::Stopped, ..) => (calm, "A signal stopped it, and it is not judged.".into()),
         (Verdict::Breaks, ..) => ("trapped", "It breaks the map.".into()),
         (Verdict::Trapped, Some(trap), End::Trap(_)) => (
             "trapped",

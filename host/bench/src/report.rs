@@ -81,11 +81,15 @@ pub fn run(account: &Account) -> String {
     format!("{text}\n{}", registers(state))
 }
 
+/// What is said of a run that a signal stopped.
+const UNJUDGED: &str = "The run is not judged: a signal came before.\n";
+
 /// What a run was judged by besides: the map, what was expected, what it said.
 pub fn judged(account: &Account) -> String {
     let judged = account.judged;
     let map = match &judged.map {
         Some(map) => map.text(account.names),
+        None if judged.stopped => UNJUDGED.into(),
         None if judged.map_off => "Map: stores were not judged (--map-stores off).\n".into(),
         None => String::new(),
     };
@@ -107,6 +111,7 @@ pub fn counts(state: &State, outcome: &Outcome) -> String {
         End::Break => format!("Stopped before the step at {at:08x}."),
         End::Exit => format!("The program ended: it came to {at:08x}."),
         End::Stuck => format!("Nothing handles the trap: every further step traps, at {at:08x}."),
+        End::Stopped => format!("A signal stopped the run; the next step is at {at:08x}."),
     };
     format!("{retired} retired, {trapped} trapped. {end}\n")
 }

@@ -1,7 +1,15 @@
-//! Saving a file whole or not at all: it is written beside its place and then moved there.
+//! Saving a file whole or not at all: it is written under a fresh name in its folder and then moved to its place, so that
+//! nothing that lies there is touched, and what was at the place stays until all of the new file is there.
+
+mod making;
+mod spot;
+
+pub use making::clear;
 
 use crate::file;
-use std::fs::{self, File};
+use making::Making;
+use spot::{is_same, led_to};
+use std::fs::{self, File, OpenOptions};
 use std::io::{BufWriter, Error, ErrorKind, Write};
 use std::path::{Path, PathBuf};
 
@@ -9,39 +17,72 @@ use std::path::{Path, PathBuf};
 pub struct Place {
     /// The name as it was given, for messages.
     name: String,
+    /// The file that it leads to: a link stays, and that file is replaced.
     path: PathBuf,
-    beside: PathBuf,
+    /// Whether the file is on the disk once it is saved, or may be lost with the power.
+    lasting: bool,
 }
 
 impl Place {
-    /// The place of a name, tried out: a file can be made beside it, and what it replaces is a file.
-    fn new(path: &Path) -> Result<Place, String> {
-        let name = path.display().to_string();
-        // A link stays: the file that it leads to is replaced.
-        let path = fs::canonicalize(path).unwrap_or_else(|_| path.into());
-        if fs::metadata(&path).is_ok_and(|there| !there.is_file()) {
-            return Err(format!("{name}: what is there is no regular file"));
-        }
-        let mut beside = path.as_os_str().to_owned();
-        beside.push(".part");
-        let place = Place {
-            name,
-            path,
-            beside: beside.into(),
-        };
-        File::create(&place.beside).map_err(|error| place.told(error))?;
-        place.clear();
-        Ok(place)
-    }
-
-    /// The place of a name, but of no file that is read.
-    pub fn apart(path: &Path, read: &[&Path]) -> Result<Place, String> {
-        let file = path.canonicalize().ok();
-        if file.is_some() && read.iter().any(|other| other.canonicalize().ok() == file) {
-            let name = path.display();
+    /// The place of a name, but of no file that is read, nor of one that is written otherwise.
+    pub fn apart(path: &Path, read: &[&Path], written: &[&Path]) -> Result<Place, String> {
+        let name = path.display();
+        if read.iter().any(|other| is_same(path, other)) {
             return Err(format!("{name}: it is read, and not written over"));
         }
-        Place::new(path)
+        if written.iter().any(|other| is_same(path, other)) {
+            return Err(format!("{name}: another output is saved there"));
+        }
+        Place::of(path)?.tried()
+    }
+
+    /// The place of a shelf's page: what is there already, if something is, is one too by its bytes.
+    pub fn of_page(path: &Path, is_page: impl Fn(&[u8]) -> bool) -> Result<Place, String> {
+        let place = Place::of(path)?;
+        match fs::read(&place.path) {
+            Ok(bytes) if !is_page(&bytes) => Err(format!(
+                "{}: it is no page of a shelf, and is not written over",
+                place.name
+            )),
+            Err(error) if error.kind() != ErrorKind::NotFound => Err(place.told(error)),
+            _ => Ok(place),
+        }
+    }
+
+    /// The same place, tried out: a file can be made beside it.
+    pub fn tried(self) -> Result<Place, String> {
+        Making::beside(&self.path).map_err(|error| self.told(error))?;
+        Ok(self)
+    }
+
+    /// The same place for what can be made again, and need not last.
+    pub fn passing(self) -> Place {
+        Place {
+            lasting: false,
+            ..self
+        }
+    }
+
+    /// The place of a name, if what it replaces is a file that may be written.
+    fn of(path: &Path) -> Result<Place, String> {
+        let place = Place {
+            name: path.display().to_string(),
+            path: led_to(path).map_err(|why| format!("{}: {why}", path.display()))?,
+            lasting: true,
+        };
+        match fs::metadata(&place.path) {
+            Ok(there) if !there.is_file() => {
+                let name = &place.name;
+                return Err(format!("{name}: what is there is no regular file"));
+            }
+            Ok(_) => {
+                // A file that is only for reading is kept, though it could be replaced.
+                let opened = OpenOptions::new().write(true).open(&place.path);
+                opened.map_err(|error| place.told(error))?;
+            }
+            Err(_) => {}
+        }
+        Ok(place)
     }
 
     /// Puts bytes there. If that fails, what was there stays, and nothing lies beside it.
@@ -52,22 +93,19 @@ impl Place {
     /// Puts there what is written piece by piece, in the same way.
     pub fn write_by(
         &self,
-        write: impl FnOnce(&mut BufWriter<File>) -> Result<(), Error>,
+        write: impl FnOnce(&mut BufWriter<&File>) -> Result<(), Error>,
     ) -> Result<(), String> {
-        let file = File::create(&self.beside).map_err(|error| self.told(error))?;
-        let mut file = BufWriter::new(file);
-        let written = write(&mut file)
-            .and_then(|()| file.flush())
-            .and_then(|()| file.get_ref().sync_all())
-            .and_then(|()| fs::rename(&self.beside, &self.path));
-        written.map_err(|error| {
-            self.clear();
-            self.told(error)
-        })
-    }
-
-    fn clear(&self) {
-        let _ = fs::remove_file(&self.beside);
+        let made = Making::beside(&self.path).and_then(|making| {
+            let mut file = BufWriter::new(making.file());
+            write(&mut file)?;
+            file.flush()?;
+            drop(file);
+            if self.lasting {
+                making.file().sync_all()?;
+            }
+            making.move_to(&self.path)
+        });
+        made.map_err(|error| self.told(error))
     }
 
     fn told(&self, error: Error) -> String {

@@ -3,6 +3,7 @@
 //! jobs, and a result that was kept can stand for it.
 
 mod judge;
+pub mod own;
 mod results;
 pub mod row;
 pub mod table;
@@ -17,6 +18,7 @@ use crate::file;
 use crate::page::digest;
 use crate::proved::engine::Engine;
 use crate::reach::Never;
+use crate::save::Place;
 use std::ffi::{OsStr, OsString};
 use std::fs;
 use std::path::{Path, PathBuf};
@@ -113,12 +115,10 @@ pub fn page_name(file: &str) -> String {
     format!("{letters}-{}.html", &digest(file.as_bytes())[..12])
 }
 
-/// Writes a page beside its place and moves it there.
+/// Writes an image's page.
 fn write_page(path: &Path, page: &str) -> Result<(), String> {
-    let mut beside = path.as_os_str().to_owned();
-    beside.push(".part");
-    let written = fs::write(&beside, page).and_then(|()| fs::rename(&beside, path));
-    written.map_err(|error| format!("{}: {}", path.display(), file::why(&error)))
+    let place = Place::of_page(path, own::is_page)?.passing();
+    place.write(page.as_bytes())
 }
 
 #[cfg(test)]

@@ -6,10 +6,11 @@ use crate::arguments::{ExitValue, Expect, MapStores, Terms};
 use crate::command::look;
 use crate::command::run::Ready;
 use crate::console::{self, Said, CONSOLE};
-use crate::drive::{Outcome, Plan};
+use crate::drive::{End, Outcome, Plan};
 use crate::map_stores::Forbidden;
 use crate::proved::{Counts, Refusal};
 use crate::sheet::Sheet;
+use crate::stop;
 use crate::verdict::{Compared, Judged};
 use lent::{place_name, Range, State, Watch};
 use std::collections::BTreeSet;
@@ -72,13 +73,37 @@ impl<'a> Trial<'a> {
         }
     }
 
-    /// What a run from a state came to.
+    /// What a run from a state came to. One that a signal stops, or that one comes after, is not judged: to count stores
+    /// takes as long as the run itself, and again.
     pub fn judged(
         &self,
         before: &State,
         (outcome, after): (&Outcome, &State),
         console: Option<Said>,
     ) -> Result<Judged, Refusal> {
+        let counted = match outcome.end {
+            End::Stopped => None,
+            _ => Some(self.counted(before, outcome, after)?),
+        };
+        let counted = counted.filter(|_| !stop::is_asked());
+        let judged = counted.unwrap_or_else(|| self.stopped(outcome));
+        Ok(Judged { console, ..judged })
+    }
+
+    /// What is known of a run that is not judged: the stores that its own record counted.
+    fn stopped(&self, outcome: &Outcome) -> Judged {
+        let own = self.terms.watch.len() / 2;
+        let own = if self.console.is_some() { 0 } else { own };
+        Judged {
+            watched: outcome.record[..own].to_vec(),
+            map_off: self.map_off,
+            stopped: true,
+            ..Judged::default()
+        }
+    }
+
+    /// What a run came to, with all its stores counted.
+    fn counted(&self, before: &State, outcome: &Outcome, after: &State) -> Result<Judged, Refusal> {
         let again = Again {
             start: before,
             made: outcome.counts.steps(),
@@ -95,10 +120,11 @@ impl<'a> Trial<'a> {
                 .collect(),
             map,
             compared: self.compared(after),
-            console,
+            console: None,
             through_traps: self.terms.through_traps,
             may_run_on: self.terms.may_run_on,
             map_off: self.map_off,
+            stopped: false,
             exit_named: self.terms.names_an_end(),
         })
     }

@@ -20,6 +20,8 @@ pub enum Verdict {
     Wrong,
     /// The program has not ended: the steps were used up, it waits for its timer, or it jumps to itself where its end is not.
     Running,
+    /// A signal stopped the run, or what is counted of it afterwards: it is not judged.
+    Stopped,
     Good,
 }
 
@@ -65,6 +67,8 @@ pub struct Judged {
     pub console: Option<Said>,
     /// Whether there was a map, and its stores were not judged.
     pub map_off: bool,
+    /// Whether a signal came before all was counted.
+    pub stopped: bool,
     /// Whether a trap may be handled, whether it may still run at the end, and whether it has to end: a place or a value at
     /// its end was named.
     pub through_traps: bool,
@@ -90,6 +94,7 @@ impl Judged {
     pub fn verdict(&self, outcome: &Outcome) -> Verdict {
         let handled = self.through_traps || outcome.counts.trapped == 0;
         match outcome.end {
+            _ if self.stopped => Verdict::Stopped,
             _ if self.map.as_ref().is_some_and(Stores::broken) => Verdict::Breaks,
             End::Trap(_) | End::Stuck | End::Unhandled => Verdict::Trapped,
             _ if !handled => Verdict::Trapped,
@@ -108,6 +113,7 @@ impl Judged {
             Verdict::Running if self.exit_named && outcome.end != End::Break => Status::Running,
             Verdict::Running if outcome.counts.trapped > 0 => Status::Trapped,
             Verdict::Running => Status::Ran,
+            Verdict::Stopped => Status::Stopped,
             _ => Status::Trapped,
         }
     }

@@ -3,9 +3,8 @@
 mod common;
 
 use common::words::{addi, store, EBREAK};
-use common::{bench_in, directory, examples, golden, shell_in};
+use common::{bench_in, directory, examples, golden, names_in, shell_in};
 use serde_json::json;
-use std::path::Path;
 
 /// Long and short words, legal and illegal: c.nop, addi, csc, the zero half, a long word that is none.
 fn code() -> Vec<u8> {
@@ -49,15 +48,6 @@ fn with_file(name: &str, bytes: &[u8]) -> std::path::PathBuf {
     let directory = directory(name);
     std::fs::write(directory.join("file"), bytes).unwrap();
     directory
-}
-
-fn names_in(directory: &Path) -> Vec<String> {
-    let entries = std::fs::read_dir(directory).unwrap();
-    let mut names: Vec<String> = entries
-        .map(|entry| entry.unwrap().file_name().into_string().unwrap())
-        .collect();
-    names.sort();
-    names
 }
 
 #[test]

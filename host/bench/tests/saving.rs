@@ -4,7 +4,7 @@ mod common;
 
 use common::state::{text, with_code};
 use common::words::{addi, EBREAK};
-use common::{bench_in, directory, shell_in, Answer};
+use common::{bench_in, directory, names_in, shell_in, Answer};
 use std::path::{Path, PathBuf};
 
 /// A directory with a state file, `start`, of more than 1,024 bytes.
@@ -20,15 +20,6 @@ fn with_start(name: &str) -> PathBuf {
 
 fn saved_to(directory: &Path, place: &str) -> Answer {
     bench_in(directory, &["run", "--state", "start", "--save", place])
-}
-
-fn names_in(directory: &Path) -> Vec<String> {
-    let entries = std::fs::read_dir(directory).unwrap();
-    let mut names: Vec<String> = entries
-        .map(|entry| entry.unwrap().file_name().into_string().unwrap())
-        .collect();
-    names.sort();
-    names
 }
 
 #[test]

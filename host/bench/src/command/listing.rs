@@ -52,7 +52,7 @@ pub fn assemble(asked: &Assemble) -> Result<Status, String> {
         }
     };
     match &asked.output {
-        Some(path) => Place::apart(path, &[&asked.text])?.write(&code)?,
+        Some(path) => Place::apart(path, &[&asked.text], &[])?.write(&code)?,
         None => say_bytes(&code)?,
     }
     Ok(Status::Ran)

@@ -5,6 +5,7 @@ use super::look::Look;
 use super::{read_state, refused_on_the_way, refused_state, say, say_bytes, say_json, signature};
 use crate::account::Account;
 use crate::arguments::Run;
+use crate::capability_text::count;
 use crate::console::{Console, Said};
 use crate::drive::{self, Outcome, Plan, Refused};
 use crate::edition::Edition;
@@ -21,7 +22,7 @@ use crate::save::Place;
 use crate::sheet::Sheet;
 use crate::stack::Stack;
 use crate::trial::Trial;
-use crate::{colour, complain, file, json, report, revoke, state_file, trace, Status};
+use crate::{colour, complain, file, json, report, revoke, state_file, stop, trace, Status};
 use indicatif::{ProgressBar, ProgressStyle};
 use lent::{State, Window, COMPARE, TIME};
 use std::io::Write;
@@ -111,6 +112,7 @@ impl<'a> Task<'a> {
         trial: &Trial,
         (place, signature): (Option<Place>, Option<signature::Asked>),
     ) -> Result<Status, String> {
+        stop::heed();
         let asked = self.asked;
         let before = ready.state.clone();
         let wanted = asked.last.max(self.page.as_ref().map(|_| LAST));
@@ -128,8 +130,8 @@ impl<'a> Task<'a> {
             Ok(judged) => judged,
         };
         let named = (&ready.names, ready.stack);
-        let judged = (&judged, asked.terms.sweep.is_some());
-        let account = Account::of(&ready.state, &outcome, named, self.fits, judged);
+        let with = (&judged, asked.terms.sweep.is_some());
+        let account = Account::of(&ready.state, &outcome, named, self.fits, with);
         // What cannot be said is saved nevertheless, and what cannot be saved is said.
         let said = conclude(asked, &ready, &account, &look);
         let saved = place.map_or(Ok(()), |place| {
@@ -140,7 +142,11 @@ impl<'a> Task<'a> {
             let subject = self.subject(Some(&ready));
             self.write_page(|| ran_page(&subject?, &account, &before, &last))
         });
-        saved.and(signed).and(paged).and(said)
+        saved.and(signed).and(paged)?;
+        if judged.stopped {
+            complain(&stopped(asked, outcome.counts));
+        }
+        said
     }
 
     /// Says that a byte of an image lies outside the board, on the page too; nothing is run.
@@ -255,13 +261,36 @@ pub fn ran_page(
 
 /// The place of the page: no file that is read, nor the one that is saved to.
 fn page_place(path: &Path, asked: &Run) -> Result<Place, String> {
-    if asked.save.as_deref() == Some(path) {
-        let name = path.display();
-        return Err(format!("{name}: the state is saved there"));
-    }
+    place_apart(path, asked, asked.save.as_deref().as_slice())
+}
+
+/// The place of something else than the state: no file that is read, nor one of these that are written.
+pub fn place_apart(path: &Path, asked: &Run, written: &[&Path]) -> Result<Place, String> {
     let read = asked.images.iter().chain(&asked.map).chain(&asked.state);
     let read: Vec<&Path> = read.map(PathBuf::as_path).collect();
-    Place::apart(path, &read)
+    Place::apart(path, &read, written)
+}
+
+/// What is said of a run that a signal stopped: after which steps, and what is saved of them.
+fn stopped(asked: &Run, made: Counts) -> String {
+    let (signal, steps) = (stop::name(), count(made.steps(), "step"));
+    let files = outputs(asked).map(|path| path.display().to_string());
+    let files: Vec<String> = files.collect();
+    match files.is_empty() {
+        true => format!("{signal} came after {steps}; nothing was to be saved"),
+        false => format!(
+            "{signal} came after {steps}; saved up to there: {}",
+            files.join(", ")
+        ),
+    }
+}
+
+/// The files that a run writes.
+fn outputs(asked: &Run) -> impl Iterator<Item = &Path> {
+    let signature = asked.signature.as_ref().and_then(|words| words.last());
+    let files = [&asked.save, &asked.report].into_iter().flatten();
+    let files = files.map(PathBuf::as_path);
+    files.chain(signature.map(Path::new))
 }
 
 /// The board of a map sheet's file.
@@ -414,7 +443,7 @@ fn windowed(state: State, window: Window) -> State {
 fn place(path: &Path, asked: &Run) -> Result<Place, String> {
     let read = asked.images.iter().chain(&asked.map);
     let read: Vec<&Path> = read.map(PathBuf::as_path).collect();
-    Place::apart(path, &read)
+    Place::apart(path, &read, &[])
 }
 
 /// What a run that made its steps is refused for afterwards, where they cannot be made again.
@@ -468,7 +497,7 @@ fn watch<'a>(
         number += made.steps();
         if asked.trace {
             let line = trace::line(number, before, after, made);
-            return tell(asked.json, &line) || asked.save.is_some();
+            return tell(asked.json, &line) || outputs(asked).next().is_some();
         }
         bar.set_position(number);
         true

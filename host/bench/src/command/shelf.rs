@@ -3,14 +3,15 @@
 use super::run::{self, Halt};
 use super::{refused_sheet, refused_state};
 use crate::arguments::{Run, Shelf as Asked, Start};
+use crate::capability_text::{count, grouped};
 use crate::colour::Painter;
 use crate::command::fit::Board;
 use crate::proved::sheets::BAD_BOARD;
 use crate::save::Place;
 use crate::shelf::table::{self, Counted};
-use crate::shelf::{work, Done, Results, Shelf};
+use crate::shelf::{own, work, Done, Results, Shelf};
 use crate::trial::Trial;
-use crate::{complain, file, Status};
+use crate::{complain, file, stop, Status};
 use indicatif::{ProgressBar, ProgressStyle};
 use std::fs;
 use std::io::{BufWriter, Error, ErrorKind, Write};
@@ -44,8 +45,10 @@ pub fn obey(asked: &Asked) -> Result<Status, String> {
         .map(|folder| index(folder, asked))
         .transpose()?;
     let kept = kept(asked)?;
-    let results = Results::of(shelf.key()?, &names, kept.as_deref())?;
+    let pages = asked.report.as_deref().map(index_of);
+    let results = Results::of(shelf.key()?, &names, kept.as_deref(), pages.as_deref())?;
     let bar = progress(names.len() as u64);
+    stop::heed();
     let done = work(&shelf, &names, results, jobs(asked), &bar);
     bar.finish_and_clear();
     conclude(asked, &shelf, &done?, index)
@@ -116,7 +119,12 @@ fn index(folder: &Path, asked: &Asked) -> Result<Place, String> {
     let told = |error| format!("{}: {}", folder.display(), file::why(&error));
     fs::create_dir_all(folder).map_err(told)?;
     apart(folder, asked)?;
-    Place::apart(&folder.join("index.html"), &[])
+    Place::of_page(&index_of(folder), own::is_index)?.tried()
+}
+
+/// The page of all in the folder of the pages.
+fn index_of(folder: &Path) -> PathBuf {
+    folder.join("index.html")
 }
 
 /// The file that keeps the results, if one does.
@@ -175,7 +183,18 @@ fn conclude(
         _ => text(&mut out, results),
     };
     unless_closed(said.and_then(|()| out.flush()))?;
-    Ok(Counted::of(results).status())
+    let counted = Counted::of(results);
+    if counted.status() == Status::Stopped {
+        complain(&stopped(&counted));
+    }
+    Ok(counted.status())
+}
+
+/// What is said of a shelf that a signal stopped.
+fn stopped(counted: &Counted) -> String {
+    let (signal, judged) = (stop::name(), grouped(counted.images));
+    let all = count(counted.images + counted.left, "image");
+    format!("{signal} came after {judged} of {all}; the table has these")
 }
 
 fn text(out: &mut impl Write, results: &Results) -> Result<(), Error> {

@@ -1,7 +1,7 @@
 //! `--signature`: a part of memory at the end of a run as text, a word a line, as test suites of this field compare it.
 
 use super::look;
-use super::run::Ready;
+use super::run::{place_apart, Ready};
 use crate::arguments::{self, Run};
 use crate::save::Place;
 use crate::trial::inside;
@@ -51,11 +51,7 @@ impl Asked {
 
 /// The place of the file: none that is read or written otherwise.
 fn place(path: &Path, asked: &Run) -> Result<Place, String> {
-    let others = [&asked.save, &asked.report].into_iter().flatten();
-    if others.into_iter().any(|other| other == path) {
-        return Err(format!("{}: it is written otherwise", path.display()));
-    }
-    let read = asked.images.iter().chain(&asked.map).chain(&asked.state);
-    let read: Vec<&Path> = read.map(PathBuf::as_path).collect();
-    Place::apart(path, &read)
+    let written = [&asked.save, &asked.report].into_iter().flatten();
+    let written: Vec<&Path> = written.map(PathBuf::as_path).collect();
+    place_apart(path, asked, &written)
 }

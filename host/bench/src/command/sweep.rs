@@ -42,7 +42,7 @@ pub fn obey(asked: &Sweep) -> Result<Status, String> {
 /// The place to save to. The state may be written over, but no sheet.
 fn place(path: &Path, asked: &Sweep) -> Result<Place, String> {
     let read: Vec<&Path> = asked.map.as_deref().into_iter().collect();
-    Place::apart(path, &read)
+    Place::apart(path, &read, &[])
 }
 
 /// A bar on standard error; it draws nothing where that is no terminal.

@@ -1,13 +1,14 @@
-//! The connection: one client at a time over TCP. A client that goes away, or one that comes second, leaves the machine
-//! as it is.
+//! The connection: one client at a time over TCP (src/gdb/seat.rs). A client that goes away, or one that comes second, leaves
+//! the machine as it is.
 
-use super::packet::framed;
+use super::opening::Opening;
+use super::seat::{admit, Client, Seat};
 use super::session::{Ended, Session};
 use super::target::Target;
+use crate::complain;
 use std::io::{ErrorKind, Read, Write};
 use std::net::{TcpListener, TcpStream};
-use std::sync::atomic::{AtomicBool, Ordering};
-use std::sync::mpsc::{channel, Sender};
+use std::sync::mpsc::channel;
 use std::sync::Arc;
 use std::time::{Duration, Instant};
 
@@ -25,26 +26,32 @@ pub enum Served {
     Closed,
 }
 
+/// What is said of a client that is none.
+pub const BROWSER: &str =
+    "speaks as a browser does, and a debugger is waited for here: it is sent away";
+
 /// Serves clients, one after the other, until one of them ends the machine; `say` says what happens.
 pub fn serve(target: &mut Target, listener: TcpListener, say: &mut dyn FnMut(&str)) -> Served {
-    let busy = Arc::new(AtomicBool::new(false));
+    let seat = Arc::new(Seat::default());
     let (clients, queue) = channel();
-    let taken = busy.clone();
+    let taken = seat.clone();
     std::thread::spawn(move || admit(&listener, &taken, &clients));
     for mut client in queue {
-        let from = client.peer_addr();
-        let from = from.map_or("a client".into(), |address| address.to_string());
+        let from = client.from.clone();
         say(&format!("{from} is connected.\n"));
-        let ended = attend(target, &mut client, say);
+        let ended = attend(target, &mut client, &seat, say);
         target.leave();
-        let _ = client.shutdown(std::net::Shutdown::Both);
-        busy.store(false, Ordering::SeqCst);
+        let _ = client.stream.shutdown(std::net::Shutdown::Both);
+        let stayed = seat.leave(&client);
         match ended {
             Ok(Ended::Killed) => {
                 say(&format!("{from} has ended the machine.\n"));
                 return Served::Killed;
             }
             Ok(Ended::Detached) => say(&format!("{from} has left; the machine stays.\n")),
+            Err(_) if !stayed => say(&format!(
+                "{from} was silent, and another has come; the machine stays where it is.\n"
+            )),
             Err(reason) => say(&format!(
                 "{from} is gone, {reason}; the machine stays where it is.\n"
             )),
@@ -53,40 +60,28 @@ pub fn serve(target: &mut Target, listener: TcpListener, say: &mut dyn FnMut(&st
     Served::Closed
 }
 
-/// Takes connections: one goes on to the session, others are refused while that lasts.
-fn admit(listener: &TcpListener, busy: &AtomicBool, clients: &Sender<TcpStream>) {
-    loop {
-        match listener.accept() {
-            Ok((mut client, _)) if busy.swap(true, Ordering::SeqCst) => {
-                let _ = send(&mut client, &framed(b"E.another debugger is connected"));
-            }
-            Ok((client, _)) => {
-                if clients.send(client).is_err() {
-                    return;
-                }
-            }
-            // Too many open files, or a client that was gone at once: later ones may come through.
-            Err(_) => std::thread::sleep(Duration::from_millis(100)),
-        }
-    }
-}
-
 /// One client's session, or why its connection ended.
 fn attend(
     target: &mut Target,
-    client: &mut TcpStream,
+    client: &mut Client,
+    seat: &Seat,
     say: &mut dyn FnMut(&str),
 ) -> Result<Ended, String> {
     let told = |error: std::io::Error| error.to_string();
-    client.set_nodelay(true).map_err(told)?;
+    client.stream.set_nodelay(true).map_err(told)?;
     let mut session = Session::new(target);
-    let mut bytes = [0; TAKEN];
+    let (mut bytes, mut opening) = ([0; TAKEN], Opening::default());
     loop {
-        let count = received(client, session.is_going(), &mut bytes).map_err(told)?;
+        let count = received(&mut client.stream, session.is_going(), &mut bytes).map_err(told)?;
+        if opening.is_browser(&bytes[..count]) {
+            complain(&format!("{} {BROWSER}", client.from));
+            return Err("it was a browser".into());
+        }
         session.receive(&bytes[..count]);
         session.work();
         session.notes.drain(..).for_each(|note| say(&note));
-        send(client, &session.take_output()).map_err(told)?;
+        send(&mut &client.stream, &session.take_output()).map_err(told)?;
+        seat.hear(client);
         if let Some(ended) = session.ended {
             return Ok(ended);
         }
@@ -94,7 +89,7 @@ fn attend(
 }
 
 /// Sends all of it, or gives up if the client has not taken it in time.
-fn send(client: &mut TcpStream, mut bytes: &[u8]) -> std::io::Result<()> {
+pub fn send(client: &mut &TcpStream, mut bytes: &[u8]) -> std::io::Result<()> {
     let until = Instant::now() + PATIENCE;
     let late = || std::io::Error::new(ErrorKind::TimedOut, "its answers were not read");
     while !bytes.is_empty() {

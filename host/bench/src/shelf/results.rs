@@ -38,16 +38,25 @@ impl Kept {
 pub struct Results {
     key: String,
     lines: Vec<Option<String>>,
+    /// Whether a line is known to be of the image as it is now.
+    stands: Vec<bool>,
     place: Option<Place>,
     saved: Instant,
 }
 
 impl Results {
-    /// The results of these images that a file keeps, and nothing where there is no such file yet.
-    pub fn of(key: String, names: &[OsString], path: Option<&Path>) -> Result<Results, String> {
+    /// The results of these images that a file keeps, and nothing where there is no such file yet. It is not the page of
+    /// all, which is written too.
+    pub fn of(
+        key: String,
+        names: &[OsString],
+        path: Option<&Path>,
+        index: Option<&Path>,
+    ) -> Result<Results, String> {
         let mut results = Results {
             key,
             lines: vec![None; names.len()],
+            stands: vec![false; names.len()],
             place: None,
             saved: Instant::now(),
         };
@@ -59,7 +68,7 @@ impl Results {
             let line = |name: &OsString| known.remove(&name_text(name));
             results.lines = names.iter().map(line).collect();
         }
-        results.place = Some(Place::apart(path, &[])?);
+        results.place = Some(Place::apart(path, &[], index.as_slice())?);
         Ok(results)
     }
 
@@ -98,12 +107,18 @@ impl Results {
         self.read(self.lines.get(place)?.as_ref()?)
     }
 
+    /// Takes up that what is known of an image is what it is now.
+    pub fn stand(&mut self, place: usize) {
+        self.stands[place] = true;
+    }
+
     /// Takes up a result, and saves all of them where the last time is some while ago.
     pub fn take(&mut self, place: usize, row: &Row, page: Option<&str>) -> Result<(), String> {
         let text = serde_json::to_string(row).map_err(|error| error.to_string())?;
         let page = page.map_or(NO_PAGE.into(), |page| digest(page.as_bytes()));
         let sum = self.sum(&page, &text);
         self.lines[place] = Some(format!("{sum} {page} {text}"));
+        self.stand(place);
         match self.saved.elapsed() > UNSAVED {
             true => self.save(),
             false => Ok(()),
@@ -126,10 +141,16 @@ impl Results {
         Ok(())
     }
 
-    /// The rows in order.
+    /// The rows in order, of the images that were come to.
     pub fn rows(&self) -> impl Iterator<Item = Row> + '_ {
-        let lines = self.lines.iter().flatten();
+        let lines = self.lines.iter().zip(&self.stands);
+        let lines = lines.filter_map(|(line, stands)| line.as_ref().filter(|_| *stands));
         lines.filter_map(|line| Some(self.read(line)?.row))
+    }
+
+    /// How many images were not come to.
+    pub fn left(&self) -> u64 {
+        self.stands.iter().filter(|stands| !**stands).count() as u64
     }
 }
 
@@ -138,7 +159,7 @@ mod tests {
     use super::*;
 
     fn results(key: &str) -> Results {
-        Results::of(key.into(), &["a".into(), "b".into()], None).unwrap()
+        Results::of(key.into(), &["a".into(), "b".into()], None, None).unwrap()
     }
 
     #[test]
@@ -159,6 +180,6 @@ mod tests {
             let damaged = String::from_utf8(bytes).unwrap();
             assert!(results.read(&damaged).is_none(), "{damaged}");
         }
-        assert_eq!(results.rows().count(), 1);
+        assert_eq!((results.rows().count(), results.left()), (1, 1));
     }
 }

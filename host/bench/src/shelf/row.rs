@@ -127,7 +127,7 @@ impl Row {
         let (outcome, trap) = (account.outcome, account.trap.as_ref());
         self.run = match outcome.end {
             End::Still | End::Exit => Ran::Ended,
-            End::Steps | End::Break | End::Waits(_) | End::Astray => Ran::Running,
+            End::Steps | End::Break | End::Waits(_) | End::Astray | End::Stopped => Ran::Running,
             End::Trap(_) | End::Stuck | End::Unhandled => Ran::Trapped,
         };
         self.judge(account);

@@ -30,11 +30,16 @@ pub struct Counted {
     pub missed: u64,
     /// All that is amiss is that it still runs.
     runs_on: u64,
+    /// A signal came before them.
+    pub left: u64,
 }
 
 impl Counted {
     pub fn of(results: &Results) -> Counted {
-        let mut counted = Counted::default();
+        let mut counted = Counted {
+            left: results.left(),
+            ..Counted::default()
+        };
         for row in results.rows() {
             let is = |verdict| u64::from(row.verdict == Some(verdict));
             counted.images += 1;
@@ -62,6 +67,7 @@ impl Counted {
     /// The status of the shelf: its own where all that is amiss is that images still run.
     pub fn status(&self) -> Status {
         match self.good + self.runs_on == self.images {
+            _ if self.left > 0 => Status::Stopped,
             _ if self.all_good() => Status::Ran,
             true => Status::Running,
             false => Status::NoFit,
@@ -75,6 +81,10 @@ impl Counted {
             (Status::Ran, _) => (
                 "quiet",
                 "Every image fits the board, is good and passes at the handover.",
+            ),
+            (Status::Stopped, _) => (
+                "running",
+                "A signal stopped the shelf: not every image is judged.",
             ),
             (Status::Running, _) => (
                 "running",
@@ -107,6 +117,7 @@ impl Counted {
             (self.unlabelled, "have no label to be judged by"),
             (self.could, "could do what they never may"),
             (self.missed, "do not come to the handover"),
+            (self.left, "more are not judged, since a signal came"),
         ];
         let (images, good) = (count(self.images, "image"), grouped(self.good));
         let mut text = format!("{images}: {good} {}", self.wanted());
@@ -233,6 +244,7 @@ pub fn json(out: &mut impl Write, results: &Results) -> Result<(), Error> {
         "images": counted.images, "good": counted.good, "misfits": counted.misfits, "trapped": counted.trapped,
         "breaks": counted.breaks, "wrong": counted.wrong, "running": counted.running,
         "bad": counted.bad, "unlabelled": counted.unlabelled, "could": counted.could, "missed": counted.missed,
+        "left": counted.left,
     });
     writeln!(out, "\n  ],\n  \"counts\": {counts}\n}}")
 }

@@ -6,6 +6,7 @@ use super::row::Row;
 use super::{name_text, write_page, Shelf};
 use crate::file;
 use crate::page::digest;
+use crate::stop;
 use indicatif::ProgressBar;
 use std::ffi::OsString;
 use std::fs;
@@ -64,11 +65,11 @@ impl Bench<'_> {
         self.done.lock().unwrap_or_else(PoisonError::into_inner)
     }
 
-    /// Takes images until there are no more, or something could not be written.
+    /// Takes images until there are no more, something could not be written, or a signal comes.
     fn job(&self) {
         loop {
             let place = self.next.fetch_add(1, Ordering::Relaxed);
-            if place >= self.names.len() || self.done().1.is_some() {
+            if place >= self.names.len() || self.done().1.is_some() || stop::is_asked() {
                 return;
             }
             if let Err(reason) = self.image(place) {
@@ -94,7 +95,9 @@ impl Bench<'_> {
             same && page.is_none_or(|page| kept.has_page(&page))
         });
         if stands {
-            self.done().0.at_hand += 1;
+            let done = &mut self.done().0;
+            done.at_hand += 1;
+            done.results.stand(place);
             return Ok(());
         }
         let judged = match bytes {
@@ -102,6 +105,10 @@ impl Bench<'_> {
             Err(reason) => unread(shelf, &row, reason),
         };
         let Judged { row, page: text } = judged?;
+        // A run that was stopped says nothing of the image.
+        if stop::is_asked() {
+            return Ok(());
+        }
         if let (Some(path), Some(text)) = (&page, &text) {
             write_page(path, text)?;
         }

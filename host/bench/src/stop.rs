@@ -1,0 +1,58 @@
+//! SIGINT and SIGTERM. A command that heeds them looks on its way whether it is asked to stop, and then ends with what it
+//! has; any other is ended, and so is one that is asked twice. No file that was being made is left.
+
+use crate::save;
+use signal_hook::consts::{SIGINT, SIGTERM};
+use signal_hook::iterator::Signals;
+use signal_hook::low_level::{emulate_default_handler, signal_name};
+use std::sync::atomic::{AtomicBool, AtomicI32, Ordering};
+use std::thread;
+
+/// Stands for no signal.
+const NONE: i32 = 0;
+/// The status that a shell gives to a command that a signal ended, less the signal's number.
+const BY_SIGNAL: i32 = 128;
+
+/// The first signal that came.
+static FIRST: AtomicI32 = AtomicI32::new(NONE);
+/// Whether the command looks for it.
+static HEEDED: AtomicBool = AtomicBool::new(false);
+
+/// Listens to signals from here on. Where that cannot be, they end the command as they end any.
+pub fn listen() {
+    if let Ok(mut signals) = Signals::new([SIGINT, SIGTERM]) {
+        thread::spawn(move || signals.forever().for_each(take));
+    }
+}
+
+fn take(signal: i32) {
+    let first = FIRST.compare_exchange(NONE, signal, Ordering::SeqCst, Ordering::SeqCst);
+    if first.is_err() || !HEEDED.load(Ordering::SeqCst) {
+        end_by(signal);
+    }
+}
+
+/// The command looks from here on whether it is asked to stop.
+pub fn heed() {
+    HEEDED.store(true, Ordering::SeqCst);
+}
+
+pub fn is_asked() -> bool {
+    FIRST.load(Ordering::Relaxed) != NONE
+}
+
+/// The name of the signal that asked.
+pub fn name() -> &'static str {
+    signal_name(FIRST.load(Ordering::SeqCst)).unwrap_or("a signal")
+}
+
+/// Ends the command by the signal that asked it to stop, so that whoever started it sees which.
+pub fn end() -> ! {
+    end_by(FIRST.load(Ordering::SeqCst))
+}
+
+fn end_by(signal: i32) -> ! {
+    save::clear();
+    let _ = emulate_default_handler(signal);
+    std::process::exit(BY_SIGNAL + signal)
+}
