@@ -30,6 +30,7 @@ impl Bench {
             .args(arguments)
             .current_dir(folder)
             .stdout(Stdio::piped())
+            .stderr(Stdio::piped())
             .spawn()
             .expect("the command runs");
         let mut out = BufReader::new(child.stdout.take().expect("its output"));
@@ -75,11 +76,20 @@ impl Bench {
     }
 
     /// Its exit status, and the rest of what it wrote.
-    fn end(mut self) -> (i32, String) {
-        let mut text = String::new();
+    fn end(self) -> (i32, String) {
+        let (status, text, err) = self.end_with_errors();
+        assert_eq!(err, "");
+        (status, text)
+    }
+
+    /// The same with what it wrote on standard error.
+    fn end_with_errors(mut self) -> (i32, String, String) {
+        let (mut text, mut err) = (String::new(), String::new());
         self.out.read_to_string(&mut text).expect("text");
+        let errors = self.child.stderr.as_mut().expect("its errors");
+        errors.read_to_string(&mut err).expect("text");
         let status = self.child.wait().expect("an end");
-        (status.code().expect("a status"), text)
+        (status.code().expect("a status"), text, err)
     }
 }
 
@@ -165,19 +175,119 @@ fn a_client_that_leaves_or_goes_away_leaves_the_machine() {
     );
 }
 
+/// That a client is told why it is sent away, and after which time it would not be.
+fn assert_sent_away(answer: &str) {
+    let silent = answer.strip_prefix("E.another debugger is connected, silent for ");
+    let silent = silent.and_then(|rest| rest.split_once(" s; "));
+    let (seconds, rest) = silent.unwrap_or_else(|| panic!("{answer}"));
+    assert!(
+        seconds.parse::<u64>().is_ok_and(|seconds| seconds < 10),
+        "{answer}"
+    );
+    assert_eq!(rest, "after 10 s of silence the next takes its place");
+}
+
 #[test]
 fn a_second_client_is_told_so_and_the_first_goes_on() {
     let bench = Bench::of_code("gdb_second", &[addi(10, 10, 1), EBREAK]);
     let mut first = bench.client();
     let mut second = bench.connect();
-    assert_eq!(
-        second.answer(),
-        Some("E.another debugger is connected".into())
-    );
-    assert_eq!(second.answer(), None);
+    // As gdb does, which shows the first answer, and the second as its reason to give up.
+    for asked in ["qSupported:swbreak+", "vMustReplyEmpty"] {
+        assert_sent_away(&second.ask(asked));
+    }
     assert!(first.ask("s").starts_with("T05"));
+    // One that asks nothing is told too, when its time is over.
+    let mut silent = bench.connect();
+    assert_sent_away(&silent.answer().expect("an answer"));
+    assert_eq!(silent.answer(), None);
     drop(first);
     assert_eq!(bench.client().ask("pa"), "01000000");
+}
+
+/// How often something comes is not limited: who is sent away takes no place.
+#[test]
+fn any_number_of_clients_is_sent_away() {
+    let bench = Bench::of_code("gdb_many", &[addi(10, 10, 1), EBREAK]);
+    let mut first = bench.client();
+    let mut others: Vec<Client> = (0..100).map(|_| bench.connect()).collect();
+    let told = others.iter_mut().filter_map(|other| {
+        other.send("qC");
+        other.answer()
+    });
+    let told: Vec<String> = told.collect();
+    assert!(told.len() >= 10, "{}", told.len());
+    told.iter().for_each(|told| assert_sent_away(told));
+    assert!(first.ask("s").starts_with("T05"));
+}
+
+/// How long a client is silent before the next one takes its place.
+const SILENCE: Duration = Duration::from_secs(10);
+
+#[test]
+fn a_silent_client_is_told_to_go_by_the_next_one_and_one_that_waits_for_the_machine_is_not() {
+    let mut state = with_code(&[addi(10, 10, 1), AGAIN, EBREAK]);
+    state.set(11, Capability::integer(u32::MAX));
+    let bench = Bench::of_state("gdb_silent", &state);
+    let mut first = bench.client();
+    assert!(first.ask("s").starts_with("T05"));
+    first.send("c");
+    std::thread::sleep(SILENCE + Duration::from_millis(500));
+    // The machine goes on for it all the time.
+    assert_sent_away(&bench.connect().ask("qC"));
+    first.0.write_all(b"\x03").expect("written");
+    assert!(first.stop().starts_with("T02"));
+    let counted = first.ask("pa");
+    let began = Instant::now();
+    assert_sent_away(&bench.connect().ask("qC"));
+    let mut second = bench.client();
+    assert!(began.elapsed() > SILENCE - Duration::from_secs(1));
+    assert_eq!(second.ask("pa"), counted);
+    let told = "E.silent for 10 s, and another debugger has come";
+    assert_eq!(first.answer(), Some(told.into()));
+    assert_eq!(first.answer(), None);
+    second.send("k");
+    let (status, text) = bench.end();
+    assert_eq!(status, 0);
+    assert!(
+        text.contains(" was silent, and another has come; the machine stays where it is.\n"),
+        "{text}"
+    );
+}
+
+#[test]
+fn a_browser_is_sent_away_and_what_it_posts_is_not_obeyed() {
+    let bench = Bench::of_code("gdb_browser", &[addi(10, 10, 1), EBREAK]);
+    let posted = [
+        b"POST / HTTP/1.1\r\nHost: 127.0.0.1\r\n\r\n",
+        &framed(b"k")[..],
+    ]
+    .concat();
+    let mut browsers = 0;
+    let mut meet = |pieces: &[&[u8]]| {
+        let mut browser = bench.connect();
+        for piece in pieces {
+            let _ = browser.0.write_all(piece);
+            std::thread::sleep(Duration::from_millis(50));
+        }
+        assert_eq!(browser.answer(), None, "{pieces:?}");
+        browsers += 1;
+    };
+    meet(&[b"GET / HTTP/1.1\r\n\r\n"]);
+    meet(&[&posted]);
+    meet(&[&posted[..2], &posted[2..5], &posted[5..]]);
+    meet(&[b"\x16\x03\x01\x02\x00\x01\x00"]);
+    // Beside a debugger as before it.
+    let mut client = bench.client();
+    meet(&[&posted]);
+    assert!(client.ask("s").starts_with("T05"));
+    client.send("k");
+    let (status, text, err) = bench.end_with_errors();
+    assert_eq!(status, 0);
+    assert!(text.ends_with("1 step retired, 0 trapped.\n"), "{text}");
+    let said = " speaks as a browser does, and a debugger is waited for here: it is sent away\n";
+    assert_eq!(err.matches(said).count(), browsers, "{err}");
+    assert_eq!(err.lines().count(), browsers, "{err}");
 }
 
 #[test]
@@ -287,11 +397,7 @@ fn a_client_that_asks_and_never_reads_is_given_up() {
     while silent.0.write_all(&asked).is_ok() {
         assert!(began.elapsed() < Duration::from_secs(60), "it takes all");
     }
-    let mut second = bench.connect();
-    assert_eq!(
-        second.answer(),
-        Some("E.another debugger is connected".into())
-    );
+    assert_sent_away(&bench.connect().ask("qC"));
     // A client that comes later is served, and the machine is as it was.
     let mut later = bench.client();
     assert_eq!(later.ask("p20"), "00000020");

@@ -4,7 +4,7 @@ mod common;
 
 use common::state::{text, with_code};
 use common::words::addi;
-use common::{bench_in, directory, names_in, sheet};
+use common::{bench_in, directory, names_in, sheet, shell_in};
 use serde_json::Value;
 use std::fs;
 use std::io::Read;
@@ -157,12 +157,16 @@ fn a_run_that_is_stopped_saves_what_the_steps_until_then_leave() {
 fn a_run_of_any_kind_is_stopped_soon() {
     let folder = directory("stopped_kinds");
     fs::write(folder.join("image"), endless()).unwrap();
-    let hole = |number| format!("r{number} {:08x} 00000010 r", 0x2000_0100 + 0x20 * number);
-    let holes: Vec<String> = (0..60).map(hole).collect();
-    let regions: Vec<&str> = ["code 20000000 00000100 rwx"]
-        .into_iter()
-        .chain(holes.iter().map(String::as_str))
-        .collect();
+    let region = |number: u8| {
+        let letters = [number / 8, number % 8].map(|letter| char::from(b'a' + letter));
+        let start = 0x2000_0100 + 0x20 * u32::from(number);
+        format!("r{}{} {start:08x} 00000010 rw", letters[0], letters[1])
+    };
+    // With a hole after each region but the last.
+    let mut regions = vec!["code 20000000 00000100 rwx".to_string()];
+    regions.extend((0..60).map(region));
+    regions.push("last 20001000 00000040 rw".into());
+    let regions: Vec<&str> = regions.iter().map(String::as_str).collect();
     fs::write(folder.join("board"), sheet(&regions)).unwrap();
     let kinds: [&[&str]; 8] = [
         &["--engine", "plain"],
@@ -335,13 +339,24 @@ fn a_command_that_waits_for_its_input_ends_at_once() {
     assert_eq!(names_in(&folder), ["pipe"]);
 }
 
-/// Whether a file that is being made lies in a folder, with something in it.
-fn is_making(folder: &Path) -> bool {
-    let entries = fs::read_dir(folder).unwrap().flatten();
-    let mut made =
-        entries.filter(|entry| entry.file_name().to_string_lossy().starts_with(".bench-"));
-    made.any(|entry| entry.metadata().is_ok_and(|there| there.len() > 0))
-}
+/// Sweeps again and again to a file that is there already, and ends the command as soon as the new one is seen beside it:
+/// how often that came in time. What is left must be the old file or the whole new one, and nothing beside it.
+const MAKING: &str = r#"
+  shopt -s nullglob; caught=0
+  for round in {1..400}; do
+    printf old >end
+    $BENCH sweep state --save end >/dev/null & process=$!
+    made=()
+    until [ -s "${made[0]}" ] || ! kill -0 $process; do made=(.bench-*); done 2>/dev/null
+    kill -TERM $process 2>/dev/null
+    wait $process; status=$?
+    left=(.bench-*)
+    [ ${#left[@]} -eq 0 ] || { echo "left: ${left[*]}"; exit 1; }
+    [ "$(<end)" = old ] || cmp end state || exit 1
+    [ $status -eq 143 ] && [ "$(<end)" = old ] && [ ${#made[@]} -gt 0 ] && caught=$((caught + 1))
+    [ $caught -lt 3 ] || exit 0
+  done
+  echo "caught $caught times"; exit 1"#;
 
 #[test]
 fn a_file_that_is_being_made_is_gone_with_the_command() {
@@ -350,21 +365,7 @@ fn a_file_that_is_being_made_is_gone_with_the_command() {
     state.mem.resize(1 << 20, 7);
     let state = text(&lent::State::new(state.start, state.mem));
     fs::write(folder.join("state"), &state).unwrap();
-    let mut caught = 0;
-    for _ in 0..200 {
-        fs::write(folder.join("end"), "old").unwrap();
-        let mut going = Going::start(&folder, &["sweep", "state", "--save", "end"]);
-        while !is_making(&folder) && going.0.try_wait().unwrap().is_none() {}
-        let seen = is_making(&folder);
-        going.send(SIGTERM);
-        let (by, ..) = going.end();
-        let end = fs::read_to_string(folder.join("end")).unwrap();
-        assert!(end == "old" || end == state, "{} bytes", end.len());
-        assert_eq!(names_in(&folder), ["end", "state"]);
-        caught += u32::from(seen && by == Some(SIGTERM) && end == "old");
-        if caught == 3 {
-            return;
-        }
-    }
-    panic!("{caught} times a file was being made");
+    let answer = shell_in(&folder, MAKING);
+    assert_eq!(answer.status, 0, "{}{}", answer.out, answer.err);
+    assert_eq!(names_in(&folder), ["end", "state"]);
 }

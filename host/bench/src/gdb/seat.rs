@@ -4,7 +4,7 @@ use super::opening::Opening;
 use super::packet::{framed, Event, Framer};
 use super::server::{send, BROWSER};
 use crate::complain;
-use std::io::Read;
+use std::io::{ErrorKind, Read};
 use std::net::{Shutdown, TcpListener, TcpStream};
 use std::sync::atomic::{AtomicUsize, Ordering};
 use std::sync::mpsc::Sender;
@@ -16,6 +16,8 @@ const SILENCE: Duration = Duration::from_secs(10);
 /// How long a client that is sent away is answered, so that it can show why, and how many are at a time.
 const FAREWELL: Duration = Duration::from_secs(5);
 const MOST_LEAVING: usize = 16;
+/// The shortest time that the system waits.
+const TICK: Duration = Duration::from_millis(1);
 /// How long after a connection that failed the next is waited for.
 const RETRY: Duration = Duration::from_millis(100);
 
@@ -135,27 +137,26 @@ fn dismiss(seat: &Arc<Seat>, client: Client, why: String) {
     });
 }
 
-/// Answers every packet of a client with the same words, until it goes or its time is over.
+/// Answers every packet of a client with the same words, until it goes or its time is over; then they are said once more.
 fn answer_all(mut client: Client, words: &str) -> std::io::Result<()> {
     let until = Instant::now() + FAREWELL;
     let (mut framer, mut opening) = (Framer::default(), Opening::default());
-    let mut bytes = [0; 1024];
-    loop {
-        let left = until.saturating_duration_since(Instant::now());
-        client
-            .stream
-            .set_read_timeout(Some(left.max(Duration::from_millis(1))))?;
-        let count = client.stream.read(&mut bytes)?;
+    let (words, mut bytes) = (framed(words.as_bytes()), [0; 1024]);
+    while let Some(left) = until.checked_duration_since(Instant::now()) {
+        client.stream.set_read_timeout(Some(left.max(TICK)))?;
+        let count = match client.stream.read(&mut bytes) {
+            Err(error) if error.kind() == ErrorKind::WouldBlock => break,
+            Ok(0) => return Ok(()),
+            read => read?,
+        };
         if opening.is_browser(&bytes[..count]) {
             complain(&format!("{} {BROWSER}", client.from));
             return Ok(());
         }
         let events = bytes[..count].iter().filter_map(|byte| framer.take(*byte));
         let packets = events.filter(|event| matches!(event, Event::Packet(_)));
-        let answer = [b"+", &framed(words.as_bytes())[..]].concat();
-        send(&mut &client.stream, &answer.repeat(packets.count()))?;
-        if count == 0 || left.is_zero() {
-            return Ok(());
-        }
+        let answers = [b"+", &words[..]].concat().repeat(packets.count());
+        send(&mut &client.stream, &answers)?;
     }
+    send(&mut &client.stream, &words)
 }
