@@ -44,7 +44,7 @@ ALLOWED = {
     "libgcc's and Debian's": """__divsi3 __modsi3 __umodsi3 __udivsi3 __mulsi3 __ashldi3 __bswapsi2 __paritysi2 memset
         binutils-riscv64-unknown-elf librust-clap-dev librust-indicatif-dev
         librust-object-dev librust-serde-json-dev librust-csv-dev librust-serde-dev librust-serde-derive-dev librust-sha2-dev librust-tera-dev
-        librust-addr2line-dev librust-gimli-dev librust-clap-complete-dev""",
+        librust-addr2line-dev librust-gimli-dev librust-clap-complete-dev librust-signal-hook-dev librust-tempfile-dev""",
 }
 
 

@@ -1,7 +1,7 @@
 #!/usr/bin/env bash
 # The bench under Debian's gdb-multiarch: the session and the commands of docs/DEBUGGER.md, the demonstration's trap with long and short words,
-# writes, an interrupt, a debugger that comes back, and one that ends the machine. The proved libraries are built by rt, or lie in the directory that
-# ODDERSNOW_STATICLIB names.
+# writes, an interrupt, a debugger that comes back, one that ends the machine, and a second one. The proved libraries are built by rt, or lie in the
+# directory that ODDERSNOW_STATICLIB names.
 set -u
 source "$(dirname "$0")/lib/check.sh"
 
@@ -173,6 +173,22 @@ PYTHON
   [ "$status" -eq 0 ] && grep -F 'has ended the machine.' "$work/bench.out"
 }
 
+# A second debugger shows why it is sent away; one that comes once the first was silent for ten seconds takes its place, which the first then shows.
+makes_way() {
+  start doors.elf || return 1
+  printf '%s\n' 'set confirm off' "target remote $place" stepi 'shell touch held; until [ -e told ]; do sleep 0.1; done' 'stepi' >"$work/first"
+  (cd "$work" && timeout 60 gdb-multiarch -nx -batch -x first doors.elf) >"$work/first.out" 2>&1 &
+  local first=$! tries
+  for tries in $(seq 300); do [ ! -e "$work/held" ] || break; sleep 0.1; done
+  session doors.elf <<<'target remote PLACE'
+  says "Remote failure reply: E.another debugger is connected, silent for" "; after 10 s of silence the next takes its place" || return 1
+  sleep 10
+  session doors.elf <<<$'target remote PLACE\nmonitor steps\nkill' && says '1 step retired, 0 trapped' killed || return 1
+  touch "$work/told"
+  wait "$first"
+  grep -F 'E.silent for 10 s, and another debugger has come' "$work/first.out" && grep -F 'was silent, and another has come' "$work/bench.out" && pid=
+}
+
 check "gdb and the RISC-V tools" tools || exit 1
 check "bench builds for gdb" ./bench --version || exit 1
 check "the images for gdb" examples/interlock_make.sh "$work" || exit 1
@@ -185,4 +201,5 @@ check "gdb stops at the demonstration's trap, short words" demonstration interlo
 check "gdb writes and no tag comes of it" writes
 check "gdb loads the program and lets a trap pass" loaded
 check "gdb interrupts, comes back and ends the machine" interrupted
+check "gdb shows why it is sent away, and makes way after silence" makes_way
 exit $bad

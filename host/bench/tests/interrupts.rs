@@ -85,127 +85,112 @@ fn steps_of(err: &str) -> String {
     steps.expect("a number of steps").replace(',', "")
 }
 
+/// What a run writes that is asked for all it can.
+fn files(name: &str) -> [String; 3] {
+    ["", ".html", ".txt"].map(|kind| format!("{name}{kind}"))
+}
+
+/// That text is in a text.
+fn assert_has(text: &str, part: &str) {
+    assert!(text.contains(part), "no '{part}' in: {text}");
+}
+
 #[test]
 fn a_run_that_is_stopped_saves_what_the_steps_until_then_leave() {
     let folder = directory("stopped_run");
     fs::write(folder.join("image"), endless()).unwrap();
-    let files = |name: &str| {
-        [
-            name.to_string(),
-            format!("{name}.html"),
-            format!("{name}.txt"),
-        ]
-    };
     for (signal, name) in [(SIGINT, "SIGINT"), (SIGTERM, "SIGTERM")] {
-        let [state, page, words] = files(name);
-        let asked = [
-            "--save",
-            &state,
-            "--report",
-            &page,
-            "--signature",
-            "0x20000000",
-            "64",
-            &words,
-        ];
-        let run = [&["run", "image"], &ENDLESS[..], &asked].concat();
-        let going = Going::start(&folder, &run);
+        let [state, page, memory] = files(name);
+        let asked = format!("--save {state} --report {page} --signature 0x20000000 64 {memory}");
+        let asked: Vec<&str> = asked.split(' ').collect();
+        let going = Going::start(&folder, &[&["run", "image"], &ENDLESS[..], &asked].concat());
         wait(500);
         let (out, err) = going.stopped(signal);
         let steps = steps_of(&err);
         assert!(steps.parse::<u64>().unwrap() > 1_000, "{err}");
-        let said = format!("; saved up to there: {state}, {page}, {words}\n");
         assert!(
-            err.starts_with(&format!("bench: {name} came after ")) && err.ends_with(&said),
+            err.starts_with(&format!("bench: {name} came after ")),
             "{err}"
         );
-        assert!(
-            out.contains("0 trapped. A signal stopped the run; the next step is at 2000000"),
-            "{out}"
+        let said = format!("; saved up to there: {state}, {page}, {memory}\n");
+        assert!(err.ends_with(&said), "{err}");
+        assert_has(
+            &out,
+            "0 trapped. A signal stopped the run; the next step is at 2000000",
         );
-        assert!(
-            out.contains("The run is not judged: a signal came before.\n"),
-            "{out}"
-        );
+        assert_has(&out, "The run is not judged: a signal came before.\n");
         let text = fs::read_to_string(folder.join(&page)).unwrap();
-        assert!(
-            text.contains("A signal stopped it, and it is not judged."),
-            "{text}"
-        );
+        assert_has(&text, "A signal stopped it, and it is not judged.");
         // So many steps lead there, and no others.
-        let exact = [
-            "run",
-            "image",
-            "--steps",
-            &steps,
-            "--save",
-            "exact",
-            "--signature",
-            "0x20000000",
-            "64",
-            "exact.txt",
-        ];
+        let exact =
+            format!("run image --steps {steps} --save end --signature 0x20000000 64 end.txt");
+        let exact: Vec<&str> = exact.split(' ').collect();
         assert_eq!(bench_in(&folder, &exact).status, 0);
-        for (one, other) in [(&state, "exact"), (&words, "exact.txt")] {
+        for (one, other) in [(&state, "end"), (&memory, "end.txt")] {
             let [one, other] = [one, other].map(|name| fs::read(folder.join(name)).unwrap());
             assert!(one == other, "{name}");
         }
     }
 }
 
-#[test]
-fn a_run_of_any_kind_is_stopped_soon() {
-    let folder = directory("stopped_kinds");
-    fs::write(folder.join("image"), endless()).unwrap();
+/// A board of sixty regions, with a hole after each.
+fn board() -> String {
     let region = |number: u8| {
         let letters = [number / 8, number % 8].map(|letter| char::from(b'a' + letter));
         let start = 0x2000_0100 + 0x20 * u32::from(number);
         format!("r{}{} {start:08x} 00000010 rw", letters[0], letters[1])
     };
-    // With a hole after each region but the last.
     let mut regions = vec!["code 20000000 00000100 rwx".to_string()];
     regions.extend((0..60).map(region));
     regions.push("last 20001000 00000040 rw".into());
     let regions: Vec<&str> = regions.iter().map(String::as_str).collect();
-    fs::write(folder.join("board"), sheet(&regions)).unwrap();
-    let kinds: [&[&str]; 8] = [
-        &["--engine", "plain"],
-        &["--cover"],
-        &["--break", "0x20000040"],
-        &["--sweep", "1000"],
-        &["--console", "0x20000080"],
-        &["--last", "1000"],
-        &["--through-traps", "--watch", "0x20000080", "4"],
-        // What is counted afterwards would take sixty times as long as the run.
-        &["--map", "board"],
+    sheet(&regions)
+}
+
+#[test]
+fn a_run_of_any_kind_is_stopped_soon() {
+    let folder = directory("stopped_kinds");
+    fs::write(folder.join("image"), endless()).unwrap();
+    fs::write(folder.join("board"), board()).unwrap();
+    let kinds = [
+        "--engine plain",
+        "--cover",
+        "--break 0x20000040",
+        "--sweep 1000",
+        "--console 0x20000080",
+        "--last 1000",
+        "--through-traps --watch 0x20000080 4",
+        // What is counted afterwards would take thirty times as long as the run.
+        "--map board",
     ];
     for kind in kinds {
-        let run = [&["run", "image", "--json"], &ENDLESS[..], kind].concat();
+        let words: Vec<&str> = kind.split(' ').collect();
+        let run = [&["run", "image", "--json"], &ENDLESS[..], &words].concat();
         let going = Going::start(&folder, &run);
         wait(400);
         let (out, err) = going.stopped(SIGTERM);
         let value: Value = serde_json::from_str(&out).expect("JSON");
-        assert_eq!(value["end"], "stopped", "{kind:?}");
-        assert_eq!(value["verdict"], "stopped", "{kind:?}");
-        assert_eq!(value["retired"].to_string(), steps_of(&err), "{kind:?}");
+        assert_eq!(value["end"], "stopped", "{kind}");
+        assert_eq!(value["verdict"], "stopped", "{kind}");
+        assert_eq!(value["retired"].to_string(), steps_of(&err), "{kind}");
         assert!(err.ends_with("; nothing was to be saved\n"), "{err}");
     }
-    // A run that has ended is judged for long: its stores are counted in every hole of the map.
-    let run = [
-        "run",
-        "image",
-        "--json",
-        "--map",
-        "board",
-        "--steps",
-        "100000000",
-    ];
-    let going = Going::start(&folder, &run);
+}
+
+#[test]
+fn a_run_that_has_ended_and_is_judged_for_long_is_stopped_soon() {
+    let folder = directory("stopped_judging");
+    fs::write(folder.join("image"), endless()).unwrap();
+    fs::write(folder.join("board"), board()).unwrap();
+    let run = "run image --json --map board --save end --steps 100000000";
+    let going = Going::start(&folder, &run.split(' ').collect::<Vec<&str>>());
     wait(3_000);
-    let (out, _) = going.stopped(SIGINT);
+    let (out, err) = going.stopped(SIGINT);
     let value: Value = serde_json::from_str(&out).expect("JSON");
     assert_eq!(value["verdict"], "stopped");
     assert_eq!(value["map_stores"], Value::Null);
+    assert!(err.ends_with("; saved up to there: end\n"), "{err}");
+    assert!(folder.join("end").is_file());
 }
 
 #[test]

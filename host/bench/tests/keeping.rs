@@ -320,37 +320,30 @@ fn a_full_disk_leaves_what_was_there() {
     assert!(left.iter().all(|name| !name.starts_with('.')), "{left:?}");
 }
 
+/// That no output can go to a place, for which reason.
+fn all_refused(folder: &Path, place: &str, why: &str) {
+    for words in outputs(place) {
+        let answer = bench_in(folder, &words);
+        assert_eq!((answer.status, answer.out.as_str()), (3, ""), "{words:?}");
+        assert_eq!(answer.err, format!("bench: {place}: {why}\n"));
+    }
+}
+
 #[test]
 fn links_stay_wherever_they_lead() {
     let folder = with_inputs("keep_links");
-    for (target, name) in [
-        ("round", "circle"),
-        ("circle", "round"),
-        ("self", "self"),
-        ("new", "ahead"),
-    ] {
+    let links = ["ahead", "circle", "lost", "round", "self"];
+    let targets = ["new", "round", "nowhere/file", "circle", "self"];
+    for (name, target) in links.iter().zip(targets) {
         symlink(target, folder.join(name)).unwrap();
     }
-    symlink("nowhere/file", folder.join("lost")).unwrap();
-    let links = ["ahead", "circle", "lost", "round", "self"];
-    for place in ["circle", "self"] {
-        for words in outputs(place) {
-            let answer = bench_in(&folder, &words);
-            assert_eq!((answer.status, answer.out.as_str()), (3, ""), "{words:?}");
-            assert_eq!(
-                answer.err,
-                format!("bench: {place}: its links lead in a circle\n")
-            );
-        }
-    }
-    for words in outputs("lost") {
-        let answer = bench_in(&folder, &words);
-        assert_eq!((answer.status, answer.out.as_str()), (3, ""), "{words:?}");
-        assert_eq!(
-            answer.err,
-            "bench: lost: the folder that it is to be in is not there\n"
-        );
-    }
+    all_refused(&folder, "circle", "its links lead in a circle");
+    all_refused(&folder, "self", "its links lead in a circle");
+    all_refused(
+        &folder,
+        "lost",
+        "the folder that it is to be in is not there",
+    );
     holds(&folder, &links);
     // One that leads to a file that is not there yet: it is made there.
     for words in outputs("ahead") {
@@ -360,9 +353,8 @@ fn links_stay_wherever_they_lead() {
     }
     holds(&folder, &[&links[..], &["new"]].concat());
     for name in links {
-        assert!(fs::symlink_metadata(folder.join(name))
-            .unwrap()
-            .is_symlink());
+        let there = fs::symlink_metadata(folder.join(name)).unwrap();
+        assert!(there.is_symlink(), "{name}");
     }
 }
 
@@ -390,12 +382,5 @@ fn a_name_may_be_as_long_as_the_system_lets_it_be() {
         written(&folder, &words);
         holds(&folder, &[&name]);
     }
-    for words in outputs("new/") {
-        let answer = bench_in(&folder, &words);
-        assert_eq!(answer.status, 3);
-        assert_eq!(
-            answer.err,
-            "bench: new/: it is a folder, and a file is asked for\n"
-        );
-    }
+    all_refused(&folder, "new/", "it is a folder, and a file is asked for");
 }

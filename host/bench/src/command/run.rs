@@ -110,7 +110,7 @@ impl<'a> Task<'a> {
         mut ready: Ready,
         mut look: Look,
         trial: &Trial,
-        (place, signature): (Option<Place>, Option<signature::Asked>),
+        places: (Option<Place>, Option<signature::Asked>),
     ) -> Result<Status, String> {
         stop::heed();
         let asked = self.asked;
@@ -134,19 +134,30 @@ impl<'a> Task<'a> {
         let account = Account::of(&ready.state, &outcome, named, self.fits, with);
         // What cannot be said is saved nevertheless, and what cannot be saved is said.
         let said = conclude(asked, &ready, &account, &look);
+        self.save(&ready, &account, (&before, last.as_ref()), places)?;
+        if judged.stopped {
+            complain(&stopped(asked, outcome.counts));
+        }
+        said
+    }
+
+    /// Saves what is asked for: the state, the signature, the page. What fails first is told, and the others are saved.
+    fn save(
+        &self,
+        ready: &Ready,
+        account: &Account,
+        (before, last): (&State, Option<&Last>),
+        (place, signature): (Option<Place>, Option<signature::Asked>),
+    ) -> Result<(), String> {
         let saved = place.map_or(Ok(()), |place| {
             place.write(state_file::write(&ready.state).as_bytes())
         });
         let signed = signature.map_or(Ok(()), |signature| signature.write(&ready.state));
         let paged = last.map_or(Ok(()), |last| {
-            let subject = self.subject(Some(&ready));
-            self.write_page(|| ran_page(&subject?, &account, &before, &last))
+            let subject = self.subject(Some(ready));
+            self.write_page(|| ran_page(&subject?, account, before, last))
         });
-        saved.and(signed).and(paged)?;
-        if judged.stopped {
-            complain(&stopped(asked, outcome.counts));
-        }
-        said
+        saved.and(signed).and(paged)
     }
 
     /// Says that a byte of an image lies outside the board, on the page too; nothing is run.
