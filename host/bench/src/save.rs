@@ -13,6 +13,9 @@ use std::fs::{self, File, OpenOptions};
 use std::io::{BufWriter, Error, ErrorKind, Write};
 use std::path::{Path, PathBuf};
 
+/// What the command says goes to these.
+const OWN: [&str; 2] = ["/dev/stdout", "/dev/stderr"];
+
 /// A place that a file can be saved to.
 pub struct Place {
     /// The name as it was given, for messages.
@@ -70,10 +73,13 @@ impl Place {
             path: led_to(path).map_err(|why| format!("{}: {why}", path.display()))?,
             lasting: true,
         };
-        match fs::metadata(&place.path) {
+        let name = &place.name;
+        match fs::metadata(path) {
             Ok(there) if !there.is_file() => {
-                let name = &place.name;
                 return Err(format!("{name}: what is there is no regular file"));
+            }
+            Ok(_) if OWN.iter().any(|own| is_same(path, Path::new(own))) => {
+                return Err(format!("{name}: what the command says goes there"));
             }
             Ok(_) => {
                 // A file that is only for reading is kept, though it could be replaced.

@@ -202,6 +202,27 @@ fn two_outputs_are_one_file_whatever_their_names() {
 }
 
 #[test]
+fn what_the_command_says_is_an_output_too() {
+    let folder = with_inputs("keep_said");
+    // A file of results is never empty, which is said first.
+    for words in &outputs("end")[..5] {
+        for stream in ["2>/dev/null >", ">/dev/null 2>"] {
+            let line = format!("$BENCH {} {stream} end; echo $?", words.join(" "));
+            assert_eq!(shell_in(&folder, &line).out, "3\n", "{line}");
+            let said = fs::read_to_string(folder.join("end")).unwrap();
+            let reason = "bench: end: what the command says goes there\n";
+            assert!(["", reason].contains(&said.as_str()), "{said}");
+        }
+    }
+    let piped = shell_in(&folder, "$BENCH run image --save /dev/stdout | cat");
+    assert_eq!(
+        piped.err,
+        "bench: /dev/stdout: what is there is no regular file\n"
+    );
+    holds(&folder, &["end"]);
+}
+
+#[test]
 fn a_shelf_writes_over_no_page_but_its_own() {
     let folder = with_inputs("keep_pages");
     let shelf = ["shelf", "shelf", "--board", "board", "--report", "pages"];
