@@ -9,7 +9,7 @@ use compare::secrecy::{search, Bench, Program, Totals};
 use compare::{conclude, totals};
 use std::process::ExitCode;
 
-const CASES: u64 = 30_000;
+const CASES: u64 = 100_000;
 
 const PLAIN: Program = Program {
     machine: |state, call| call.on(state, proved::step, proved::run),
