@@ -433,6 +433,18 @@ fn on_board(name: &str, image: &str, [board, start]: [&str; 2], further: &[&str]
 }
 
 #[test]
+fn a_shelf_judges_what_may_be_read() {
+    for (start, kept) in [(CAREFUL, "holds"), (CARELESS, "could")] {
+        let asked = ["--handover", "0x20000100", "--never", "keys:r", "--json"];
+        let board = ["interlock_keys.map", start];
+        let row = &on_board("reach_shelf_keys", "image.hex", board, &asked).json()["rows"][0];
+        assert_eq!(row["kept"], kept);
+        let may = row["may_read"].as_str().expect("names");
+        assert_eq!(may.contains("keys"), kept == "could");
+    }
+}
+
+#[test]
 fn a_shelf_says_what_any_run_may_write() {
     let asked = ["--handover", "0x20000100", "--never", "interlock:w"];
     let careful = shelf("reach_shelf", CAREFUL, &asked).out;
@@ -452,14 +464,6 @@ fn a_shelf_says_what_any_run_may_write() {
     );
     let careless = row("reach_shelf_json_less", CARELESS);
     assert_eq!(careless["kept"], "could");
-    for (start, kept) in [(CAREFUL, "holds"), (CARELESS, "could")] {
-        let asked = ["--handover", "0x20000100", "--never", "keys:r", "--json"];
-        let board = ["interlock_keys.map", start];
-        let row = &on_board("reach_shelf_keys", "image.hex", board, &asked).json()["rows"][0];
-        assert_eq!(row["kept"], kept);
-        let may = row["may_read"].as_str().expect("names");
-        assert_eq!(may.contains("keys"), kept == "could");
-    }
     let missed = shelf(
         "reach_shelf_missed",
         CAREFUL,

@@ -279,7 +279,7 @@ fn reasons(state: &State, query: Query, from: u32, outside: bool) -> [bool; NUMB
         bad_tag || state.regs.iter().take(3).any(|&word| word != 0),
         query.rights > RIGHTS,
         from as usize >= places,
-        outside && (query.low | query.length) % GRANULE as u32 != 0,
+        outside && !(query.low | query.length).is_multiple_of(GRANULE as u32),
     ]
 }
 
