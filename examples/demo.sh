@@ -1,7 +1,8 @@
 #!/usr/bin/env bash
 # The demonstration, as `./bench demo` or, of a package, examples/demo.sh: one image on two boards (examples/interlock.md).
 # Its exit status is 0 if the image's label fits the large board alone, without the label the image ends on the
-# large board and is stopped on the small one, and no run writes the table there unless the board's start is careless.
+# large board and is stopped on the small one, and no run writes the table there, or reads the board's keys, unless the board's
+# start is careless.
 set -u
 cd "$(dirname "$0")/.." || exit 1
 bench=./bench
@@ -20,6 +21,10 @@ board() { # NAME: the image on that board
 
 never() { # START: whether a run from the handover on could write the small board's table
   show "$bench" reach --map examples/interlock_small.map --at 0x20000100 --never interlock:w "examples/interlock_$1.hex" examples/interlock_image.hex
+}
+
+keys() { # START: whether a run could read or write the small board's service keys
+  show "$bench" reach --map examples/interlock_keys.map --at 0x20000100 --never keys:rw "examples/interlock_$1.hex" examples/interlock_image.hex
 }
 
 cat <<'TEXT'
@@ -66,4 +71,15 @@ TEXT
 never careless | sed -n 1,4p
 careless=${PIPESTATUS[0]}
 
-[ "$fits" -eq 0 ] && [ "$misfits" -eq 1 ] && [ "$large" -eq 0 ] && [ "$small" -eq 1 ] && [ "$careful" -eq 0 ] && [ "$careless" -eq 1 ]
+cat <<'TEXT'
+
+Reading is asked the same way. With service keys that the board hands to nobody: no run reads or writes them, and
+nothing that any run does tells what they are.
+TEXT
+keys small | sed -n 1,5p
+hidden=${PIPESTATUS[0]}
+keys careless >/dev/null
+shown=$?
+
+[ "$fits" -eq 0 ] && [ "$misfits" -eq 1 ] && [ "$large" -eq 0 ] && [ "$small" -eq 1 ] && [ "$careful" -eq 0 ] && [ "$careless" -eq 1 ] &&
+  [ "$hidden" -eq 0 ] && [ "$shown" -eq 1 ]

@@ -25,3 +25,4 @@ make interlock_image_short interlock_image.s 0x20000100 -march=rv32ic
 make interlock_small interlock_board.s 0x20000000 --defsym STACK_END=0x20000800
 make interlock_large interlock_board.s 0x20000000 --defsym STACK_END=0x20002000
 make interlock_careless interlock_board.s 0x20000000 --defsym STACK_END=0x20000800 --defsym CARELESS=1
+make interlock_keys interlock_keys.s 0x20000800

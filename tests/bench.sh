@@ -107,7 +107,7 @@ readme_shows() {
     from=$(grep -n -F -x -m 1 -e "$(head -n 1 "$block")" "$work/demo" | cut -d: -f1) && [ -n "$from" ] &&
       tail -n "+$from" "$work/demo" | head -n "$(wc -l <"$block")" | diff - "$block" && echo shown || return 1
   done >"$work/blocks"
-  [ "$(grep -c -x shown "$work/blocks")" -eq 4 ]
+  [ "$(grep -c -x shown "$work/blocks")" -eq 5 ]
 }
 
 # The best of twenty fits of an image of 1 MiB takes less than 10 ms, from the start of the command to its end.

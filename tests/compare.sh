@@ -4,7 +4,7 @@
 # or lie in the directory that ODDERSNOW_STATICLIB names. What a part wrote is in host/target/compare.
 set -u
 source "$(dirname "$0")/lib/check.sh"
-parts="capability calls machine editions halves listing authority sheets images sweep watch engine reach integrity"
+parts="capability calls machine editions halves listing authority sheets images sweep watch engine reach integrity secrecy"
 out=host/target/compare
 mkdir -p "$out"
 
@@ -15,7 +15,7 @@ library_of() { # PART: one library, or several
   listing) echo listing_api ;;
   sheets | images) echo sheet_api ;;
   reach) echo reach ;;
-  integrity) echo bench_api reach ;;
+  integrity | secrecy) echo bench_api reach ;;
   *) echo bench_api ;;
   esac
 }

@@ -162,7 +162,7 @@ pub struct Reach {
     /// The most steps to the handover
     #[arg(long, value_parser = number, default_value = "1000000")]
     pub steps: u64,
-    /// What no run may do, as interlock:w, with a region's name or holes, and the letters r, w and x; may be
+    /// What no run may do, as interlock:w or keys:rw, with a region's name or holes, and the letters r, w and x; may be
     /// given more than once
     #[arg(long, value_name = "REGION:RIGHTS", value_parser = Never::read)]
     pub never: Vec<Never>,

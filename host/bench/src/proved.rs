@@ -75,6 +75,7 @@ impl Refusal {
             9 => "no granule of memory has the number",
             20 => "the mask has a bit above the twelve rights",
             21 => "neither a register nor a granule of memory has the number",
+            22 => "the range does not begin and end between granules",
             _ => "a number that document 01 does not have",
         }
     }
@@ -110,11 +111,20 @@ pub fn sweep(state: &mut State, granule: u32) -> Result<Option<u32>, Refusal> {
 
 /// The first place from one on, of the registers and then of memory's granules, that a query finds.
 pub fn reach(state: &State, query: Query, from: u32) -> Result<Option<u32>, Refusal> {
-    let (number, rest) = number_and_rest(state.reach(::proved::reach, query, from));
-    match (number, rest) {
+    place(state.reach(::proved::reach, query, from))
+}
+
+/// The same from outside: granules that lie in the range, which has whole ones, are passed over.
+pub fn reach_outside(state: &State, query: Query, from: u32) -> Result<Option<u32>, Refusal> {
+    place(state.reach(::proved::reach_outside, query, from))
+}
+
+/// The place that a search's answer names.
+fn place(answer: u64) -> Result<Option<u32>, Refusal> {
+    match number_and_rest(answer) {
         (0, 0) => Ok(None),
         (0, found) => Ok(Some((found - 1) as u32)),
-        _ => Err(Refusal(number)),
+        (number, _) => Err(Refusal(number)),
     }
 }
 

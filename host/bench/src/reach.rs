@@ -1,6 +1,7 @@
-//! What any run from a state may do to the regions of a board: the proved search asked, for each of them and for each hole
+//! What any run from a state may do to the regions of a board: the proved searches asked, for each of them and for each hole
 //! between them, which of the capabilities that are held could write, read or execute there. No run holds more later than
-//! the state does.
+//! the state does. Where nothing that is held outside may load, what stands inside is of no use to any run, and does not
+//! count.
 
 pub mod page;
 pub mod text;
@@ -13,7 +14,7 @@ use crate::capability_text::{right, ALL_RIGHTS};
 use crate::proved::{self, Refusal};
 use crate::sheet::Sheet;
 use crate::sweep;
-use lent::{place_name, Capability, Query, State, CAPABILITIES};
+use lent::{place_name, Capability, Query, State, CAPABILITIES, GRANULE};
 
 /// Something that may be done to memory.
 pub struct Deed {
@@ -22,6 +23,17 @@ pub struct Deed {
     /// The right that it takes.
     right: &'static str,
     pub done: &'static str,
+}
+
+impl Deed {
+    /// What is asked of a search: who could do it in a range.
+    fn query(&self, (low, length): (u32, u32)) -> Query {
+        Query {
+            low,
+            length,
+            rights: right(self.right),
+        }
+    }
 }
 
 /// In the order in which they are told.
@@ -42,6 +54,10 @@ pub const DEEDS: [Deed; 3] = [
         done: "executed",
     },
 ];
+
+/// The places of two of them in that order.
+const WRITTEN: usize = 0;
+const READ: usize = 1;
 
 /// The holders of which each is named.
 const NAMED: usize = 3;
@@ -82,6 +98,8 @@ pub struct Row {
     pub region: Option<(String, u32)>,
     pub start: u32,
     pub length: u32,
+    /// The whole granules that it lies in, by their first address and their bytes: what is read is told of these.
+    pub granules: (u32, u32),
     pub held: [Held; DEEDS.len()],
 }
 
@@ -89,6 +107,18 @@ impl Row {
     /// The number after the last address.
     pub fn end(&self) -> u64 {
         u64::from(self.start) + u64::from(self.length)
+    }
+
+    /// Whether it is neither written nor read by anything outside.
+    pub fn is_isolated(&self) -> bool {
+        self.held[WRITTEN].is_never() && self.held[READ].is_never()
+    }
+
+    /// The granules, from the first address to the number after the last, where they are more than itself.
+    pub fn rounded(&self) -> Option<(u32, u64)> {
+        let (low, length) = self.granules;
+        let more = self.granules != (self.start, self.length);
+        more.then(|| (low, u64::from(low) + u64::from(length)))
     }
 
     /// The name; that of a hole is what all of them are called.
@@ -135,34 +165,53 @@ fn row(
     if start >= end {
         return Ok(None);
     }
+    let granules = granules(state, (start, end));
     // A sheet's regions have a byte each, so that no hole is the whole address space.
     let (start, length) = (start as u32, (end - start) as u32);
-    let search = |deed: &Deed| {
-        let rights = right(deed.right);
-        search(
-            state,
-            Query {
-                low: start,
-                length,
-                rights,
-            },
-        )
+    let outside = |deed: &Deed| search(state, proved::reach_outside, deed.query(granules));
+    let is_unread = outside(&DEEDS[READ])?.is_never();
+    let held = |place: usize| {
+        let deed = &DEEDS[place];
+        let range = match place {
+            READ => granules,
+            _ => (start, length),
+        };
+        let all = search(state, proved::reach, deed.query(range))?;
+        match is_unread && !all.is_never() {
+            true => outside(deed),
+            false => Ok(all),
+        }
     };
     Ok(Some(Row {
         region,
         start,
         length,
-        held: [search(&DEEDS[0])?, search(&DEEDS[1])?, search(&DEEDS[2])?],
+        granules,
+        held: [held(0)?, held(1)?, held(2)?],
     }))
 }
 
-/// All places that the proved search finds, one after the other.
-fn search(state: &State, query: Query) -> Result<Held, Refusal> {
+/// The whole granules that a stretch lies in. Those of nearly the whole address space are too many for a length; memory is
+/// all that stands there.
+fn granules(state: &State, (start, end): (u64, u64)) -> (u32, u32) {
+    let unit = GRANULE as u64;
+    let (low, high) = (start / unit * unit, end.next_multiple_of(unit));
+    match u32::try_from(high - low) {
+        Ok(length) => (low as u32, length),
+        Err(_) => (state.start, state.mem.len() as u32),
+    }
+}
+
+/// One of the two searches: of all places, or from outside the range.
+type Search = fn(&State, Query, u32) -> Result<Option<u32>, Refusal>;
+
+/// All places that a proved search finds, one after the other.
+fn search(state: &State, next: Search, query: Query) -> Result<Held, Refusal> {
     let places = CAPABILITIES as u64 + sweep::granules(state);
     let mut held = Held::default();
     let mut from = 0;
     while u64::from(from) < places {
-        let Some(place) = proved::reach(state, query, from)? else {
+        let Some(place) = next(state, query, from)? else {
             break;
         };
         if held.first.len() < NAMED {

@@ -44,6 +44,41 @@ fn the_demonstration_with_a_careful_start_a_careless_one_and_none() {
     golden("reaches", &answers.map(|answer| answer.text()).join("\n"));
 }
 
+/// The small board with its service keys, by one of the two starts; the keys may stay away.
+fn with_keys(start: &str, further: &[&str]) -> Answer {
+    let words = [
+        "reach",
+        "--map",
+        "interlock_keys.map",
+        start,
+        "interlock_image.hex",
+        "interlock_keys.hex",
+    ];
+    bench_in(&examples(), &[&words[..], &HANDOVER, further].concat())
+}
+
+#[test]
+fn keys_that_the_careful_start_hides_and_the_careless_one_shows() {
+    let asked = ["--never", "keys:rw"];
+    let answers = [CAREFUL, CARELESS].map(|start| with_keys(start, &asked).text());
+    golden("reach_keys", &answers.join("\n"));
+}
+
+/// What is never read makes no difference: the same report with the keys and with zeros in their place.
+#[test]
+fn a_run_tells_nothing_of_what_it_never_reads() {
+    let run = |further: &[&str]| {
+        let words = ["run", "--map", "interlock_keys.map", CAREFUL];
+        bench_in(
+            &examples(),
+            &[&words[..], &["interlock_image.hex"], further].concat(),
+        )
+    };
+    let (with, without) = (run(&["interlock_keys.hex"]), run(&[]));
+    assert_eq!((with.status, &with.out), (without.status, &without.out));
+    assert!(with.out.contains("trapped"), "{}", with.text());
+}
+
 #[test]
 fn what_is_asked_for_decides_the_status() {
     let status = |start: &str, nevers: &[&str]| {
@@ -60,6 +95,12 @@ fn what_is_asked_for_decides_the_status() {
     assert_eq!(status(CAREFUL, &["interlock:wr"]), 1);
     assert_eq!(status(CARELESS, &["interlock:w"]), 1);
     assert_eq!(status(CARELESS, &[]), 0);
+    let keys = |start: &str, never: &str| with_keys(start, &["--never", never]).status;
+    assert_eq!((keys(CAREFUL, "keys:r"), keys(CARELESS, "keys:r")), (0, 1));
+    assert_eq!(
+        (keys(CAREFUL, "keys:rwx"), keys(CARELESS, "keys:x")),
+        (0, 1)
+    );
 }
 
 #[test]
@@ -101,6 +142,48 @@ fn the_same_as_json() {
             row["read"]["by"].as_array().map(Vec::len)
         ),
         (&json!(4), Some(3))
+    );
+}
+
+#[test]
+fn json_tells_what_is_isolated_and_of_which_granules() {
+    let rows = |start: &str| with_keys(start, &["--json"]).json()["rows"].clone();
+    let (careful, careless) = (rows(CAREFUL), rows(CARELESS));
+    let isolated = |rows: &Value| -> Vec<bool> {
+        let rows = rows.as_array().expect("rows").iter();
+        rows.map(|row| row["isolated"] == true).collect()
+    };
+    assert_eq!(isolated(&careful), [false, false, false, false, true]);
+    assert_eq!(isolated(&careless), [false; 5]);
+    let keys = &careful[4];
+    assert_eq!(
+        (&keys["name"], &keys["read"]["all"]),
+        (&json!("keys"), &json!(0))
+    );
+    let granules = json!({ "start": 0x2000_0800, "length": 64 });
+    assert_eq!(keys["granules"], granules);
+    assert_eq!(careless[4]["read"]["all"], 3);
+}
+
+/// A region that ends inside a granule, on the page and in the table.
+#[test]
+fn a_region_that_cuts_a_granule_is_told_so() {
+    let directory = saved("reach_rounded", &with_code(&[EBREAK]));
+    let sheet = SHEET.replace("00000080\trw", "0000007c\trw");
+    fs::write(directory.join("map"), sheet).expect("a sheet");
+    let said = bench_in(
+        &directory,
+        &[&SAVED[..], &["--report", "page.html"]].concat(),
+    );
+    let line = "data [20000080, 200000fc): what is read is told of its whole granules, [20000080, 20000100).";
+    assert!(said.out.contains(&format!("  {line}\n")), "{}", said.text());
+    let page = fs::read_to_string(directory.join("page.html")).expect("a page");
+    assert!(page.contains(line));
+    assert_eq!(
+        said.out.matches("whole granules").count(),
+        2,
+        "{}",
+        said.out
     );
 }
 
@@ -322,6 +405,16 @@ fn a_page_has_a_row_for_each_region_and_the_picture() {
     }
     let over = on_small(CAREFUL, &["--report", "interlock_small.map"]);
     assert_eq!(over.status, 3);
+    let page = directory.join("keys.html").display().to_string();
+    with_keys(CAREFUL, &["--report", &page]);
+    let page = fs::read_to_string(&page).expect("a page");
+    for text in [
+        "<td class=\"never\">isolated</td>",
+        "<title>keys [20000800, 20000840), isolated</title>",
+        "outside-secrecy-claim",
+    ] {
+        assert!(page.contains(text), "{text}");
+    }
 }
 
 /// A shelf of the demonstration's image on the small board, by a start and with further words.
@@ -337,6 +430,18 @@ fn on_board(name: &str, image: &str, [board, start]: [&str; 2], further: &[&str]
     let folder = directory.display().to_string();
     let words = ["shelf", &folder, "--board", board, "--with", start];
     bench_in(&examples(), &[&words[..], further].concat())
+}
+
+#[test]
+fn a_shelf_judges_what_may_be_read() {
+    for (start, kept) in [(CAREFUL, "holds"), (CARELESS, "could")] {
+        let asked = ["--handover", "0x20000100", "--never", "keys:r", "--json"];
+        let board = ["interlock_keys.map", start];
+        let row = &on_board("reach_shelf_keys", "image.hex", board, &asked).json()["rows"][0];
+        assert_eq!(row["kept"], kept);
+        let may = row["may_read"].as_str().expect("names");
+        assert_eq!(may.contains("keys"), kept == "could");
+    }
 }
 
 #[test]

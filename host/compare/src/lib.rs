@@ -33,6 +33,7 @@ pub mod reaches;
 pub mod refusals;
 pub mod replay;
 pub mod rows;
+pub mod secrecy;
 pub mod sheets;
 pub mod short;
 pub mod shrink;

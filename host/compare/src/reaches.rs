@@ -1,6 +1,6 @@
 //! The search for capabilities that reach into a range: scenes of registers and memory that are full of them, sound,
 //! sealed, unsound and untagged, asked about ranges at the edges of what they hold, with every kind of mask and from
-//! every kind of place.
+//! every kind of place. The search from outside is asked about ranges that hold some of the places themselves.
 
 use crate::capabilities::{anything, register, sealed, sound, Layout, Rights};
 use crate::cases;
@@ -12,7 +12,7 @@ use crate::unsound;
 use crate::Mismatch;
 use lent::{number_and_rest as parts, Query, Reach, State, CAPABILITIES, GRANULE};
 use second::capability::{bounds, is_sealed, rights, EX, LD, SD, SPACE};
-use second::{reach, Capability};
+use second::{reach, reach_outside, Capability};
 
 /// The rights, as a mask.
 const RIGHTS: u32 = 0xFFF;
@@ -21,7 +21,25 @@ const RIGHTS: u32 = 0xFFF;
 const QUERIES: u32 = 16;
 
 /// The numbers of refusals, in their order.
-const NUMBERS: [u64; 6] = [1, 2, 3, 4, 20, 21];
+const NUMBERS: [u64; 7] = [1, 2, 3, 4, 20, 21, 22];
+
+/// The last of them is of searches from outside alone.
+const OF_ALL: usize = NUMBERS.len() - 1;
+
+/// The queries from outside of one scene.
+const OUTSIDE_QUERIES: u32 = 8;
+
+/// The searches of a program: of all places, and from outside the range.
+#[derive(Clone, Copy)]
+pub struct Searches {
+    pub all: Reach,
+    pub outside: Reach,
+}
+
+pub const SECOND: Searches = Searches {
+    all: reach,
+    outside: reach_outside,
+};
 
 /// What was compared, by the second program's answers: places found in c0 to c15, in PCC and the special registers, in
 /// memory, and none; found ones that are sealed, that are unsound, that share one byte with the range; ranges without a
@@ -40,12 +58,44 @@ pub struct Totals {
     pub met: u64,
 }
 
-impl Totals {
+/// The same of both searches, and of those from outside: how many pass over a place of the range and find a later one or
+/// none, and how many begin at a place of the range.
+#[derive(Default, Debug)]
+pub struct Both {
+    pub all: Totals,
+    pub outside: Totals,
+    pub passed: [u64; 2],
+    pub begun: u64,
+}
+
+impl Both {
     /// Whether everything that is counted came up.
     pub fn complete(&self) -> bool {
+        let passed = self.passed.iter().chain([&self.begun]);
+        let whole = self.all.complete(OF_ALL) && self.outside.complete(NUMBERS.len());
+        whole && passed.copied().all(|count| count > 0)
+    }
+
+    /// Counts a search from outside that was not refused.
+    fn count(&mut self, state: &State, query: Query, from: u32, found: u64) {
+        let whole = state.reach(reach, query, from);
+        if whole != found {
+            self.passed[usize::from(found == 0)] += 1;
+        }
+        let granule = u64::from(from).checked_sub(CAPABILITIES as u64);
+        let address = granule.map(|granule| u64::from(state.start) + granule * GRANULE as u64);
+        let (low, length) = (u64::from(query.low), u64::from(query.length));
+        let range = low..low + length;
+        self.begun += u64::from(address.is_some_and(|address| range.contains(&address)));
+    }
+}
+
+impl Totals {
+    /// Whether everything that is counted came up, with so many numbers of refusals.
+    fn complete(&self, numbers: usize) -> bool {
         let one = [self.sealed, self.unsound, self.one_byte, self.met];
         let many = self.found.iter().chain(&self.ends).chain(&self.masks);
-        let many = many.chain(&self.from).chain(&self.refused);
+        let many = many.chain(&self.from).chain(&self.refused[..numbers]);
         many.chain(&one).all(|&count| count > 0)
     }
 
@@ -167,6 +217,21 @@ fn range(random: &mut Random, state: &State) -> (u32, u32) {
     }
 }
 
+/// A range with both edges between granules, most of the time; else one or both may be in one.
+fn of_granules(random: &mut Random, (low, length): (u32, u32)) -> (u32, u32) {
+    let unit = GRANULE as u32;
+    let (down, up) = (
+        low / unit * unit,
+        length.saturating_add(unit - 1) / unit * unit,
+    );
+    match random.below(16) {
+        0 => (low, length),
+        1 => (down, length),
+        2 => (low, down.wrapping_add(up).wrapping_sub(low)),
+        _ => (down, up),
+    }
+}
+
 /// A mask: what matters most, what is held, one right, any of them, and such as no mask may be.
 fn mask(random: &mut Random, state: &State) -> u32 {
     match random.below(16) {
@@ -203,7 +268,7 @@ fn begin(random: &mut Random, state: &State, last: u32) -> u32 {
 }
 
 /// The reasons to refuse a query, by their places among the numbers.
-fn reasons(state: &State, query: Query, from: u32) -> [bool; NUMBERS.len()] {
+fn reasons(state: &State, query: Query, from: u32, outside: bool) -> [bool; NUMBERS.len()] {
     let words = state.regs.len() == lent::WORDS;
     let bad_tag = (0..CAPABILITIES).any(|place| state.register(3 * place + 2) > 1);
     let places = CAPABILITIES + state.mem.len() / GRANULE;
@@ -214,33 +279,35 @@ fn reasons(state: &State, query: Query, from: u32) -> [bool; NUMBERS.len()] {
         bad_tag || state.regs.iter().take(3).any(|&word| word != 0),
         query.rights > RIGHTS,
         from as usize >= places,
+        outside && !(query.low | query.length).is_multiple_of(GRANULE as u32),
     ]
 }
 
 /// Asks both programs and compares; counts what was asked and found.
 fn ask(
-    ours: Reach,
+    (ours, outside): (Reach, bool),
     state: &State,
     query: Query,
     from: u32,
     totals: &mut Totals,
 ) -> Result<u64, String> {
+    let second = if outside { reach_outside } else { reach };
     let (mine, theirs) = (
         state.reach(ours, query, from),
-        state.reach(reach, query, from),
+        state.reach(second, query, from),
     );
     if mine != theirs {
         let (start, size) = (state.start, state.mem.len());
         return Err(format!(
-            "{query:x?} from {from}, {size} bytes at {start:08x}: ours {mine:x}, second {theirs:x}"
+            "{query:x?} from {from}, outside {outside}, {size} bytes at {start:08x}: ours {mine:x}, second {theirs:x}"
         ));
     }
     let (number, rest) = parts(theirs);
     if number == 0 {
         totals.count(state, query, from, rest.checked_sub(1));
-        return Ok(rest);
+        return Ok(theirs);
     }
-    let reasons = reasons(state, query, from);
+    let reasons = reasons(state, query, from, outside);
     let wanted = NUMBERS.iter().zip(reasons).find(|(_, reason)| *reason);
     if rest != 0 || wanted.map(|(wanted, _)| *wanted) != Some(number) {
         return Err(format!(
@@ -251,12 +318,57 @@ fn ask(
         *count += u64::from(wanted == number);
     }
     totals.met += u64::from(reasons.iter().filter(|reason| **reason).count() > 1);
-    Ok(0)
+    Ok(theirs)
+}
+
+/// Something to ask of a state: a range, a mask, and the place to begin at.
+fn asked(random: &mut Random, state: &State, outside: bool, last: u32) -> (Query, u32) {
+    let (low, length) = range(random, state);
+    let (low, length) = match outside {
+        true => of_granules(random, (low, length)),
+        false => (low, length),
+    };
+    let rights = mask(random, state);
+    let query = Query {
+        low,
+        length,
+        rights,
+    };
+    (query, begin(random, state, last))
+}
+
+/// The queries of one search to a scene.
+fn ask_all(
+    ours: Searches,
+    outside: bool,
+    random: &mut Random,
+    state: &State,
+    totals: &mut Both,
+) -> Result<(), String> {
+    let mut last = 0;
+    let (search, queries) = match outside {
+        true => (ours.outside, OUTSIDE_QUERIES),
+        false => (ours.all, QUERIES),
+    };
+    for _ in 0..queries {
+        let (query, from) = asked(random, state, outside, last);
+        let counts = match outside {
+            true => &mut totals.outside,
+            false => &mut totals.all,
+        };
+        let found = ask((search, outside), state, query, from, counts)?;
+        let (number, rest) = parts(found);
+        if outside && number == 0 {
+            totals.count(state, query, from, rest);
+        }
+        last = (rest as u32).saturating_sub(1);
+    }
+    Ok(())
 }
 
 /// Compares a program with the second one on the scenes of a seed, some of them spoilt; nothing that is lent changes.
-pub fn compare(ours: Reach, seed: u64, cases: u64) -> Result<Totals, Mismatch> {
-    let mut totals = Totals::default();
+pub fn compare(ours: Searches, seed: u64, cases: u64) -> Result<Both, Mismatch> {
+    let mut totals = Both::default();
     let mut case = Case::default();
     for number in 1..=cases {
         let mut random = Random::new(seed, number);
@@ -265,19 +377,9 @@ pub fn compare(ours: Reach, seed: u64, cases: u64) -> Result<Totals, Mismatch> {
             refusals::spoil(&mut random, &mut case);
         }
         let before = random.one_in(16).then(|| case.state.clone());
-        let mut last = 0;
-        for _ in 0..QUERIES {
-            let (low, length) = range(&mut random, &case.state);
-            let rights = mask(&mut random, &case.state);
-            let query = Query {
-                low,
-                length,
-                rights,
-            };
-            let from = begin(&mut random, &case.state, last);
-            let found = ask(ours, &case.state, query, from, &mut totals);
-            let found = found.map_err(|text| Mismatch { case: number, text })?;
-            last = (found as u32).saturating_sub(1);
+        for outside in [false, true] {
+            ask_all(ours, outside, &mut random, &case.state, &mut totals)
+                .map_err(|text| Mismatch { case: number, text })?;
         }
         if before.is_some_and(|before| before != case.state) {
             let text = "what is lent changed".into();
@@ -293,12 +395,12 @@ mod tests {
 
     #[test]
     fn the_second_program_agrees_with_itself_and_everything_comes_up() {
-        let totals = compare(reach, 1, 4_000).unwrap();
+        let totals = compare(SECOND, 1, 4_000).unwrap();
         assert!(totals.complete(), "{totals:?}");
     }
 
     #[test]
-    fn a_place_more_and_a_refusal_with_a_rest_are_found() {
+    fn a_place_more_a_refusal_with_a_rest_and_the_other_search_are_found() {
         let next: Reach = |regs, start, mem, tags, query, from| {
             let answer = reach(regs, start, mem, tags, query, from);
             answer + u64::from(answer >> 48 == 0 && answer > 40)
@@ -307,7 +409,21 @@ mod tests {
             let answer = reach(regs, start, mem, tags, query, from);
             answer | u64::from(answer == 21 << 48)
         };
-        for wrong in [next, rest] {
+        let wrong = [
+            Searches {
+                all: next,
+                ..SECOND
+            },
+            Searches {
+                all: rest,
+                ..SECOND
+            },
+            Searches {
+                outside: reach,
+                ..SECOND
+            },
+        ];
+        for wrong in wrong {
             assert!(compare(wrong, 1, 1_000).is_err());
         }
     }

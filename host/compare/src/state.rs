@@ -1,6 +1,6 @@
 //! One call on lent state, and the second program's capabilities in it.
 
-use lent::{Run, State, Step};
+use lent::{Run, RunWatched, State, Step, Watch};
 use second::Capability;
 
 /// The function that is called.
@@ -17,6 +17,19 @@ impl Call {
         match self {
             Call::Step => state.step(step),
             Call::Run(steps) => state.run(run, steps),
+        }
+    }
+
+    /// Makes the call on an engine that watches, with nothing to watch; a step is a run of one.
+    pub fn by(self, state: &mut State, run: RunWatched) -> u64 {
+        state.run_watched(run, self.steps(), &mut Watch::default())
+    }
+
+    /// How many steps it asks for.
+    pub fn steps(self) -> u32 {
+        match self {
+            Call::Step => 1,
+            Call::Run(steps) => steps,
         }
     }
 }

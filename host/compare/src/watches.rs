@@ -6,7 +6,7 @@ use crate::cases;
 use crate::machines::shown;
 use crate::random::Random;
 use crate::rows::Table;
-use crate::state::{as_second, Call, Case};
+use crate::state::{as_second, Case};
 use crate::Mismatch;
 use lent::{Answer, Range, Run, RunWatched, State, Watch, PCC};
 use second::decode::{instruction, Instruction, StoreWidth};
@@ -183,10 +183,7 @@ fn one(
     lent: Watch,
     totals: &mut Totals,
 ) -> Result<(), String> {
-    let steps = match case.call {
-        Call::Step => 1,
-        Call::Run(steps) => steps,
-    };
+    let steps = case.call.steps();
     let (mut mine, mut theirs, mut bare) =
         (case.state.clone(), case.state.clone(), case.state.clone());
     let (mut my_watch, mut their_watch) = (lent, lent);

@@ -198,44 +198,62 @@ pub fn sweep(board: Board, mem: &[u8], tags: &mut [u8], revoked: &[u8], granule:
     }
 }
 
-// SAFETY: declared as in include/oddersnow.h.
-unsafe extern "C" {
-    fn oddersnow_reach(
-        regs: *const u32,
-        regs_len: usize,
-        start: u32,
-        mem: *const u8,
-        mem_len: usize,
-        tags: *const u8,
-        tags_len: usize,
-        low: u32,
-        length: u32,
-        rights: u32,
-        from: u32,
-    ) -> u64;
+/// A search of a state, which is lent to be read.
+macro_rules! search_function {
+    ($(#[$doc:meta])* $name:ident is $declared:ident) => {
+        // SAFETY: declared as in include/oddersnow.h.
+        unsafe extern "C" {
+            fn $declared(
+                regs: *const u32,
+                regs_len: usize,
+                start: u32,
+                mem: *const u8,
+                mem_len: usize,
+                tags: *const u8,
+                tags_len: usize,
+                low: u32,
+                length: u32,
+                rights: u32,
+                from: u32,
+            ) -> u64;
+        }
+
+        $(#[$doc])*
+        #[inline]
+        pub fn $name(
+            regs: &[u32], start: u32, mem: &[u8], tags: &[u8], query: Query, from: u32,
+        ) -> u64 {
+            // SAFETY: as for the machine; nothing is written.
+            unsafe {
+                $declared(
+                    regs.as_ptr(),
+                    regs.len(),
+                    start,
+                    mem.as_ptr(),
+                    mem.len(),
+                    tags.as_ptr(),
+                    tags.len(),
+                    query.low,
+                    query.length,
+                    query.rights,
+                    from,
+                )
+            }
+        }
+    };
 }
 
-/// The first place from one on that holds a tagged capability with the rights of the query and a byte in
-/// common with its range: 0 to 20 the capability registers, 21 + g granule g. The answer is number * 2^48 +
-/// place + 1, or + 0 where there is none.
-#[inline]
-pub fn reach(regs: &[u32], start: u32, mem: &[u8], tags: &[u8], query: Query, from: u32) -> u64 {
-    // SAFETY: as for the machine; nothing is written.
-    unsafe {
-        oddersnow_reach(
-            regs.as_ptr(),
-            regs.len(),
-            start,
-            mem.as_ptr(),
-            mem.len(),
-            tags.as_ptr(),
-            tags.len(),
-            query.low,
-            query.length,
-            query.rights,
-            from,
-        )
-    }
+search_function! {
+    /// The first place from one on that holds a tagged capability with the rights of the query and a byte in
+    /// common with its range: 0 to 20 the capability registers, 21 + g granule g. The answer is number * 2^48 +
+    /// place + 1, or + 0 where there is none.
+    reach is oddersnow_reach
+}
+
+search_function! {
+    /// The same search from outside: granules that lie in the range are passed over. 22 is its refusal of a range
+    /// that does not begin and end between granules.
+    reach_outside is oddersnow_reach_outside
 }
 
 // SAFETY: declared as in include/oddersnow.h.

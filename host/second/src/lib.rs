@@ -23,7 +23,7 @@ pub use calls::calls;
 pub use capability::{bounds, cut, Capability, Cut};
 pub use listing::{assemble, list};
 pub use machine::{run, run_watched, step};
-pub use reach::reach;
+pub use reach::{reach, reach_outside};
 pub use sweep::sweep;
 pub use text::cutting_program;
 

@@ -1,6 +1,6 @@
 //! The same as a page: a matrix of rows and deeds, with the picture of memory beside it.
 
-use super::text::{cell, head, held_words, verdict, LAWS};
+use super::text::{cell, head, held_words, isolated, rounded, verdict, LAWS};
 use super::{Account, Row, DEEDS};
 use crate::map::{Kind, Map, Shape};
 use crate::page::{about, filled, Subject};
@@ -20,6 +20,7 @@ pub fn of(subject: &Subject, account: &Account) -> Result<String, String> {
     value["deeds"] = DEEDS.iter().map(|deed| deed.done).collect();
     // High addresses are at the top, as in the picture.
     value["rows"] = account.rows.iter().rev().map(row).collect();
+    value["rounded"] = account.rows.iter().rev().filter_map(rounded).collect();
     value["holders"] = holders.collect();
     value["laws"] = LAWS[..].into();
     filled("reach.html", &value)
@@ -40,13 +41,17 @@ fn row(row: &Row) -> Value {
         "place": format!("[{low:08x}, {high:08x})"),
         "rights": row.region.as_ref().map_or("", |(_, rights)| letters(*rights)),
         "cells": cells.collect::<Vec<Value>>(),
+        "isolated": isolated(row),
     })
 }
 
 /// The board's regions, and beside them where each of the deeds may be done.
 fn picture(rows: &[Row]) -> Map {
     let regions = rows.iter().filter(|row| row.region.is_some());
-    let board = regions.map(|row| Shape::new(place(row), row.name(), "", "board"));
+    let board = regions.map(|row| {
+        let more = if row.is_isolated() { ", isolated" } else { "" };
+        Shape::new(place(row), row.name(), more, "board")
+    });
     let reached = |deed: usize| {
         let held = rows.iter().filter(move |row| !row.held[deed].is_never());
         let shape = |row: &Row| {

@@ -23,6 +23,18 @@ fn object(address: u32) -> Capability {
     Capability::tagged(address, 0x7E00_0000 | (base + 8) << 9 | base)
 }
 
+/// The same with the right to store alone.
+fn store_only(address: u32) -> Capability {
+    let whole = object(address);
+    Capability::tagged(address, whole.metadata & !(0x3F << 25) | 0b110000 << 25)
+}
+
+/// The row of a region.
+fn row<'a>(rows: &'a [Row], name: &str) -> &'a Row {
+    let mut rows = rows.iter();
+    rows.find(|row| row.name() == name).expect("a row")
+}
+
 fn names(held: &Held) -> Vec<&str> {
     held.first.iter().map(|holder| &holder.name[..]).collect()
 }
@@ -75,11 +87,13 @@ fn each_deed_has_its_own_right_and_holders_come_in_the_order_of_their_places() {
 }
 
 #[test]
-fn an_unsound_one_counts_everywhere_and_is_marked() {
+fn an_unsound_one_counts_everywhere_but_where_it_stands_and_is_marked() {
     let mut state = state();
     state.write_capability(START + 248, Capability::tagged(0x0500_0000, 0x7E3C_0805));
     let rows = rows(&state, &sheet()).expect("rows");
-    for held in rows.iter().flat_map(|row| &row.held) {
+    let (last, others) = rows.split_last().expect("rows");
+    assert!(last.is_isolated() && last.end() == state.end());
+    for held in others.iter().flat_map(|row| &row.held) {
         assert_eq!(names(held), ["200000f8"]);
         assert!(held.first[0].unsound);
     }
@@ -130,4 +144,58 @@ fn each_deed_is_judged_for_itself() {
     state.set(6, object(START + 0x3C));
     let rows = super::rows(&state, &sheet()).expect("rows");
     assert!(!Never::read("holes:w").expect("good").holds(&rows));
+}
+
+#[test]
+fn what_stands_inside_counts_only_where_something_outside_may_read() {
+    let mut state = state();
+    state.write_capability(START + 0x20, Capability::tagged(START + 0x28, MEMORY_ROOT));
+    let rows = super::rows(&state, &sheet()).expect("rows");
+    let low = row(&rows, "low");
+    assert!(low.held.iter().all(Held::is_never) && low.is_isolated());
+    assert_eq!(names(&row(&rows, "high").held[0]), ["20000020"]);
+    state.set(6, store_only(START + 0x38));
+    let rows = super::rows(&state, &sheet()).expect("rows");
+    let low = row(&rows, "low");
+    assert_eq!(names(&low.held[0]), ["c6"]);
+    assert!(low.held[1].is_never() && !low.is_isolated());
+    assert!(Never::read("low:r").expect("good").holds(&rows));
+    assert!(!Never::read("low:rw").expect("good").holds(&rows));
+    state.set(5, object(START + 0x38));
+    let rows = super::rows(&state, &sheet()).expect("rows");
+    let low = row(&rows, "low");
+    assert_eq!(names(&low.held[0]), ["c5", "c6", "20000020"]);
+    assert_eq!(names(&low.held[1]), ["c5", "20000020"]);
+}
+
+#[test]
+fn what_is_read_is_told_of_whole_granules() {
+    let sheet = "region\tpart\t20000024\t00000009\tr\nregion\trest\t20000080\t00000040\trw\n";
+    let sheet = sheet::of(sheet.as_bytes()).expect("a good sheet");
+    let mut state = state();
+    state.set(7, object(START + 0x1C));
+    let rows = super::rows(&state, &sheet).expect("rows");
+    let part = row(&rows, "part");
+    assert_eq!(part.granules, (START + 0x20, 0x10));
+    assert_eq!(
+        part.rounded(),
+        Some((START + 0x20, u64::from(START) + 0x30))
+    );
+    assert!(part.held[0].is_never());
+    assert_eq!(names(&part.held[1]), ["c7"]);
+    assert_eq!(row(&rows, "rest").rounded(), None);
+}
+
+#[test]
+fn of_nearly_the_whole_address_space_memory_is_what_stands_there() {
+    let sheet = sheet::of(b"region\tall\t00000001\tffffffff\trw\n").expect("a good sheet");
+    let mut state = state();
+    state.write_capability(START + 8, object(START));
+    let rows = super::rows(&state, &sheet).expect("rows");
+    let all = row(&rows, "all");
+    assert_eq!(all.granules, (START, 256));
+    assert!(all.is_isolated());
+    state.set(9, object(START + 0xF8));
+    let rows = super::rows(&state, &sheet).expect("rows");
+    assert_eq!(names(&row(&rows, "all").held[1]), ["c9", "20000008"]);
 }

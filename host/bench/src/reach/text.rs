@@ -4,11 +4,17 @@ use super::{Account, Held, Holder, Judged, Row, DEEDS, HOLES};
 use crate::capability_text::{count, grouped, region, rights, type_words};
 use crate::proved::bounds;
 use crate::sheet::letters;
+use std::array;
 
-/// What stands below the table: which law says what is never written, and what is known of the rest.
-pub const LAWS: [&str; 2] = [
+/// Name, place, the sheet's rights, the three deeds, and whether it is isolated.
+const COLUMNS: usize = 7;
+
+/// What stands below the table: what each word means, and which law says it.
+pub const LAWS: [&str; 4] = [
     "Never written: no step, run or sweep from here changes a byte of it, however many are made (law reach-claim).",
-    "Never read, never executed: nothing held has that right there, and after any run nothing has (law nowhere-stays); no law of reading stands yet.",
+    "Never read: nothing held outside may load there, so nothing that a run does or leaves elsewhere tells what stands there (law outside-secrecy-claim).",
+    "Isolated: neither written nor read. What stands inside does not count, for nothing outside can load it (law outside-isolation-claim).",
+    "Never executed: nothing held has that right there, and after any run nothing has (law nowhere-stays); what is never read is not fetched either.",
 ];
 
 /// The account: what was asked for first, then the table, the holders and the laws.
@@ -17,7 +23,11 @@ pub fn told(account: &Account) -> String {
     for judged in account.judged() {
         text.push_str(&format!("{}\n", verdict(&judged)));
     }
-    text.push_str(&format!("\n{}\n", table(account.rows)));
+    text.push_str(&format!("\n{}", table(account.rows)));
+    for line in account.rows.iter().filter_map(rounded) {
+        text.push_str(&format!("  {line}\n"));
+    }
+    text.push('\n');
     for holder in account.holders() {
         text.push_str(&format!("  {:<9}  {}\n", holder.name, held_words(holder)));
     }
@@ -100,9 +110,26 @@ pub fn held_words(holder: &Holder) -> String {
     )
 }
 
+/// What a row is called where it is neither written nor read.
+pub fn isolated(row: &Row) -> &'static str {
+    match row.is_isolated() {
+        true => "isolated",
+        false => "",
+    }
+}
+
+/// Of which bytes a row tells what is read, where these are more than itself.
+pub fn rounded(row: &Row) -> Option<String> {
+    let (low, high) = row.rounded()?;
+    let (name, start, end) = (row.name(), row.start, row.end());
+    Some(format!(
+        "{name} [{start:08x}, {end:08x}): what is read is told of its whole granules, [{low:08x}, {high:08x})."
+    ))
+}
+
 /// A line for each row, with columns as wide as they need to be.
 fn table(rows: &[Row]) -> String {
-    let head = ["region", "where", "", "written", "read", "executed"].map(String::from);
+    let head = ["region", "where", "", "written", "read", "executed", ""].map(String::from);
     let body = rows.iter().map(|row| {
         let [written, read, executed] = [0, 1, 2].map(|deed| cell(&row.held[deed]));
         let rights = row
@@ -111,12 +138,13 @@ fn table(rows: &[Row]) -> String {
             .map_or("", |(_, rights)| letters(*rights));
         let place = format!("[{:08x}, {:08x})", row.start, row.end());
         let name = row.name().to_string();
-        [name, place, rights.into(), written, read, executed]
+        let last = isolated(row).into();
+        [name, place, rights.into(), written, read, executed, last]
     });
-    let lines: Vec<[String; 6]> = [head].into_iter().chain(body).collect();
+    let lines: Vec<[String; COLUMNS]> = [head].into_iter().chain(body).collect();
     let wide = |column: usize| lines.iter().map(|line| line[column].len()).max();
-    let widths = [0, 1, 2, 3, 4, 5].map(|column| wide(column).unwrap_or(0));
-    let line = |line: &[String; 6]| {
+    let widths: [usize; COLUMNS] = array::from_fn(|column| wide(column).unwrap_or(0));
+    let line = |line: &[String; COLUMNS]| {
         let cells = line.iter().zip(widths);
         let cells = cells.map(|(cell, width)| format!("  {cell:<width$}"));
         format!("{}\n", cells.collect::<String>().trim_end())

@@ -32,6 +32,8 @@ fn row(row: &Row) -> Value {
         "start": row.start,
         "length": row.length,
         "rights": rights.map(letters),
+        "granules": { "start": row.granules.0, "length": row.granules.1 },
+        "isolated": row.is_isolated(),
     });
     for (deed, held) in DEEDS.iter().zip(&row.held) {
         value[deed.done] = self::held(held);

@@ -16,8 +16,9 @@ use compare::listing::{self, Lister};
 use compare::lists::{self, List};
 use compare::machines;
 use compare::options::Options;
-use compare::reaches;
+use compare::reaches::{self, Searches};
 use compare::rows::Table;
+use compare::secrecy::{self, Program};
 use compare::sheets::{self, Sheets};
 use compare::state::Call;
 use compare::sweeps;
@@ -50,7 +51,7 @@ const REACH_CASES: u64 = 100_000;
 const RIGHT_REACHES: u64 = 5_000;
 
 /// The comparisons with which the copy with no edit on must agree.
-const RIGHT: [(&str, u64); 14] = [
+const RIGHT: [(&str, u64); 15] = [
     ("cuts", RIGHT_CASES),
     ("lists", RIGHT_CASES),
     ("machine", RIGHT_CASES),
@@ -65,6 +66,7 @@ const RIGHT: [(&str, u64); 14] = [
     ("engine", RIGHT_ENGINES),
     ("reach", RIGHT_REACHES),
     ("integrity", IDLE_STARTS),
+    ("secrecy", IDLE_STARTS),
 ];
 
 fn cut(base: u32, length: u32) -> CutAnswer {
@@ -128,10 +130,26 @@ const UNASKED: Bench = Bench {
     sweep: second::sweep,
 };
 
-/// The same by what is reached and what is written unasked.
+/// The selected machine and sweeper with the right search: what they tell is their own fault.
+const TELLING: secrecy::Bench = secrecy::Bench {
+    programs: &[Program {
+        machine,
+        watched: mutants::machine::run_watched,
+    }],
+    outside: second::reach_outside,
+    sweep: mutants::sweep::sweep,
+};
+
+const SEARCHES: Searches = Searches {
+    all: mutants::reach::reach,
+    outside: mutants::reach::reach_outside,
+};
+
+/// The same by what is reached, what is written unasked and what is told.
 fn reached(comparison: &str, table: &Table, seed: u64, cases: u64) -> Option<u64> {
     let found = match comparison {
-        "reach" => reaches::compare(mutants::reach::reach, seed, cases.min(REACH_CASES)).err(),
+        "reach" => reaches::compare(SEARCHES, seed, cases.min(REACH_CASES)).err(),
+        "secrecy" => secrecy::search(TELLING, table, seed, cases.min(STARTS)).err(),
         _ => integrity::search(UNASKED, table, seed, cases.min(STARTS)).err(),
     };
     found.map(|found| found.case)
@@ -166,7 +184,7 @@ fn told_apart(comparison: &str, table: &Table, seed: u64, cases: u64) -> Option<
         "engine" => engines::compare(ENGINES, table, seed, cases.min(ENGINE_CASES))
             .err()
             .map(|found| found.case),
-        "reach" | "integrity" => reached(comparison, table, seed, cases),
+        "reach" | "integrity" | "secrecy" => reached(comparison, table, seed, cases),
         "listing" => listing::compare(LISTER, seed, listing::CASES)
             .err()
             .map(|found| found.case),

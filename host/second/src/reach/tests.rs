@@ -22,13 +22,28 @@ fn cut(metadata: u32, low: u32, length: u32) -> lent::Capability {
     lent::Capability::tagged(cut.address, cut.metadata)
 }
 
-fn asked(state: &State, low: u32, length: u32, rights: u32, from: u32) -> u64 {
+/// Asks for a range, by its first address and its length, and rights, from a place on.
+fn ask(
+    search: lent::Reach,
+    state: &State,
+    (low, length): (u32, u32),
+    rights: u32,
+    from: u32,
+) -> u64 {
     let query = Query {
         low,
         length,
         rights,
     };
-    state.reach(reach, query, from)
+    state.reach(search, query, from)
+}
+
+fn asked(state: &State, low: u32, length: u32, rights: u32, from: u32) -> u64 {
+    ask(reach, state, (low, length), rights, from)
+}
+
+fn asked_outside(state: &State, low: u32, length: u32, rights: u32, from: u32) -> u64 {
+    ask(reach_outside, state, (low, length), rights, from)
 }
 
 fn state() -> State {
@@ -150,4 +165,70 @@ fn what_is_not_lent_is_not_judged() {
     state.edition = 9;
     state.set(1, lent::Capability::tagged(0, TOO_HIGH));
     assert_eq!(asked(&state, START, 8, SD, 0), 2);
+}
+
+/// Granules 2 and 3 are the range.
+#[test]
+fn what_stands_in_the_range_is_passed_over_and_its_neighbours_are_not() {
+    let mut state = state();
+    let whole = cut(MEMORY, START, 128);
+    for granule in [2, 3] {
+        state.write_capability(START + 8 * granule, whole);
+    }
+    let outside = |state: &State, from| asked_outside(state, START + 16, 16, LD, from);
+    assert_eq!(asked(&state, START + 16, 16, LD, 0), 24);
+    assert_eq!((outside(&state, 0), outside(&state, 23)), (0, 0));
+    state.write_capability(START + 32, whole);
+    assert_eq!((outside(&state, 0), outside(&state, 24)), (26, 26));
+    state.write_capability(START + 8, cut(MEMORY, START + 16, 8));
+    assert_eq!((outside(&state, 0), outside(&state, 23)), (23, 26));
+    state.set(16, cut(CODE, START + 31, 1));
+    assert_eq!((outside(&state, 0), outside(&state, 17)), (17, 23));
+    assert_eq!(asked_outside(&state, START + 16, 8, EX, 0), 0);
+}
+
+#[test]
+fn an_unsound_one_outside_the_range_counts_and_inside_does_not() {
+    let mut state = state();
+    state.write_capability(START + 8, lent::Capability::tagged(0, TOO_HIGH));
+    assert_eq!(asked_outside(&state, START + 8, 8, LD, 0), 0);
+    assert_eq!(asked_outside(&state, START, 16, LD, 0), 0);
+    assert_eq!(asked_outside(&state, START, 8, LD, 0), 23);
+    assert_eq!(asked_outside(&state, START, 0, LD, 0), 0);
+}
+
+#[test]
+fn a_range_from_outside_has_its_edges_between_granules() {
+    let mut state = state();
+    state.write_capability(START + 120, cut(MEMORY, 0, u32::MAX));
+    let number = |low, length| asked_outside(&state, low, length, LD, 0) >> 48;
+    for (low, length) in [
+        (START + 4, 8),
+        (START, 9),
+        (START + 7, 1),
+        (1, 0),
+        (0, u32::MAX),
+    ] {
+        assert_eq!(number(low, length), 22, "{low:x} {length}");
+        assert_eq!(asked(&state, low, length, LD, 0) >> 48, 0);
+    }
+    for (low, length) in [
+        (START, 0),
+        (START, 128),
+        (0xFFFF_FFF8, 16),
+        (0, 0xFFFF_FFF8),
+    ] {
+        assert_eq!(number(low, length), 0, "{low:x} {length}");
+    }
+    // It comes last.
+    assert_eq!(asked_outside(&state, START + 1, 8, 0x1000, 99), 20 << 48);
+    assert_eq!(asked_outside(&state, START + 1, 8, LD, 99), 21 << 48);
+}
+
+/// Past the end of the address space a range goes on as whole numbers: it does not begin again at 0.
+#[test]
+fn a_range_past_the_space_does_not_hide_what_stands_at_its_start() {
+    let mut state = State::new(0, vec![0; 128]);
+    state.write_capability(0, cut(MEMORY, 0xFFFF_FFF8, 8));
+    assert_eq!(asked_outside(&state, 0xFFFF_FFF8, 16, SD, 0), 22);
 }
