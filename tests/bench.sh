@@ -24,6 +24,15 @@ image_files() {
   for file in examples/interlock_*.hex examples/interlock_*.img; do cmp "$file" "$work/${file##*/}" || return 1; done
 }
 
+# The sources and their macros assemble for a core with 16 registers, products and short words too.
+other_cores() {
+  need riscv64-unknown-elf-as || return 1
+  local source
+  for source in examples/interlock_image.s examples/interlock_board.s examples/doors.s; do
+    riscv64-unknown-elf-as -march=rv32emc -mabi=ilp32e -mno-relax -I examples --defsym STACK_END=0x20000800 "$source" -o "$work/other.o" || return 1
+  done
+}
+
 # The ELF files run as the HEX files do, and name the function.
 elf_files() {
   local bench=$PWD/host/bench/target/release/bench examples=$PWD/examples board kind from
@@ -216,6 +225,7 @@ check "a run is by the quick engine if nothing is said" by_engine oddersnow_run_
 check "the demonstration" ./bench demo
 check "README.md shows the demonstration's output" readme_shows
 check "the demonstration's images are their sources'" image_files
+check "the demonstration's sources assemble for rv32emc" other_cores
 check "the demonstration's ELF files run as the HEX files" elf_files
 check "the demonstration's image with short words runs as the other" short_image
 check "the demonstration's image is listed and assembled again" round_trip
