@@ -38,8 +38,14 @@ fn wanted(when: When, terminal: bool) -> bool {
     match when {
         When::Always => true,
         When::Never => false,
-        When::Auto => terminal && !plain("NO_COLOR") && env::var_os("TERM") != Some("dumb".into()),
+        When::Auto => terminal && !plain("NO_COLOR") && obeys(),
     }
+}
+
+/// Whether a terminal obeys orders: it says which it is, and that it is none that does not.
+pub fn obeys() -> bool {
+    let name = env::var_os("TERM");
+    name.is_some_and(|name| !name.is_empty() && name != "dumb")
 }
 
 fn asked() -> When {

@@ -8,6 +8,7 @@ use crate::names::Name;
 use crate::probe::value::stored;
 use crate::proved::sheets::{self, Record};
 use crate::sheet::Bad;
+use crate::visible;
 use lent::{State, GRANULE};
 use lines::Lines;
 use std::path::Path;
@@ -77,10 +78,10 @@ pub fn read(path: &Path, bytes: &[u8], format: Format, start: u32) -> Result<Ima
         Format::Labelled => payload(bytes),
         format => plain(bytes, format, start),
     };
-    let mut image = image.map_err(|reason| format!("{}: {reason}", path.display()))?;
+    let mut image = image.map_err(|reason| format!("{}: {reason}", visible::name(path)))?;
     let own = image.segments.iter_mut().map(|segment| &mut segment.origin);
     for said in own.chain(&mut image.notes) {
-        *said = format!("{}: {said}", path.display());
+        *said = format!("{}: {said}", visible::name(path));
     }
     Ok(image)
 }

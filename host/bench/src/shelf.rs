@@ -17,6 +17,7 @@ use crate::file;
 use crate::page::digest;
 use crate::proved::engine::Engine;
 use crate::reach::Never;
+use crate::visible;
 use std::ffi::{OsStr, OsString};
 use std::fs;
 use std::path::{Path, PathBuf};
@@ -42,7 +43,7 @@ impl Shelf {
     /// The names of the images: the folder's regular files, but for those that belong to the board, by the order of
     /// their bytes.
     pub fn names(&self) -> Result<Vec<OsString>, String> {
-        let told = |error| format!("{}: {}", self.folder.display(), file::why(&error));
+        let told = |error| format!("{}: {}", visible::name(&self.folder), file::why(&error));
         let own = self.with.iter().map(|(path, _)| path);
         let own = own.chain([&self.board_name]);
         let own: Vec<PathBuf> = own.filter_map(|path| path.canonicalize().ok()).collect();
@@ -118,7 +119,7 @@ fn write_page(path: &Path, page: &str) -> Result<(), String> {
     let mut beside = path.as_os_str().to_owned();
     beside.push(".part");
     let written = fs::write(&beside, page).and_then(|()| fs::rename(&beside, path));
-    written.map_err(|error| format!("{}: {}", path.display(), file::why(&error)))
+    written.map_err(|error| format!("{}: {}", visible::name(path), file::why(&error)))
 }
 
 #[cfg(test)]

@@ -6,7 +6,7 @@ use crate::image::{self, Segment, DEFAULT_START};
 use crate::listing::Part;
 use crate::proved::{self, Refused};
 use crate::save::Place;
-use crate::{file, json, report, Status};
+use crate::{file, json, report, visible, Status};
 
 /// The most letters of a bad line that are shown.
 const MOST_SHOWN: usize = 80;
@@ -47,7 +47,7 @@ pub fn assemble(asked: &Assemble) -> Result<Status, String> {
     let code = match proved::assemble(&text) {
         Ok(code) => code,
         Err(refusal) => {
-            let (name, reason) = (asked.text.display(), bad_line(&text, refusal));
+            let (name, reason) = (visible::name(&asked.text), bad_line(&text, refusal));
             return refused_by(refusal.number, &format!("{name}: {reason}"), false);
         }
     };

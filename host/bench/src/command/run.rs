@@ -21,8 +21,10 @@ use crate::save::Place;
 use crate::sheet::Sheet;
 use crate::stack::Stack;
 use crate::trial::Trial;
-use crate::{colour, complain, file, json, report, revoke, state_file, trace, Status};
-use indicatif::{ProgressBar, ProgressStyle};
+use crate::{
+    colour, complain, file, json, progress, report, revoke, state_file, trace, visible, Status,
+};
+use indicatif::ProgressBar;
 use lent::{State, Window, COMPARE, TIME};
 use std::io::Write;
 use std::path::{Path, PathBuf};
@@ -256,7 +258,7 @@ pub fn ran_page(
 /// The place of the page: no file that is read, nor the one that is saved to.
 fn page_place(path: &Path, asked: &Run) -> Result<Place, String> {
     if asked.save.as_deref() == Some(path) {
-        let name = path.display();
+        let name = visible::name(path);
         return Err(format!("{name}: the state is saved there"));
     }
     let read = asked.images.iter().chain(&asked.map).chain(&asked.state);
@@ -293,7 +295,7 @@ pub fn fits<'a>(board: Option<&'a Board>, images: &'a [Labelled]) -> Vec<Beside<
 pub fn labels_told(asked: &Run, labelled: &[Labelled], fits: &[Beside]) -> String {
     let Some(board) = &asked.map else {
         let unchecked = |image: &Labelled| {
-            let file = image.path.display();
+            let file = visible::name(image.path);
             format!("{file} has a map sheet; without a board's (--map) nothing was checked.\n")
         };
         return labelled.iter().map(unchecked).collect();
@@ -430,7 +432,7 @@ fn drive(
     last: Option<&mut Last>,
     (look, trial): (&mut Look, &Trial),
 ) -> Result<(Outcome, Option<Said>), Refused> {
-    let bar = progress(asked);
+    let bar = bar_of(asked);
     let mut watch = watch(asked, &bar, last);
     let show = |text: &str| match asked.json {
         true => (),
@@ -475,15 +477,12 @@ fn watch<'a>(
     }
 }
 
-/// A bar on standard error for long runs; it draws nothing where that is no terminal.
-fn progress(asked: &Run) -> ProgressBar {
+/// The bar of a long run.
+fn bar_of(asked: &Run) -> ProgressBar {
     if asked.trace || asked.terms.steps <= MOST_STEPS {
         return ProgressBar::hidden();
     }
-    let form = "{elapsed_precise} {wide_bar} {human_pos} of {human_len} steps, {eta} left";
-    let style = ProgressStyle::with_template(form);
-    let style = style.unwrap_or_else(|_| ProgressStyle::default_bar());
-    ProgressBar::new(asked.terms.steps).with_style(style)
+    progress::bar(asked.terms.steps, "steps")
 }
 
 /// A line of the trace, and whether it was written: whoever closes the output does not want the

@@ -5,7 +5,7 @@ use crate::arguments::{SheetCheck, SheetCommand, SheetCompare};
 use crate::capability_text::count;
 use crate::proved::sheets::{differing, Record, Which, BAD, SECOND_BAD};
 use crate::sheet::{self, letters, Bad, Sheet};
-use crate::{file, json, Status};
+use crate::{file, json, visible, Status};
 use std::path::Path;
 
 pub fn obey(command: &SheetCommand) -> Result<Status, String> {
@@ -38,7 +38,7 @@ fn checked(asked: &SheetCheck) -> Result<Status, String> {
 /// What is said of a good sheet: how many regions, and each of them.
 fn good(path: &Path, sheet: &Sheet) -> String {
     let regions = count(sheet.regions.len() as u64, "region");
-    let mut text = format!("{}: a good sheet, {regions}\n\n", path.display());
+    let mut text = format!("{}: a good sheet, {regions}\n\n", visible::name(path));
     for region in &sheet.regions {
         let bytes = count(region.length.into(), "byte");
         text.push_str(&format!(
@@ -91,7 +91,7 @@ fn find<'a>(sheet: &'a Sheet, name: &str) -> Option<&'a Record> {
 
 /// What is said of two good sheets: each name that differs, with what the one and the other has.
 fn difference(asked: &SheetCompare, pairs: &[Pair]) -> String {
-    let (first, second) = (asked.first.display(), asked.second.display());
+    let (first, second) = (visible::name(&asked.first), visible::name(&asked.second));
     if pairs.is_empty() {
         return format!("{first} and {second} have the same regions.\n");
     }

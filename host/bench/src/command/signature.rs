@@ -5,6 +5,7 @@ use super::run::Ready;
 use crate::arguments::{self, Run};
 use crate::save::Place;
 use crate::trial::inside;
+use crate::visible;
 use lent::State;
 use std::path::{Path, PathBuf};
 
@@ -53,7 +54,7 @@ impl Asked {
 fn place(path: &Path, asked: &Run) -> Result<Place, String> {
     let others = [&asked.save, &asked.report].into_iter().flatten();
     if others.into_iter().any(|other| other == path) {
-        return Err(format!("{}: it is written otherwise", path.display()));
+        return Err(format!("{}: it is written otherwise", visible::name(path)));
     }
     let read = asked.images.iter().chain(&asked.map).chain(&asked.state);
     let read: Vec<&Path> = read.map(PathBuf::as_path).collect();

@@ -17,7 +17,7 @@ use crate::proved::Counts;
 use crate::reach::{self, rows};
 use crate::sheet::Bad;
 use crate::trial::Trial;
-use crate::{handover, report, verdict};
+use crate::{handover, report, verdict, visible};
 use lent::State;
 use std::panic::{catch_unwind, AssertUnwindSafe};
 use std::path::{Path, PathBuf};
@@ -172,7 +172,7 @@ impl Image<'_> {
     /// What is said of the image, which does not name it again.
     fn unnamed(&self, said: String) -> String {
         let own = [self.shelf.folder.join(self.name), self.name.into()];
-        let own = own.map(|path| format!("{}: ", path.display()));
+        let own = own.map(|path| format!("{}: ", visible::name(&path)));
         let short = own.iter().find_map(|own| said.strip_prefix(own));
         short.map(str::to_string).unwrap_or(said)
     }

@@ -5,7 +5,7 @@ use super::{page_name, Results, Shelf};
 use crate::capability_text::{count, grouped};
 use crate::page::{filled, Source};
 use crate::verdict::Verdict;
-use crate::visible::{shortened, visible};
+use crate::visible::{self, quoted, shortened};
 use crate::Status;
 use serde_json::{json, Value};
 use std::io::{Error, Write};
@@ -176,7 +176,7 @@ fn why(row: &Row) -> String {
 
 /// The table for people.
 pub fn text(out: &mut impl Write, results: &Results) -> Result<(), Error> {
-    let letters = results.rows().map(|row| visible(&row.file).chars().count());
+    let letters = results.rows().map(|row| quoted(&row.file).chars().count());
     let width = letters.max().unwrap_or(0).clamp(5, MOST_LETTERS);
     let counted = Counted::of(results);
     // A column of its own where a handover was asked for.
@@ -196,7 +196,7 @@ pub fn text(out: &mut impl Write, results: &Results) -> Result<(), Error> {
     )?;
     for row in results.rows() {
         let (file, steps) = (
-            visible(&row.file),
+            quoted(&row.file),
             row.retired.map_or(String::new(), grouped),
         );
         let line = format!(
@@ -205,7 +205,7 @@ pub fn text(out: &mut impl Write, results: &Results) -> Result<(), Error> {
             run(&row),
             stack(&row),
             column(&may_write(&row)),
-            visible(&why(&row)),
+            visible::said(&why(&row).replace('\n', "\\n")),
         );
         writeln!(out, "{}", line.trim_end())?;
     }
@@ -226,7 +226,8 @@ pub fn json(out: &mut impl Write, results: &Results) -> Result<(), Error> {
     write!(out, "{{\n  \"rows\": [")?;
     for (place, row) in results.rows().enumerate() {
         let comma = if place == 0 { "" } else { "," };
-        write!(out, "{comma}\n    {}", serde_json::to_string(&row)?)?;
+        let row = serde_json::to_string(&row)?;
+        write!(out, "{comma}\n    {}", visible::json(&row))?;
     }
     let counted = Counted::of(results);
     let counts = json!({
@@ -264,8 +265,8 @@ pub fn page(out: &mut impl Write, results: &Results, shelf: &Shelf) -> Result<()
     let counted = Counted::of(results);
     let judged = counted.judged > 0;
     let (kind, said) = counted.verdict();
-    let folder = shortened(&shelf.folder.display().to_string());
-    let board = shortened(&shelf.board_name.display().to_string());
+    let folder = shortened(&visible::plain_name(&shelf.folder));
+    let board = shortened(&visible::plain_name(&shelf.board_name));
     let title = format!("{folder} on {board}");
     let head = json!({
         "title": title, "kind": kind, "head": said, "summary": counted.said(),
