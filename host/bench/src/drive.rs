@@ -66,8 +66,23 @@ pub struct Outcome {
     pub record: Watch,
 }
 
-/// What is asked of a run, and who is shown each call's counts, with the states before and after
-/// it, and answers whether the run is still wanted.
+/// Who is shown a run, call by call. No state is copied for it.
+pub trait Watcher {
+    /// The state before a call.
+    fn before(&mut self, _state: &State) {}
+
+    /// The state after it and its counts; the answer is whether the run is still wanted.
+    fn after(&mut self, _state: &State, _made: Counts) -> bool {
+        true
+    }
+}
+
+/// Nobody is shown anything.
+pub struct Nobody;
+
+impl Watcher for Nobody {}
+
+/// What is asked of a run, and who is shown its calls.
 pub struct Plan<'a> {
     pub steps: u64,
     pub through_traps: bool,
@@ -85,12 +100,12 @@ pub struct Plan<'a> {
     pub cover: Option<&'a mut Cover>,
     /// Who is told of each store into a range of the record, as it comes, by the state after it.
     pub stored: Option<&'a mut dyn FnMut(&State)>,
-    pub watch: &'a mut dyn FnMut(&State, &State, Counts) -> bool,
+    pub watch: &'a mut dyn Watcher,
 }
 
 impl<'a> Plan<'a> {
     /// A run of so many steps at most, to the first trap, with someone who is shown its calls.
-    pub fn new(steps: u64, watch: &'a mut dyn FnMut(&State, &State, Counts) -> bool) -> Plan<'a> {
+    pub fn new(steps: u64, watch: &'a mut dyn Watcher) -> Plan<'a> {
         Plan {
             steps,
             through_traps: false,
@@ -148,7 +163,7 @@ fn follow(course: &mut Course, mut plan: Plan, done: &mut Outcome) -> Result<(),
     plan.breaks.extend(&plan.exits);
     let (mut call, mut looked, mut wanted) = (1, false, true);
     while wanted && done.end == End::Steps && done.counts.steps() < plan.steps {
-        let before = course.state().clone();
+        plan.watch.before(course.state());
         let looks = plan.looks(course);
         // Calls grow anew where steps are no longer looked at.
         call = if looked && !looks { 1 } else { call };
@@ -165,7 +180,7 @@ fn follow(course: &mut Course, mut plan: Plan, done: &mut Outcome) -> Result<(),
         made += more;
         done.counts += more;
         done.end = end;
-        wanted = made.steps() == 0 || (plan.watch)(&before, course.state(), made);
+        wanted = made.steps() == 0 || plan.watch.after(course.state(), made);
         if done.end == End::Steps {
             pause(course, &plan, done)?;
         }

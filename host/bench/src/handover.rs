@@ -1,7 +1,7 @@
 //! The handover from a board's own start to an image: a run up to where PCC first is at an address.
 
 use crate::capability_text::count;
-use crate::drive::{self, End, Outcome, Plan};
+use crate::drive::{self, End, Nobody, Outcome, Plan};
 use crate::report;
 use lent::{State, PCC};
 use std::collections::BTreeSet;
@@ -11,10 +11,10 @@ pub fn arrive(state: &mut State, at: u32, steps: u64) -> Result<u64, String> {
     if is_at(state, at) {
         return Ok(0);
     }
-    let mut watch = |_: &State, _: &State, _| true;
+    let mut nobody = Nobody;
     let plan = Plan {
         breaks: BTreeSet::from([at]),
-        ..Plan::new(steps, &mut watch)
+        ..Plan::new(steps, &mut nobody)
     };
     let run = drive::run(state, plan);
     let outcome = run.map_err(|refused| report::refused_on_the_way(refused, state))?;

@@ -6,7 +6,7 @@ use super::{read_state, refused_on_the_way, refused_state, say, say_bytes, say_j
 use crate::account::Account;
 use crate::arguments::Run;
 use crate::console::{Console, Said};
-use crate::drive::{self, Outcome, Plan, Refused};
+use crate::drive::{self, Outcome, Plan, Refused, Watcher};
 use crate::edition::Edition;
 use crate::image::lines::Lines;
 use crate::image::{self, Image, Segment, DEFAULT_START};
@@ -20,10 +20,9 @@ use crate::proved::{self, Counts, Refusal, MOST_STEPS};
 use crate::save::Place;
 use crate::sheet::Sheet;
 use crate::stack::Stack;
+use crate::trace::{self, Before};
 use crate::trial::Trial;
-use crate::{
-    colour, complain, file, json, progress, report, revoke, state_file, trace, visible, Status,
-};
+use crate::{colour, complain, file, json, progress, report, revoke, state_file, visible, Status};
 use indicatif::ProgressBar;
 use lent::{State, Window, COMPARE, TIME};
 use std::io::Write;
@@ -433,7 +432,13 @@ fn drive(
     (look, trial): (&mut Look, &Trial),
 ) -> Result<(Outcome, Option<Said>), Refused> {
     let bar = bar_of(asked);
-    let mut watch = watch(asked, &bar, last);
+    let mut watch = Shown {
+        asked,
+        bar: &bar,
+        last,
+        number: 0,
+        before: None,
+    };
     let show = |text: &str| match asked.json {
         true => (),
         false => bar.suspend(|| say_bytes(text.as_bytes()).unwrap_or(())),
@@ -457,23 +462,30 @@ fn drive(
 }
 
 /// Who is shown each call of a run, keeps states on the way and shows a line a step, or how far it has come.
-fn watch<'a>(
+struct Shown<'a> {
     asked: &'a Run,
     bar: &'a ProgressBar,
-    mut last: Option<&'a mut Last>,
-) -> impl FnMut(&State, &State, Counts) -> bool + 'a {
-    let mut number = 0;
-    move |before, after, made| {
-        if let Some(last) = &mut last {
-            last.see(number, before);
+    last: Option<&'a mut Last>,
+    number: u64,
+    before: Option<Before>,
+}
+
+impl Watcher for Shown<'_> {
+    fn before(&mut self, state: &State) {
+        if let Some(last) = &mut self.last {
+            last.see(self.number, state);
         }
-        number += made.steps();
-        if asked.trace {
-            let line = trace::line(number, before, after, made);
-            return tell(asked.json, &line) || asked.save.is_some();
-        }
-        bar.set_position(number);
-        true
+        self.before = self.asked.trace.then(|| Before::of(state));
+    }
+
+    fn after(&mut self, state: &State, made: Counts) -> bool {
+        self.number += made.steps();
+        self.bar.set_position(self.number);
+        let Some(before) = self.before.take() else {
+            return true;
+        };
+        let line = trace::line(self.number, &before, state, made);
+        tell(self.asked.json, &line) || self.asked.save.is_some()
     }
 }
 

@@ -10,10 +10,9 @@ use crate::command::run::{ran_page, ready, Halt, Ready};
 use crate::console::Console;
 use crate::drive::{self, Outcome, Plan, Refused};
 use crate::image;
-use crate::last::Last;
+use crate::last::{Last, Seen};
 use crate::page::{self, Answer, Source, Subject, LAST};
 use crate::payload::Outside;
-use crate::proved::Counts;
 use crate::reach::{self, rows};
 use crate::sheet::Bad;
 use crate::trial::Trial;
@@ -233,12 +232,7 @@ fn tried(
     trial: &Trial,
     last: &mut Last,
 ) -> Result<(Outcome, verdict::Judged), Refused> {
-    let mut made = 0;
-    let mut watch = |before: &State, _: &State, counts: Counts| {
-        last.see(made, before);
-        made += counts.steps();
-        true
-    };
+    let mut watch = Seen { last, made: 0 };
     let mut console = trial.console.map(|address| Console::new(address, &|_| ()));
     let mut hear = console
         .as_mut()
