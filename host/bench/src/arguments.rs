@@ -255,6 +255,13 @@ pub struct List {
     /// The address of raw bytes [default: 0x20000000]
     #[arg(long, value_parser = word)]
     pub start: Option<u32>,
+    /// List this part, whatever it holds: by the number of its program header in ELF, by its order from 0 in Intel HEX; may be
+    /// given again [default: what may be executed]
+    #[arg(long, value_name = "NUMBER", value_parser = number)]
+    pub segment: Vec<u64>,
+    /// List these addresses alone, from START on
+    #[arg(long, value_names = ["START", "LENGTH"], num_args = 2, value_parser = word, action = ArgAction::Set)]
+    pub range: Option<Vec<u32>>,
     /// Write the listing alone, in the form that assembles
     #[arg(long, conflicts_with = "json")]
     pub plain: bool,

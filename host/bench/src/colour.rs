@@ -52,9 +52,14 @@ fn asked() -> When {
     ASKED.get().copied().unwrap_or_default()
 }
 
+/// Whether what goes to standard output is painted.
+pub fn paints() -> bool {
+    wanted(asked(), io::stdout().is_terminal())
+}
+
 /// What goes to standard output.
 pub fn output(text: &str) -> Cow<'_, str> {
-    painted_where(wanted(asked(), io::stdout().is_terminal()), text)
+    painted_where(paints(), text)
 }
 
 /// What goes to standard error.

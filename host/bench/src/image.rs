@@ -3,10 +3,11 @@
 mod elf;
 mod hex;
 pub mod lines;
+pub mod parts;
 
 use crate::names::Name;
 use crate::probe::value::stored;
-use crate::proved::sheets::{self, Record};
+use crate::proved::sheets::{self, Label, Record};
 use crate::sheet::Bad;
 use crate::visible;
 use lent::{State, GRANULE};
@@ -73,7 +74,7 @@ pub struct Image {
 /// The image of a file's bytes; raw bytes go to `start`.
 pub fn read(path: &Path, bytes: &[u8], format: Format, start: u32) -> Result<Image, String> {
     let image = match detected(format, bytes) {
-        _ if bytes.is_empty() => Err("the file is empty".into()),
+        _ if bytes.is_empty() => Err(EMPTY.into()),
         Format::Auto if is_text(bytes) => Err(TEXT.into()),
         Format::Labelled => payload(bytes),
         format => plain(bytes, format, start),
@@ -86,6 +87,8 @@ pub fn read(path: &Path, bytes: &[u8], format: Format, start: u32) -> Result<Ima
     Ok(image)
 }
 
+/// What is said of a file without a byte.
+const EMPTY: &str = "the file is empty";
 /// What is said of a file that no code would be.
 const TEXT: &str =
     "it is text, and no Intel HEX or labelled image; --format raw takes it as code nevertheless";
@@ -110,12 +113,17 @@ fn detected(format: Format, bytes: &[u8]) -> Format {
     }
 }
 
-/// The image in the payload after a map sheet.
-fn payload(bytes: &[u8]) -> Result<Image, String> {
-    let label = sheets::label(bytes).map_err(|line| {
+/// The label of an image, or its bad line.
+fn label_of(bytes: &[u8]) -> Result<Label, String> {
+    sheets::label(bytes).map_err(|line| {
         let Bad { line, reason } = Bad::of_image(bytes, line);
         format!("line {line}: {reason}")
-    })?;
+    })
+}
+
+/// The image in the payload after a map sheet.
+fn payload(bytes: &[u8]) -> Result<Image, String> {
+    let label = label_of(bytes)?;
     let start = label.regions.first().map_or(0, |region| region.start);
     let bytes = &bytes[label.payload..];
     let image = match detected(Format::Auto, bytes) {
@@ -138,9 +146,7 @@ fn plain(bytes: &[u8], format: Format, start: u32) -> Result<Image, String> {
 }
 
 fn raw(bytes: Vec<u8>, address: u32) -> Result<Image, String> {
-    if u64::from(address) + bytes.len() as u64 > 1 << 32 {
-        return Err("the bytes end past 2^32".into());
-    }
+    ends_in_space(address, bytes.len() as u64)?;
     let segment = Segment {
         address,
         bytes,
@@ -151,6 +157,14 @@ fn raw(bytes: Vec<u8>, address: u32) -> Result<Image, String> {
         segments: vec![segment],
         ..Image::default()
     })
+}
+
+/// That so many bytes at an address end at 2^32 at most.
+fn ends_in_space(address: u32, length: u64) -> Result<(), String> {
+    match u64::from(address) + length > 1 << 32 {
+        true => Err("the bytes end past 2^32".into()),
+        false => Ok(()),
+    }
 }
 
 /// Puts segments into a state's memory and clears the tags of the granules they touch. Nothing is

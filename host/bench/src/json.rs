@@ -6,7 +6,6 @@ use crate::command::fit::{Beside, Chosen};
 use crate::command::sheet::Pair;
 use crate::drive::{End, Outcome, Refused, Swept};
 use crate::edition;
-use crate::listing::Part;
 use crate::memory_rows::rows;
 use crate::names::Names;
 use crate::payload::Outside;
@@ -121,27 +120,6 @@ pub fn refused_on_the_way(refused: Refused, state: &State) -> Value {
     value["refused"]["retired"] = refused.made.retired.into();
     value["refused"]["trapped"] = refused.made.trapped.into();
     value
-}
-
-/// The parts of an image with their words.
-pub fn listing(parts: &[Part]) -> Value {
-    let parts = parts.iter().map(|part| {
-        let words = part.lines().into_iter().map(|line| {
-            json!({
-                "address": line.address,
-                "word": line.word,
-                "length": line.length,
-                "instruction": line.instruction,
-            })
-        });
-        json!({
-            "origin": part.segment.origin,
-            "address": part.segment.address,
-            "words": words.collect::<Vec<Value>>(),
-            "zeros": part.segment.zeros,
-        })
-    });
-    json!({ "parts": parts.collect::<Vec<Value>>() })
 }
 
 /// A bad sheet.

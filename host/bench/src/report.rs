@@ -1,4 +1,4 @@
-//! What a run or a saved state comes to, for a person: counts, the trap, the registers; and an image's listing.
+//! What a run or a saved state comes to, for a person: counts, the trap, the registers.
 
 use crate::account::Account;
 use crate::capability_text::{count, grouped, is_integer, length, region};
@@ -6,7 +6,6 @@ use crate::capability_text::{revocation_words, rights, type_words};
 use crate::console::Said;
 use crate::drive::{End, Outcome, Refused, Swept};
 use crate::edition;
-use crate::listing::Part;
 use crate::memory_rows::{rows, Row, ROW};
 use crate::names::Names;
 use crate::probe;
@@ -432,26 +431,6 @@ pub fn control_lines(state: &State) -> Vec<String> {
         lines.push(format!("edition {}", edition::name(state.edition)));
     }
     lines
-}
-
-/// The parts of an image, one after the other: where each lies, its words, and how many zeros follow.
-pub fn listing(parts: &[Part]) -> String {
-    let texts: Vec<String> = parts.iter().map(part_listing).collect();
-    texts.join("\n")
-}
-
-fn part_listing(part: &Part) -> String {
-    let segment = part.segment;
-    let mut text = format!("{} at {}\n", segment.origin, segment.shown());
-    for line in part.lines() {
-        let (word, said) = (digits(line.word), &line.instruction);
-        let _ = writeln!(text, "  {:08x}  {word:<8}  {said}", line.address);
-    }
-    if segment.zeros > 0 {
-        let zeros = count(segment.zeros, "byte");
-        let _ = writeln!(text, "  then {zeros} of zeros, which are not in the file");
-    }
-    text
 }
 
 #[cfg(test)]
