@@ -107,7 +107,7 @@ pub struct Run {
     /// Stop after the first step that traps (the default)
     #[arg(long, conflicts_with = "through_traps")]
     pub until_trap: bool,
-    /// Stop before a step at a number, a symbol of the image or a FILE:LINE of its source; the first
+    /// Stop before a step at a number, a symbol of the image or a FILE:LINE of its source; from a saved state the first
     /// step is made nevertheless. May be given again
     #[arg(long = "break", value_name = "WHERE")]
     pub breaks: Vec<String>,

@@ -100,10 +100,17 @@ pub struct Said {
 }
 
 impl Said {
-    /// Its text, without orders to a terminal, and at most so many bytes of it.
+    /// Its text, without orders to a terminal: at most so many bytes of it, and how many more there are.
     pub fn text(&self, most: usize) -> String {
-        let bytes = &self.bytes[..self.bytes.len().min(most)];
-        lines(&String::from_utf8_lossy(bytes))
+        let begins = |at: &usize| self.bytes.get(*at).is_none_or(|byte| byte & 0xC0 != 0x80);
+        // No letter is cut through.
+        let end = (0..=self.bytes.len().min(most)).rev().find(begins);
+        let end = end.unwrap_or(0);
+        let text = lines(&String::from_utf8_lossy(&self.bytes[..end]));
+        match self.said - end as u64 {
+            0 => text,
+            more => format!("{text}.. ({} more)", count(more, "byte")),
+        }
     }
 
     /// How much was said, for a report.
@@ -114,7 +121,8 @@ impl Said {
 
     pub fn json(&self) -> Value {
         let text = String::from_utf8_lossy(&self.bytes);
-        json!({ "address": self.address, "bytes": self.said, "text": text })
+        let kept = self.bytes.len();
+        json!({ "address": self.address, "bytes": self.said, "kept": kept, "text": text })
     }
 }
 
@@ -141,7 +149,14 @@ mod tests {
         let (shown, said) = heard("aé\n".as_bytes());
         assert_eq!(shown, ["a", "é", "\n"]);
         assert_eq!(said.line(), "Console: 4 bytes stored to 00000004.\n");
-        assert_eq!((said.text(9), said.text(1)), ("aé\n".into(), "a".into()));
+        assert_eq!(said.text(9), "aé\n");
+        for (most, shown) in [(0, ".. (4 bytes more)"), (1, "a.. (3 bytes more)")] {
+            assert_eq!((said.text(most), most), (shown.into(), most));
+        }
+        assert_eq!(
+            (said.text(2), said.text(3)),
+            ("a.. (3 bytes more)".into(), "aé.. (1 byte more)".into())
+        );
         assert_eq!(heard(b"a").0, ["a", "\n"]);
         assert_eq!(heard(b"").0, Vec::<String>::new());
     }

@@ -10,6 +10,7 @@ use crate::halt::{by_calls, by_steps, bytes_at, is_still, is_stuck, Halt, Pace, 
 use crate::probe;
 use crate::proved::{Counts, Refusal, MOST_STEPS};
 use crate::sweep;
+use crate::trap::Trap;
 use lent::{State, Watch, COMPARE, PCC};
 use std::collections::BTreeSet;
 
@@ -29,7 +30,7 @@ pub enum End {
     Still,
     /// The same, but the timer is set: it interrupts the program after so many steps, which are more than were left.
     Waits(u64),
-    /// The same after a trap, and where traps go: nothing handles them.
+    /// The same after a trap, of this run or one that its start records, and where traps go: nothing handles them.
     Unhandled,
     /// The same, but an end was named, and this is not it.
     Astray,
@@ -92,8 +93,10 @@ pub struct Plan<'a> {
     pub sweep: Option<u64>,
     /// The watch record at the start.
     pub record: Watch,
-    /// Where the run stops before a step, but for its first.
+    /// Where the run stops before a step.
     pub breaks: BTreeSet<u32>,
+    /// Whether the first step is made though it is there.
+    pub leaves: bool,
     /// Where the program has ended.
     pub exits: BTreeSet<u32>,
     /// What is told of each word that retires.
@@ -113,6 +116,7 @@ impl<'a> Plan<'a> {
             sweep: None,
             record: Watch::default(),
             breaks: BTreeSet::new(),
+            leaves: true,
             exits: BTreeSet::new(),
             cover: None,
             stored: None,
@@ -157,8 +161,11 @@ pub fn run(state: &mut State, plan: Plan) -> Result<Outcome, Refused> {
 
 fn follow(course: &mut Course, mut plan: Plan, done: &mut Outcome) -> Result<(), Refusal> {
     course.may_start()?;
-    if plan.exits.contains(&course.state().capability(PCC).address) {
+    let at = course.state().capability(PCC).address;
+    if plan.exits.contains(&at) {
         done.end = End::Exit;
+    } else if plan.breaks.contains(&at) && !plan.leaves {
+        done.end = End::Break;
     }
     plan.breaks.extend(&plan.exits);
     let (mut call, mut looked, mut wanted) = (1, false, true);
@@ -193,6 +200,11 @@ fn follow(course: &mut Course, mut plan: Plan, done: &mut Outcome) -> Result<(),
     Ok(())
 }
 
+/// Whether a run trapped, or the one before it that left its start.
+fn has_trapped(state: &State, made: Counts) -> bool {
+    made.trapped > 0 || Trap::recorded(state).is_some()
+}
+
 /// What it means that a program jumps to itself, after so many steps.
 fn standing(state: &State, exits: &BTreeSet<u32>, made: Counts) -> End {
     let at = state.capability(PCC).address;
@@ -200,7 +212,7 @@ fn standing(state: &State, exits: &BTreeSet<u32>, made: Counts) -> End {
     let set = state.long(COMPARE) != u64::MAX;
     match set.then(|| probe::steps_to_interrupt(state)).flatten() {
         _ if exits.contains(&at) => End::Exit,
-        _ if made.trapped > 0 && at == probe::handler(state) => End::Unhandled,
+        _ if has_trapped(state, made) && at == probe::handler(state) => End::Unhandled,
         Some(steps) => End::Waits(steps),
         None if exits.is_empty() => End::Still,
         None => End::Astray,

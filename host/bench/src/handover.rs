@@ -8,13 +8,17 @@ use std::collections::BTreeSet;
 
 /// Runs to the handover, by at most so many steps: how many were made, or why it is not reached.
 pub fn arrive(state: &mut State, at: u32, steps: u64) -> Result<u64, String> {
+    arrive_by(state, at, Plan::new(steps, &mut Nobody))
+}
+
+/// The same by a plan: through traps or to the first, with sweeps or without.
+pub fn arrive_by(state: &mut State, at: u32, plan: Plan) -> Result<u64, String> {
     if is_at(state, at) {
         return Ok(0);
     }
-    let mut nobody = Nobody;
     let plan = Plan {
         breaks: BTreeSet::from([at]),
-        ..Plan::new(steps, &mut nobody)
+        ..plan
     };
     let run = drive::run(state, plan);
     let outcome = run.map_err(|refused| report::refused_on_the_way(refused, state))?;

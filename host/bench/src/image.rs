@@ -52,6 +52,12 @@ impl Segment {
         (self.address.into(), self.end())
     }
 
+    /// Whether a byte of the file lies at an address.
+    pub fn holds(&self, address: u32) -> bool {
+        let offset = address.checked_sub(self.address);
+        offset.is_some_and(|offset| (offset as usize) < self.bytes.len())
+    }
+
     pub fn shown(&self) -> String {
         format!("[{:08x}, {:08x})", self.address, self.end())
     }
@@ -67,7 +73,7 @@ pub struct Image {
     pub lines: Lines,
     /// The regions of its label, where it has one.
     pub label: Option<Vec<Record>>,
-    /// What its header says of another core.
+    /// What its header says of another core, or has lost.
     pub notes: Vec<String>,
 }
 

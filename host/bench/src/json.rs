@@ -114,6 +114,11 @@ pub fn refused_state(refusal: Refusal, state: &State) -> Value {
     value
 }
 
+/// A handover that is not reached, and why; document 01 has no number for it.
+pub fn not_reached(reason: &str) -> Value {
+    json!({ "refused": { "number": null, "reason": reason } })
+}
+
 /// A run that was refused on its way: the same, with the steps that were made.
 pub fn refused_on_the_way(refused: Refused, state: &State) -> Value {
     let mut value = refused_state(refused.refusal, state);
@@ -128,9 +133,10 @@ pub fn refused_sheet(number: u64, path: &Path, bad: &Bad) -> Value {
     json!({ "refused": { "number": number, "file": file, "line": line, "reason": reason } })
 }
 
-/// A good sheet.
-pub fn sheet(regions: &[Record]) -> Value {
-    json!({ "regions": regions.iter().map(record).collect::<Vec<Value>>() })
+/// A good sheet, and why no run takes it as its board, if none does.
+pub fn sheet(regions: &[Record], refused: Option<&str>) -> Value {
+    let regions: Vec<Value> = regions.iter().map(record).collect();
+    json!({ "regions": regions, "refused_as_board": refused })
 }
 
 /// The names in which two sheets differ.

@@ -25,6 +25,7 @@ use crate::trial::Trial;
 use crate::{colour, complain, file, json, progress, report, revoke, state_file, visible, Status};
 use indicatif::ProgressBar;
 use lent::{State, Window, COMPARE, TIME};
+use std::cell::RefCell;
 use std::io::Write;
 use std::path::{Path, PathBuf};
 
@@ -45,6 +46,7 @@ pub fn run(asked: Run) -> Result<Status, String> {
             Err(Halt::Bad(reason)) => return Err(reason),
             Ok(ready) => ready,
         };
+        ready.notes.iter().for_each(|note| complain(note));
         let look = Look::of(&asked, &ready)?;
         let map = task.board.map(|board| &board.sheet);
         let trial = Trial::of(&asked.terms, &ready, map)?;
@@ -56,7 +58,6 @@ pub fn run(asked: Run) -> Result<Status, String> {
         } else {
             say(&labels_told(&asked, labelled, task.fits))
         };
-        ready.notes.iter().for_each(|note| complain(note));
         let status = task.carry_out(ready, look, &trial, (place, signature))?;
         told.map(|()| status)
     })
@@ -210,7 +211,7 @@ pub struct Ready {
     pub stack: Option<Stack>,
     pub labels: Vec<(String, u32)>,
     pub lines: Lines,
-    /// What the images' headers say of another core.
+    /// What is odd about the images: headers of another core, lost symbols, a start where nothing is.
     pub notes: Vec<String>,
 }
 
@@ -355,6 +356,10 @@ fn start(asked: &Run, files: &[&[u8]], map: Option<&Sheet>) -> Result<(State, Im
         let odd = "odd, and an instruction's address is even";
         return Err(format!("the image's start, {entry:08x}, is {odd}").into());
     }
+    if !images.segments.is_empty() && !images.segments.iter().any(|part| part.holds(entry)) {
+        let note = format!("the program starts at {entry:08x}, where nothing is loaded");
+        images.notes.push(note);
+    }
     let size = asked.size.unwrap_or(map_size).min(MOST_SIZE);
     let mut state = State::reset(start, vec![0; size as usize], entry);
     state.edition = asked.edition.unwrap_or(Edition::Report).number();
@@ -431,17 +436,20 @@ fn drive(
     last: Option<&mut Last>,
     (look, trial): (&mut Look, &Trial),
 ) -> Result<(Outcome, Option<Said>), Refused> {
-    let bar = bar_of(asked);
+    let (bar, heard) = (bar_of(asked), RefCell::default());
     let mut watch = Shown {
         asked,
         bar: &bar,
         last,
         number: 0,
         before: None,
+        heard: &heard,
     };
-    let show = |text: &str| match asked.json {
-        true => (),
-        false => bar.suspend(|| say_bytes(text.as_bytes()).unwrap_or(())),
+    // Between lines of a trace, letters wait until their line is whole.
+    let show = |text: &str| match (asked.json, asked.trace) {
+        (true, _) => (),
+        (_, true) => heard.borrow_mut().push_str(text),
+        _ => bar.suspend(|| say_bytes(text.as_bytes()).unwrap_or(())),
     };
     let mut console = trial.console.map(|address| Console::new(address, &show));
     let mut hear = console
@@ -451,6 +459,7 @@ fn drive(
         breaks: std::mem::take(&mut look.breaks),
         cover: look.cover.as_mut(),
         stored: hear.as_mut().map(|hear| hear as &mut dyn FnMut(&State)),
+        leaves: asked.state.is_some(),
         ..trial.plan(&mut watch)
     };
     if asked.trace {
@@ -458,7 +467,9 @@ fn drive(
     }
     let outcome = drive::run(&mut ready.state, plan);
     bar.finish_and_clear();
-    outcome.map(|outcome| (outcome, console.map(Console::said)))
+    let said = console.map(Console::said);
+    tell_heard(&heard);
+    outcome.map(|outcome| (outcome, said))
 }
 
 /// Who is shown each call of a run, keeps states on the way and shows a line a step, or how far it has come.
@@ -468,6 +479,8 @@ struct Shown<'a> {
     last: Option<&'a mut Last>,
     number: u64,
     before: Option<Before>,
+    /// What the program said that is not shown yet.
+    heard: &'a RefCell<String>,
 }
 
 impl Watcher for Shown<'_> {
@@ -485,7 +498,8 @@ impl Watcher for Shown<'_> {
             return true;
         };
         let line = trace::line(self.number, &before, state, made);
-        tell(self.asked.json, &line) || self.asked.save.is_some()
+        let told = tell(self.asked.json, &line) && tell_heard(self.heard);
+        told || self.asked.save.is_some()
     }
 }
 
@@ -495,6 +509,20 @@ fn bar_of(asked: &Run) -> ProgressBar {
         return ProgressBar::hidden();
     }
     progress::bar(asked.terms.steps, "steps")
+}
+
+/// The lines that a program has said whole, told apart from those of the trace, and whether they were written.
+fn tell_heard(heard: &RefCell<String>) -> bool {
+    let mut heard = heard.borrow_mut();
+    let whole = heard.rfind('\n').map_or(0, |end| end + 1);
+    let lines: Vec<String> = heard
+        .drain(..whole)
+        .as_str()
+        .lines()
+        .map(str::to_string)
+        .collect();
+    let mut lines = lines.iter();
+    lines.all(|line| tell(false, &format!("{:>8}  console   {line}", "")))
 }
 
 /// A line of the trace, and whether it was written: whoever closes the output does not want the

@@ -8,7 +8,7 @@ use crate::command::fit::{Beside, Labelled};
 use crate::command::look::even_place;
 use crate::command::run::{ran_page, ready, Halt, Ready};
 use crate::console::Console;
-use crate::drive::{self, Outcome, Plan, Refused};
+use crate::drive::{self, Nobody, Outcome, Plan, Refused};
 use crate::image;
 use crate::last::{Last, Seen};
 use crate::page::{self, Answer, Source, Subject, LAST};
@@ -156,7 +156,14 @@ impl Image<'_> {
         };
         let at = even_place("--handover", place, ready)?;
         let mut state = before.clone();
-        let steps = Some(handover::arrive(&mut state, at, self.shelf.terms.steps)?);
+        let terms = &self.shelf.terms;
+        let mut nobody = Nobody;
+        let plan = Plan {
+            through_traps: terms.through_traps,
+            sweep: terms.sweep,
+            ..Plan::new(terms.steps, &mut nobody)
+        };
+        let steps = Some(handover::arrive_by(&mut state, at, plan)?);
         let rows = rows(&state, &self.shelf.board.sheet);
         let rows = rows.map_err(|refusal| report::refused(refusal, &state))?;
         row.take_reach(&reach::Account {

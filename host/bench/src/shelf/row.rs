@@ -85,6 +85,24 @@ pub struct Row {
     pub kept: Option<Kept>,
 }
 
+/// What an image counts as on its shelf: the first of these that holds, so that every image is counted once.
+#[derive(Clone, Copy, PartialEq, Eq, Debug)]
+pub enum Kind {
+    Misfit,
+    /// It could not be judged or run.
+    Bad,
+    Breaks,
+    Trapped,
+    Wrong,
+    /// A run from the handover on could do what none may, or the handover is not reached.
+    Could,
+    Missed,
+    Running,
+    /// All is well, but that there is no label to be judged by.
+    Unlabelled,
+    Good,
+}
+
 /// The most bytes of what an image said.
 const MOST_SAID: usize = 1 << 10;
 
@@ -201,19 +219,23 @@ impl Row {
         self.why.push_str(why);
     }
 
-    /// Whether it fits by its label, its run is good, and it keeps to what was asked for.
-    pub fn is_good(&self) -> bool {
-        self.is(Verdict::Good)
+    pub fn kind(&self) -> Kind {
+        match (self.label, self.verdict, self.kept) {
+            (Label::Misfit, ..) => Kind::Misfit,
+            (_, None, _) => Kind::Bad,
+            (_, Some(Verdict::Breaks), _) => Kind::Breaks,
+            (_, Some(Verdict::Trapped), _) => Kind::Trapped,
+            (_, Some(Verdict::Wrong), _) => Kind::Wrong,
+            (.., Some(Kept::Could)) => Kind::Could,
+            (.., Some(Kept::Missed)) => Kind::Missed,
+            (_, Some(Verdict::Running), _) => Kind::Running,
+            (Label::None | Label::Bad, ..) => Kind::Unlabelled,
+            (Label::Fits, Some(Verdict::Good), _) => Kind::Good,
+        }
     }
 
     /// Whether all that is amiss is that it still runs.
     pub fn runs_on(&self) -> bool {
-        self.is(Verdict::Running)
-    }
-
-    /// Whether it fits by its label and keeps to what was asked for, and its run has a verdict.
-    fn is(&self, verdict: Verdict) -> bool {
-        let kept = self.kept.is_none_or(|kept| kept == Kept::Holds);
-        self.label == Label::Fits && kept && self.verdict == Some(verdict)
+        self.label == Label::Fits && self.kind() == Kind::Running
     }
 }

@@ -1,6 +1,6 @@
 //! The rows of a shelf as text, CSV, JSON and a page, one row after the other.
 
-use super::row::{Kept, Label, Ran, Row};
+use super::row::{Kept, Kind, Label, Ran, Row};
 use super::{page_name, Results, Shelf};
 use crate::capability_text::{count, grouped};
 use crate::page::{filled, Source};
@@ -10,7 +10,7 @@ use crate::Status;
 use serde_json::{json, Value};
 use std::io::{Error, Write};
 
-/// How many images are what. Each that was run has one verdict, whatever its label.
+/// How many images are what. Each is counted once.
 #[derive(Clone, Copy, Default, PartialEq, Eq, Debug)]
 pub struct Counted {
     pub images: u64,
@@ -36,22 +36,28 @@ impl Counted {
     pub fn of(results: &Results) -> Counted {
         let mut counted = Counted::default();
         for row in results.rows() {
-            let is = |verdict| u64::from(row.verdict == Some(verdict));
             counted.images += 1;
-            counted.good += u64::from(row.is_good());
-            counted.misfits += u64::from(row.label == Label::Misfit);
-            counted.trapped += is(Verdict::Trapped);
-            counted.breaks += is(Verdict::Breaks);
-            counted.wrong += is(Verdict::Wrong);
-            counted.running += is(Verdict::Running);
-            counted.bad += u64::from(row.run == Ran::No && row.label != Label::Misfit);
-            counted.unlabelled += u64::from(row.label == Label::None);
-            counted.runs_on += u64::from(row.runs_on());
             counted.judged += u64::from(row.kept.is_some());
-            counted.could += u64::from(row.kept == Some(Kept::Could));
-            counted.missed += u64::from(row.kept == Some(Kept::Missed));
+            counted.runs_on += u64::from(row.runs_on());
+            *counted.of_kind(row.kind()) += 1;
         }
         counted
+    }
+
+    /// How many images are of a kind; all kinds together are all images.
+    fn of_kind(&mut self, kind: Kind) -> &mut u64 {
+        match kind {
+            Kind::Misfit => &mut self.misfits,
+            Kind::Bad => &mut self.bad,
+            Kind::Breaks => &mut self.breaks,
+            Kind::Trapped => &mut self.trapped,
+            Kind::Wrong => &mut self.wrong,
+            Kind::Could => &mut self.could,
+            Kind::Missed => &mut self.missed,
+            Kind::Running => &mut self.running,
+            Kind::Unlabelled => &mut self.unlabelled,
+            Kind::Good => &mut self.good,
+        }
     }
 
     /// Whether every image fits and its run is good.
