@@ -7,9 +7,12 @@ mod tests;
 use crate::proved;
 use serde_json::json;
 use std::io::{Error, Write};
+use std::panic::resume_unwind;
+use std::thread;
 
-/// The least bytes of code that are listed at a time. A word that goes on past them is listed with the next ones.
+/// The most bytes of code that are listed at a time, and the most pieces that are listed beside one another.
 const PIECE: usize = 1 << 16;
+const MOST_JOBS: usize = 4;
 
 /// The form that words are written in.
 #[derive(Clone, Copy, PartialEq, Eq, Debug)]
@@ -19,6 +22,8 @@ pub enum Form {
     /// The lister's own, which assembles.
     Plain,
     Json,
+    /// Nothing is written.
+    None,
 }
 
 /// Lists code from an address on into an output.
@@ -30,6 +35,7 @@ pub struct Lister<'a> {
     rest: Vec<u8>,
     /// Whether a word was listed already.
     begun: bool,
+    jobs: usize,
 }
 
 /// Bytes that end inside a word: where they lie.
@@ -67,13 +73,14 @@ impl Lister<'_> {
             address,
             rest: Vec::new(),
             begun: false,
+            jobs: thread::available_parallelism().map_or(1, |cores| MOST_JOBS.min(cores.into())),
         }
     }
 
     /// Takes up code that follows, and lists it where there is enough.
     pub fn take(&mut self, code: &[u8]) -> Result<(), Error> {
         self.rest.extend_from_slice(code);
-        match self.rest.len() < PIECE {
+        match self.rest.len() < self.jobs * PIECE {
             true => Ok(()),
             false => self.list(),
         }
@@ -82,39 +89,74 @@ impl Lister<'_> {
     /// Lists what is left, but for bytes that end inside a word.
     pub fn finish(mut self) -> Result<Option<Tail>, Error> {
         self.list()?;
-        Ok((!self.rest.is_empty()).then_some(Tail {
-            address: self.address,
-            bytes: self.rest,
-        }))
+        if self.rest.is_empty() {
+            return Ok(None);
+        }
+        match proved::list(&self.rest) {
+            Ok(_) => Err(Error::other(ELSEWHERE)),
+            Err(_) => Ok(Some(Tail {
+                address: self.address,
+                bytes: self.rest,
+            })),
+        }
     }
 
-    /// Lists the whole words of what is left.
+    /// Lists the whole words of what is left, as many pieces of them at a time as there are jobs.
     fn list(&mut self) -> Result<(), Error> {
-        let (text, length) = whole_words(&self.rest);
-        let code = &self.rest[..length];
-        match self.form {
-            Form::Plain => self.out.write_all(text.as_bytes())?,
-            Form::Shown => self.out.write_all(&shown(&text, code, self.address))?,
-            Form::Json => self
-                .out
-                .write_all(&objects(&text, code, self.address, self.begun))?,
+        let ends = proved::piece_ends(&self.rest, PIECE);
+        let mut begin = 0;
+        for ends in ends.chunks(self.jobs) {
+            for listed in beside(&self.rest, (begin, ends), self.address, self.form) {
+                // A comma is before each word of JSON but the first.
+                let comma = usize::from(self.form == Form::Json && !self.begun);
+                self.out.write_all(listed?.get(comma..).unwrap_or(&[]))?;
+                self.begun = true;
+            }
+            begin = ends.last().copied().unwrap_or(begin);
         }
-        self.begun |= length > 0;
-        self.address += length as u64;
-        self.rest.drain(..length);
+        self.address += begin as u64;
+        self.rest.drain(..begin);
         Ok(())
     }
 }
 
-/// The listing of the whole words of code, and the bytes of these: the lister says where it ends inside a word.
-pub fn whole_words(code: &[u8]) -> (String, usize) {
-    match proved::list(code) {
-        Ok(text) => (text, code.len()),
-        Err(cut) => {
-            let whole = (cut.place as usize).min(code.len());
-            (proved::list(&code[..whole]).unwrap_or_default(), whole)
-        }
+/// What is said where the lister would have cut code otherwise than it was cut.
+const ELSEWHERE: &str = "the lister has the words end elsewhere";
+
+/// Lists pieces of code beside one another, the first from `begin` on: what is written of each.
+fn beside(
+    code: &[u8],
+    (begin, ends): (usize, &[usize]),
+    address: u64,
+    form: Form,
+) -> Vec<Result<Vec<u8>, Error>> {
+    let begins = std::iter::once(begin).chain(ends.iter().copied());
+    let list = |(from, to): (usize, usize)| listed(&code[from..to], address + from as u64, form);
+    let pieces = begins.zip(ends.iter().copied());
+    if let ([_], Some(one)) = (ends, pieces.clone().next()) {
+        return vec![list(one)];
     }
+    thread::scope(|scope| {
+        let jobs: Vec<_> = pieces
+            .map(|piece| scope.spawn(move || list(piece)))
+            .collect();
+        let done = jobs.into_iter().map(|job| job.join());
+        done.map(|done| done.unwrap_or_else(|panic| resume_unwind(panic)))
+            .collect()
+    })
+}
+
+/// What is written of a piece of whole words.
+fn listed(code: &[u8], address: u64, form: Form) -> Result<Vec<u8>, Error> {
+    if form == Form::None {
+        return Ok(Vec::new());
+    }
+    let text = proved::list(code).map_err(|_| Error::other(ELSEWHERE))?;
+    Ok(match form {
+        Form::Shown => shown(&text, code, address),
+        Form::Json => objects(&text, code, address),
+        Form::Plain | Form::None => text.into_bytes(),
+    })
 }
 
 /// The letters that a word's digits have room in.
@@ -168,15 +210,11 @@ fn shown(text: &str, code: &[u8], address: u64) -> Vec<u8> {
     out
 }
 
-/// Words as JSON, with a comma before each but the first of all.
-fn objects(text: &str, code: &[u8], address: u64, mut begun: bool) -> Vec<u8> {
+/// Words as JSON, with a comma before each.
+fn objects(text: &str, code: &[u8], address: u64) -> Vec<u8> {
     let mut out = Vec::with_capacity(8 * text.len());
     for (line, word, at) in words(text, code, address) {
-        out.extend_from_slice(if begun {
-            b",\n      {\"address\": "
-        } else {
-            b"\n      {\"address\": "
-        });
+        out.extend_from_slice(b",\n      {\"address\": ");
         decimal(&mut out, at);
         out.extend_from_slice(b", \"word\": ");
         decimal(&mut out, proved::number(word).into());
@@ -186,7 +224,6 @@ fn objects(text: &str, code: &[u8], address: u64, mut begun: bool) -> Vec<u8> {
         out.extend_from_slice(b", \"instruction\": \"");
         spaced(&mut out, line);
         out.extend_from_slice(b"\"}");
-        begun = true;
     }
     out
 }

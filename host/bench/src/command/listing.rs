@@ -101,11 +101,10 @@ fn chosen(asked: &List, parts: &[Part]) -> Result<Vec<Chosen>, String> {
 /// The number of the refusal of bytes that end inside a word (include/oddersnow.h).
 const CUT_OFF: u64 = 15;
 
-/// Where the bytes of a part end inside a word, which no line of the plain form is. They are listed for it, and the lines thrown
-/// away.
+/// Where the bytes of a part end inside a word, which no line of the plain form is; so that nothing is written then.
 fn cut_off(image: &mut Parts, parts: &[Chosen]) -> Result<Option<String>, String> {
     for (part, bytes) in listed(parts) {
-        let tail = words(image, part, bytes, Form::Plain, &mut std::io::sink());
+        let tail = words(image, part, bytes, Form::None, &mut std::io::sink());
         let tail = tail.map_err(|_: Stopped| "nothing is written".to_string())?;
         if let Some(Tail { address, .. }) = tail {
             let (origin, place) = (&part.origin, part.shown());

@@ -62,7 +62,8 @@ fn mixed() -> Vec<u8> {
 #[test]
 fn pieces_list_as_the_whole_does() {
     let code = mixed();
-    let (whole, length) = whole_words(&code);
+    let length = proved::list(&code).map_or_else(|cut| cut.place as usize, |_| code.len());
+    let whole = proved::list(&code[..length]).unwrap();
     for pieces in [1_000, PIECE - 1, PIECE, PIECE + 2, 4 * PIECE] {
         let (plain, tail) = listed(&code, pieces, Form::Plain);
         assert!(plain == whole, "{pieces}");
