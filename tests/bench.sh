@@ -96,7 +96,7 @@ damage_named() { # after round_trip, which leaves the image with short words
     says "$work/err" "refused, number 13: $bad 19 is no word's listing: 'cjalr\\t0\\t1\\t0', without a newline" || return 1
   sed '4s/csc/CSC/' "$work/plain" >"$work/bad" && refuses assemble "$work/bad" &&
     says "$work/err" "refused, number 13: $bad 4 is no word's listing: 'CSC\\t2\\t1\\t-8'" || return 1
-  head -c -1 "$work/bytes" >"$work/bad" && refuses list --format raw "$work/bad" &&
+  head -c -1 "$work/bytes" >"$work/bad" && refuses list --plain --format raw "$work/bad" &&
     says "$work/err" "refused, number 15: $work/bad: raw bytes at [20000000, 20000041): the bytes end inside the word at offset 62, 2000003e"
 }
 

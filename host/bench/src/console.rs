@@ -18,6 +18,8 @@ pub struct Console<'a> {
     address: u32,
     bytes: Vec<u8>,
     said: u64,
+    /// Whether the last of it ended a line.
+    ended: bool,
     /// The bytes of a letter that is not whole yet.
     letter: Vec<u8>,
     show: &'a dyn Fn(&str),
@@ -29,6 +31,7 @@ impl<'a> Console<'a> {
             address,
             bytes: Vec::new(),
             said: 0,
+            ended: true,
             letter: Vec::new(),
             show,
         }
@@ -40,6 +43,7 @@ impl<'a> Console<'a> {
             return;
         };
         self.said += 1;
+        self.ended = byte == b'\n';
         if self.bytes.len() < MOST_KEPT {
             self.bytes.push(byte);
         }
@@ -60,7 +64,7 @@ impl<'a> Console<'a> {
         if !self.letter.is_empty() {
             (self.show)(&self.letter.escape_ascii().to_string());
         }
-        if self.bytes.last().is_some_and(|byte| *byte != b'\n') {
+        if !self.ended {
             (self.show)("\n");
         }
         Said {
@@ -159,6 +163,15 @@ mod tests {
         );
         assert_eq!(heard(b"a").0, ["a", "\n"]);
         assert_eq!(heard(b"").0, Vec::<String>::new());
+    }
+
+    #[test]
+    fn the_last_line_is_ended_whatever_was_kept() {
+        let mut bytes = vec![b'\n'; MOST_KEPT];
+        bytes.extend(b"ab");
+        let (shown, said) = heard(&bytes);
+        assert_eq!(shown.concat().len(), MOST_KEPT + 3);
+        assert_eq!(said.text(1), format!("\n.. ({} bytes more)", "1,048,577"));
     }
 
     #[test]

@@ -6,7 +6,7 @@ mod tests;
 
 use crate::course::Course;
 use crate::cover::Cover;
-use crate::halt::{by_calls, by_steps, bytes_at, is_still, is_stuck, Halt, Pace, Stops};
+use crate::halt::{by_calls, by_steps, bytes_at, is_still, stuck, Halt, Pace, Stops};
 use crate::probe;
 use crate::proved::{Counts, Refusal, MOST_STEPS};
 use crate::sweep;
@@ -40,8 +40,9 @@ pub enum End {
     Break,
     /// The program came to where it ends; the step there is not made.
     Exit,
-    /// All the steps were made, and nothing handles the last trap: every further step traps and changes time alone.
-    Stuck,
+    /// All the steps were made, and nothing handles the last trap: so many further steps, with a trap among them, come again and
+    /// again and change time alone.
+    Stuck(u64),
 }
 
 /// How often memory was swept during a run, and how many tags went.
@@ -281,10 +282,16 @@ fn pause(course: &mut Course, plan: &Plan, done: &mut Outcome) -> Result<(), Ref
         done.swept.passes += 1;
         done.swept.tags += sweep::pass(course.change(), |_| ())?.len() as u64;
     }
-    if made >= plan.steps && plan.exits.contains(&course.state().capability(PCC).address) {
+    let over = made >= plan.steps;
+    let stuck = || {
+        (over && plan.through_traps)
+            .then(|| stuck(course))
+            .flatten()
+    };
+    if over && plan.exits.contains(&course.state().capability(PCC).address) {
         done.end = End::Exit;
-    } else if made >= plan.steps && plan.through_traps && is_stuck(course) {
-        done.end = End::Stuck;
+    } else if let Some(steps) = stuck() {
+        done.end = End::Stuck(steps);
     }
     Ok(())
 }

@@ -45,7 +45,7 @@ fn missed(state: &State, at: u32, outcome: &Outcome) -> String {
             "after {steps} the program ended at {:08x}, where it jumps to itself",
             address(state)
         ),
-        End::Steps | End::Break | End::Exit | End::Stuck => {
+        End::Steps | End::Break | End::Exit | End::Stuck(_) => {
             format!("{steps} were made, and it is at {:08x}", address(state))
         }
     };

@@ -77,7 +77,7 @@ pub struct Image {
     pub notes: Vec<String>,
 }
 
-/// The image of a file's bytes; raw bytes go to `start`.
+/// The image of a file's bytes, of which no two parts overlap; raw bytes go to `start`.
 pub fn read(path: &Path, bytes: &[u8], format: Format, start: u32) -> Result<Image, String> {
     let image = match detected(format, bytes) {
         _ if bytes.is_empty() => Err(EMPTY.into()),
@@ -90,6 +90,7 @@ pub fn read(path: &Path, bytes: &[u8], format: Format, start: u32) -> Result<Ima
     for said in own.chain(&mut image.notes) {
         *said = format!("{}: {said}", visible::name(path));
     }
+    no_overlap(&image.segments)?;
     Ok(image)
 }
 

@@ -46,7 +46,7 @@ fn run(state: &State, outcome: &Outcome, trap: Option<&Trap>, names: &Names) -> 
         End::Trap(_) => "trap",
         End::Break => "break",
         End::Exit => "exit",
-        End::Stuck => "stuck",
+        End::Stuck(_) => "stuck",
     };
     json!({
         "retired": outcome.counts.retired,

@@ -221,7 +221,7 @@ fn headed(account: &Account) -> (&'static str, String) {
             "trapped",
             format!("It was stopped by a trap: {}.", trap.cause),
         ),
-        (Verdict::Trapped, _, End::Stuck | End::Unhandled) => {
+        (Verdict::Trapped, _, End::Stuck(_) | End::Unhandled) => {
             ("trapped", "It traps, and nothing handles it.".into())
         }
         (Verdict::Trapped, ..) => ("trapped", "It ran, with traps.".into()),

@@ -105,7 +105,8 @@ pub fn counts(state: &State, outcome: &Outcome) -> String {
         End::Trap(_) => "Stopped at the trap.".into(),
         End::Break => format!("Stopped before the step at {at:08x}."),
         End::Exit => format!("The program ended: it came to {at:08x}."),
-        End::Stuck => format!("Nothing handles the trap: every further step traps, at {at:08x}."),
+        End::Stuck(1) => format!("Nothing handles the trap: every further step traps, at {at:08x}."),
+        End::Stuck(steps) => format!("Nothing handles the trap: {steps} steps from {at:08x} on come again for ever, with it among them."),
     };
     format!("{retired} retired, {trapped} trapped. {end}\n")
 }

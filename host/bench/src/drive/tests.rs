@@ -107,7 +107,7 @@ fn a_run_through_traps_counts_them_all() {
     let mut state = counting(10, EBREAK);
     let outcome = driven(&mut state, 5_000, true);
     assert_eq!(outcome.counts, counts(20, 4_980));
-    assert_eq!(outcome.end, End::Stuck);
+    assert_eq!(outcome.end, End::Stuck(1));
 }
 
 // The handler is the last word, which a program without the trap comes to by itself.

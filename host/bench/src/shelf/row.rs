@@ -146,7 +146,7 @@ impl Row {
         self.run = match outcome.end {
             End::Still | End::Exit => Ran::Ended,
             End::Steps | End::Break | End::Waits(_) | End::Astray => Ran::Running,
-            End::Trap(_) | End::Stuck | End::Unhandled => Ran::Trapped,
+            End::Trap(_) | End::Stuck(_) | End::Unhandled => Ran::Trapped,
         };
         self.judge(account);
         self.retired = Some(outcome.counts.retired);
