@@ -136,6 +136,36 @@ sys.exit(best >= 0.010)
 PYTHON
 }
 
+# A listing is written while its file is read: none of its forms takes much memory for 21 MB of halves and long words by turns.
+flat_listing() {
+  python3 - host/bench/target/release/bench "$work/long" <<'PYTHON'
+import resource, subprocess, sys
+bench, file = sys.argv[1:]
+with open(file, "wb") as out:
+    out.write(bytes.fromhex("01001305f0ff") * 3_500_000)
+for form in ([], ["--plain"], ["--json"]):
+    subprocess.run([bench, "list", "--format", "raw", file, *form], stdout=subprocess.DEVNULL, check=True)
+most = resource.getrusage(resource.RUSAGE_CHILDREN).ru_maxrss
+print(f"{most} KiB")
+sys.exit(most >= 50_000)
+PYTHON
+}
+
+# A trace takes no longer for a larger memory: 100,000 steps on 1 MiB less than three times the processor's seconds of 64 KiB, the best of three.
+flat_trace() {
+  printf 'addi\t11\t0\t-1\naddi\t10\t10\t1\nbne\t10\t11\t-4\n' | host/bench/target/release/bench assemble - -o "$work/loop" &&
+    python3 - host/bench/target/release/bench run "$work/loop" --trace --steps 100,000 --size <<'PYTHON'
+import resource, subprocess, sys
+def once(size):
+    before = resource.getrusage(resource.RUSAGE_CHILDREN).ru_utime
+    subprocess.run([*sys.argv[1:], str(size)], stdout=subprocess.DEVNULL, check=True)
+    return resource.getrusage(resource.RUSAGE_CHILDREN).ru_utime - before
+small, large = (min(once(size) for _ in range(3)) for size in (65536, 1048576))
+print(f"{small:.2f} s, {large:.2f} s")
+sys.exit(large >= 3 * small)
+PYTHON
+}
+
 # With everything built, ./bench writes what the command writes and nothing else, from any folder.
 nothing_added() {
   local words=(run --map "$PWD/examples/interlock_small.map" "$PWD/examples/interlock_small.hex" "$PWD/examples/interlock_image.hex")
@@ -219,6 +249,8 @@ check "./bench names a crate that is not proved" failure_named
 check "the command has no decoder of its own" asks_the_machine
 tests
 check "a fit of an image of 1 MiB takes less than 10 ms" quick_fit
+check "a listing takes less than 50 MB of memory" flat_listing
+check "a trace takes no longer on a larger memory" flat_trace
 check "--engine plain runs by the plain engine" by_engine oddersnow_run_watched oddersnow_run_quick --engine plain
 check "--engine quick runs by the quick engine" by_engine oddersnow_run_quick oddersnow_run_watched --engine quick
 check "a run is by the quick engine if nothing is said" by_engine oddersnow_run_quick oddersnow_run_watched
