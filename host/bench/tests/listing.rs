@@ -159,9 +159,8 @@ fn a_cut_off_word_is_refused_with_its_place() {
         );
         // For a person it is data.
         let shown = bench_in(&directory, &["list", "file"]);
-        let digits = code()[offset..bytes]
-            .iter()
-            .map(|byte| format!("{byte:02x}"));
+        let code = code();
+        let digits = code[offset..bytes].iter().map(|byte| format!("{byte:02x}"));
         let digits: String = digits.collect();
         let line = format!(
             "  {:08x}  {digits:<8}  data: the bytes end inside a word\n",

@@ -42,7 +42,7 @@ fn each_word_has_its_address_digits_and_instruction() {
 fn words_as_json_are_one_list() {
     let (words, _) = listed(&CODE, 2, Form::Json);
     let words: serde_json::Value = serde_json::from_str(&format!("[{words}]")).unwrap();
-    let word = |address: u64, word: u32, length: u32, instruction: &str| json!({ "address": address, "word": word, "length": length, "instruction": instruction });
+    let word = |address: u64, word: u32, length: u32, said: &str| json!({ "address": address, "word": word, "length": length, "instruction": said });
     let expected = [
         word(START, 1, 2, "c.nop"),
         word(START + 2, 0xFFF0_0513, 4, "addi 10 0 -1"),
