@@ -212,7 +212,7 @@ fn a_long_listing_is_that_of_its_words() {
     let plain = list(&directory, &["--plain"]).1;
     assert!(plain == "c.nop\naddi\t10\t0\t-1\n".repeat(100_000));
     let (_, shown, _) = list(&directory, &[]);
-    let line = "  200927be  fff00513  addi 10 0 -1";
+    let line = "  200927bc  fff00513  addi 10 0 -1";
     assert_eq!(
         (shown.lines().count(), shown.lines().last()),
         (200_001, Some(line))
@@ -220,7 +220,7 @@ fn a_long_listing_is_that_of_its_words() {
     let value = bench_in(&directory, &["list", "file", "--json"]).json();
     let words = value["parts"][0]["words"].as_array().unwrap();
     assert_eq!(words.len(), 200_000);
-    assert_eq!(words[199_999]["address"], 0x2009_27BE);
+    assert_eq!(words[199_999]["address"], 0x2009_27BC);
     let line = "$BENCH list file --plain | $BENCH assemble - | cmp - file";
     assert_eq!(shell_in(&directory, line).text(), "status 0\n");
     // Whoever reads the first lines alone gets no message.

@@ -222,7 +222,7 @@ fn every_image_of_a_shelf_is_counted_once() {
     // With a handover that some come to, and all of them with the right to write everywhere.
     let handed = ["--handover", "0x20000000", "--never", "code:w"];
     let (value, text) = counts(&directory, &handed);
-    assert_eq!((sum(&value), &value["could"]), (10, &json!(4)), "{text}");
+    assert_eq!((sum(&value), &value["could"]), (10, &json!(8)), "{text}");
 }
 
 /// Says Hi and a newline to the console, and one letter more.
@@ -342,7 +342,7 @@ fn a_reach_that_is_refused_says_so_as_json() {
     );
     let refused = bench_in(
         &directory,
-        &[&reach[..], &["--start", "0x20000001"]].concat(),
+        &[&reach[..], &["--start", "0x20000004"]].concat(),
     );
     assert_eq!(
         (refused.status, &refused.json()["refused"]["number"]),
@@ -350,20 +350,13 @@ fn a_reach_that_is_refused_says_so_as_json() {
         "{}",
         refused.err
     );
-    // A register that no start may hold, loaded on the way.
+    // A register that no start may hold, loaded by the run that left the state.
     let state = text(&with_code_and_value(&[LOAD_IT, LOOP]));
     std::fs::write(directory.join("state"), state).unwrap();
     std::fs::write(directory.join("map"), sheet(&["all 20000000 00000040 rwx"])).unwrap();
-    let words = [
-        "reach",
-        "--map",
-        "map",
-        "--state",
-        "state",
-        "--at",
-        "0x20000004",
-        "--json",
-    ];
+    let loads = ["run", "--state", "state", "--steps", "1", "--save", "state"];
+    assert_eq!(bench_in(&directory, &loads).status, 0);
+    let words = ["reach", "--map", "map", "--state", "state", "--json"];
     let unsound = bench_in(&directory, &words);
     assert_eq!(
         (unsound.status, &unsound.json()["refused"]["number"]),

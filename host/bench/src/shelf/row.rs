@@ -91,11 +91,12 @@ pub enum Kind {
     Misfit,
     /// It could not be judged or run.
     Bad,
+    /// A run from the handover on could do what none may.
+    Could,
     Breaks,
     Trapped,
     Wrong,
-    /// A run from the handover on could do what none may, or the handover is not reached.
-    Could,
+    /// The handover is not reached.
     Missed,
     Running,
     /// All is well, but that there is no label to be judged by.
@@ -223,10 +224,10 @@ impl Row {
         match (self.label, self.verdict, self.kept) {
             (Label::Misfit, ..) => Kind::Misfit,
             (_, None, _) => Kind::Bad,
+            (.., Some(Kept::Could)) => Kind::Could,
             (_, Some(Verdict::Breaks), _) => Kind::Breaks,
             (_, Some(Verdict::Trapped), _) => Kind::Trapped,
             (_, Some(Verdict::Wrong), _) => Kind::Wrong,
-            (.., Some(Kept::Could)) => Kind::Could,
             (.., Some(Kept::Missed)) => Kind::Missed,
             (_, Some(Verdict::Running), _) => Kind::Running,
             (Label::None | Label::Bad, ..) => Kind::Unlabelled,
