@@ -10,7 +10,7 @@
 .text
 .globl _start
 _start:
-  cspecialr x5, x29               # the memory root, from MTDC
+  cspecialr x5, MTDC              # the memory root, from MTDC
   lui       x6, %hi(table)
   addi      x6, x6, %lo(table)
   csetaddr  x3, x5, x6

@@ -18,7 +18,7 @@
 .text
 .globl _start
 _start:
-  cspecialr x5, x29               # the memory root, from MTDC
+  cspecialr x5, MTDC              # the memory root, from MTDC
 
   li        x6, STACK             # the stack, growing down from its end
   csetaddr  x2, x5, x6
@@ -48,11 +48,11 @@ _start:
   li        x6, LANDED_SIZE
   csetboundsexact x5, x5, x6
   candperm  x5, x5, x7
-  cspecialw x28, x5
+  cspecialw MTCC, x5
   li        x5, 0                 # the roots go: MTDC, MScratchC, MEPCC
-  cspecialw x29, x5
-  cspecialw x30, x5
-  cspecialw x31, x5
+  cspecialw MTDC, x5
+  cspecialw MSCRATCHC, x5
+  cspecialw MEPCC, x5
 .endif
 
   li        x5, 0                 # nothing else is left to it

@@ -1,13 +1,20 @@
 # The CHERIoT instructions of the demonstration, as macros for an assembler that knows RISC-V alone
 # (the CHERIoT report, chapter 8).
 
-# Reads the special register whose number scr has, as x29 for MTDC (the CHERIoT report, Table 7.2).
+# The special registers (the CHERIoT report, Table 7.2).
+.set MTCC, 28
+.set MTDC, 29
+.set MSCRATCHC, 30
+.set MEPCC, 31
+
+# Reads a special register. Its number stands where another instruction has rs2, as part of an immediate here: an assembler for
+# cores with 16 registers, rv32e, has no name for one above x15.
 .macro cspecialr cd, scr
-  .insn r 0x5b, 0, 0x01, \cd, x0, \scr
+  .insn i 0x5b, 0, \cd, x0, 0x20 + \scr
 .endm
 # Writes it, from a register that is not x0.
 .macro cspecialw scr, cs1
-  .insn r 0x5b, 0, 0x01, x0, \cs1, \scr
+  .insn i 0x5b, 0, x0, \cs1, 0x20 + \scr
 .endm
 .macro csetboundsexact cd, cs1, rs2
   .insn r 0x5b, 0, 0x09, \cd, \cs1, \rs2

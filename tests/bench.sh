@@ -24,6 +24,15 @@ image_files() {
   for file in examples/interlock_*.hex examples/interlock_*.img; do cmp "$file" "$work/${file##*/}" || return 1; done
 }
 
+# The sources and their macros assemble for a core with 16 registers, products and short words too.
+other_cores() {
+  need riscv64-unknown-elf-as || return 1
+  local source
+  for source in examples/interlock_image.s examples/interlock_board.s examples/doors.s; do
+    riscv64-unknown-elf-as -march=rv32emc -mabi=ilp32e -mno-relax -I examples --defsym STACK_END=0x20000800 "$source" -o "$work/other.o" || return 1
+  done
+}
+
 # The ELF files run as the HEX files do, and name the function.
 elf_files() {
   local bench=$PWD/host/bench/target/release/bench examples=$PWD/examples board kind from
@@ -87,7 +96,7 @@ damage_named() { # after round_trip, which leaves the image with short words
     says "$work/err" "refused, number 13: $bad 19 is no word's listing: 'cjalr\\t0\\t1\\t0', without a newline" || return 1
   sed '4s/csc/CSC/' "$work/plain" >"$work/bad" && refuses assemble "$work/bad" &&
     says "$work/err" "refused, number 13: $bad 4 is no word's listing: 'CSC\\t2\\t1\\t-8'" || return 1
-  head -c -1 "$work/bytes" >"$work/bad" && refuses list --format raw "$work/bad" &&
+  head -c -1 "$work/bytes" >"$work/bad" && refuses list --plain --format raw "$work/bad" &&
     says "$work/err" "refused, number 15: $work/bad: raw bytes at [20000000, 20000041): the bytes end inside the word at offset 62, 2000003e"
 }
 
@@ -124,6 +133,36 @@ def once():
 best = min(once() for _ in range(20))
 print(f"{1000 * best:.1f} ms")
 sys.exit(best >= 0.010)
+PYTHON
+}
+
+# A listing is written while its file is read: none of its forms takes much memory for 21 MB of halves and long words by turns.
+flat_listing() {
+  python3 - host/bench/target/release/bench "$work/long" <<'PYTHON'
+import resource, subprocess, sys
+bench, file = sys.argv[1:]
+with open(file, "wb") as out:
+    out.write(bytes.fromhex("01001305f0ff") * 3_500_000)
+for form in ([], ["--plain"], ["--json"]):
+    subprocess.run([bench, "list", "--format", "raw", file, *form], stdout=subprocess.DEVNULL, check=True)
+most = resource.getrusage(resource.RUSAGE_CHILDREN).ru_maxrss
+print(f"{most} KiB")
+sys.exit(most >= 50_000)
+PYTHON
+}
+
+# A trace takes no longer for a larger memory: 100,000 steps on 1 MiB less than three times the processor's seconds of 64 KiB, the best of three.
+flat_trace() {
+  printf 'addi\t11\t0\t-1\naddi\t10\t10\t1\nbne\t10\t11\t-4\n' | host/bench/target/release/bench assemble - -o "$work/loop" &&
+    python3 - host/bench/target/release/bench run "$work/loop" --trace --steps 100,000 --size <<'PYTHON'
+import resource, subprocess, sys
+def once(size):
+    before = resource.getrusage(resource.RUSAGE_CHILDREN).ru_utime
+    subprocess.run([*sys.argv[1:], str(size)], stdout=subprocess.DEVNULL, check=True)
+    return resource.getrusage(resource.RUSAGE_CHILDREN).ru_utime - before
+small, large = (min(once(size) for _ in range(3)) for size in (65536, 1048576))
+print(f"{small:.2f} s, {large:.2f} s")
+sys.exit(large >= 3 * small)
 PYTHON
 }
 
@@ -210,12 +249,15 @@ check "./bench names a crate that is not proved" failure_named
 check "the command has no decoder of its own" asks_the_machine
 tests
 check "a fit of an image of 1 MiB takes less than 10 ms" quick_fit
+check "a listing takes less than 50 MB of memory" flat_listing
+check "a trace takes no longer on a larger memory" flat_trace
 check "--engine plain runs by the plain engine" by_engine oddersnow_run_watched oddersnow_run_quick --engine plain
 check "--engine quick runs by the quick engine" by_engine oddersnow_run_quick oddersnow_run_watched --engine quick
 check "a run is by the quick engine if nothing is said" by_engine oddersnow_run_quick oddersnow_run_watched
 check "the demonstration" ./bench demo
 check "README.md shows the demonstration's output" readme_shows
 check "the demonstration's images are their sources'" image_files
+check "the demonstration's sources assemble for rv32emc" other_cores
 check "the demonstration's ELF files run as the HEX files" elf_files
 check "the demonstration's image with short words runs as the other" short_image
 check "the demonstration's image is listed and assembled again" round_trip

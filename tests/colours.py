@@ -54,7 +54,8 @@ def report(name, good, note=b""):
 
 def environment(extra):
     plain = {name: value for name, value in os.environ.items() if name != "NO_COLOR"}
-    return {**plain, "TERM": "xterm", **extra}
+    given = {**plain, "TERM": "xterm", **extra}
+    return {name: value for name, value in given.items() if value is not None}
 
 
 def piped(words, **extra):
@@ -95,6 +96,17 @@ def people(name, words):
     report(f"{name} with --color always has some", ESCAPE in piped([*words, "--color=always"]))
 
 
+def terminals(shelf):
+    """Terminals that do not say what they are, or which letters they have."""
+    for how, term in {"dumb": "dumb", "nameless": None, "empty": ""}.items():
+        for words in (RUN, shelf):
+            said = on_terminal(words, TERM=term)
+            report(f"a {how} terminal gets none of {words[0]}", said and ESCAPE not in said, said)
+    for locale, letters in {"C": False, "C.UTF-8": True}.items():
+        said = on_terminal(shelf, LC_ALL=locale, LANG="en_GB.UTF-8")
+        report(f"a bar with LC_ALL={locale}", b" images, " in said and said.isascii() != letters, said)
+
+
 def main():
     with tempfile.TemporaryDirectory() as folder:
         places = {"STATE": f"{folder}/state", "PLAIN": f"{folder}/plain", "SHELF": f"{folder}/shelf",
@@ -113,8 +125,7 @@ def main():
             words = [*placed[name], "--color", "always"]
             said = subprocess.run([BENCH, *words], stdout=subprocess.PIPE, stderr=subprocess.DEVNULL).stdout
             report(f"{name} never has one", said and ESCAPE not in said, said)
-    dumb = on_terminal(RUN, TERM="dumb")
-    report("a dumb terminal gets none", dumb and ESCAPE not in dumb, dumb)
+        terminals(placed["a shelf"])
     sys.exit(1 if failed else 0)
 
 

@@ -35,6 +35,7 @@ impl<'a> Account<'a> {
     ) -> Account<'a> {
         let trap = match &outcome.end {
             End::Trap(before) => Some(Trap::of_step(before, state)),
+            End::Unhandled => Trap::recorded(state),
             _ if outcome.counts.trapped > 0 => Trap::recorded(state),
             _ => None,
         };

@@ -4,6 +4,7 @@ mod terms;
 
 pub use terms::{ExitValue, Expect, MapStores, Setting, Terms};
 
+use crate::capability_text::grouped;
 use crate::colour::When;
 use crate::image::Format;
 use crate::probe::fetch;
@@ -18,7 +19,8 @@ const MOST_LAST: u64 = 1_000_000;
 
 /// The bench: runs an image on the proved CHERIoT machine and shows what happened.
 ///
-/// Numbers are decimal, or hexadecimal after 0x. The exit status is 0 if a run had no trap that nothing handles, broke no
+/// Numbers are decimal, with commas as the bench writes them (1,000) or without, or hexadecimal after 0x. A file's name may be -,
+/// which is standard input. The exit status is 0 if a run had no trap that nothing handles, broke no
 /// map and left what was expected, and ended or, where no end is named, used up its steps without a trap; 1 if it is not so,
 /// if two map sheets differ, if no image fits, if a run could do what it never may or if not every image of a shelf fits and
 /// is good; 2 if the machine, the cutter, the lister or the assembler refused, an image does not fit the board that it is to
@@ -106,7 +108,7 @@ pub struct Run {
     /// Stop after the first step that traps (the default)
     #[arg(long, conflicts_with = "through_traps")]
     pub until_trap: bool,
-    /// Stop before a step at a number, a symbol of the image or a FILE:LINE of its source; the first
+    /// Stop before a step at a number, a symbol of the image or a FILE:LINE of its source; from a saved state the first
     /// step is made nevertheless. May be given again
     #[arg(long = "break", value_name = "WHERE")]
     pub breaks: Vec<String>,
@@ -254,6 +256,13 @@ pub struct List {
     /// The address of raw bytes [default: 0x20000000]
     #[arg(long, value_parser = word)]
     pub start: Option<u32>,
+    /// List this part, whatever it holds: by the number of its program header in ELF, by its order from 0 in Intel HEX; may be
+    /// given again [default: what may be executed]
+    #[arg(long, value_name = "NUMBER", value_parser = number)]
+    pub segment: Vec<u64>,
+    /// List these addresses alone, from START on
+    #[arg(long, value_names = ["START", "LENGTH"], num_args = 2, value_parser = word, action = ArgAction::Set)]
+    pub range: Option<Vec<u32>>,
     /// Write the listing alone, in the form that assembles
     #[arg(long, conflicts_with = "json")]
     pub plain: bool,
@@ -374,16 +383,26 @@ fn dashes(command: clap::Command) -> clap::Command {
     })
 }
 
-/// A number: decimal, or hexadecimal after 0x.
+/// A number: decimal, with commas before each three digits or without, or hexadecimal after 0x.
 fn number(text: &str) -> Result<u64, String> {
     let (digits, radix) = match text.strip_prefix("0x") {
-        Some(digits) => (digits, 16),
-        None => (text, 10),
+        Some(digits) => (digits.into(), 16),
+        None => (ungrouped(text), 10),
     };
     if digits.is_empty() || !digits.chars().all(|digit| digit.is_digit(radix)) {
         return Err("not a decimal number, nor a hexadecimal one after 0x".into());
     }
-    u64::from_str_radix(digits, radix).map_err(|_| "not below 2^64".into())
+    u64::from_str_radix(&digits, radix).map_err(|_| "not below 2^64".into())
+}
+
+/// A number without the commas that reports write it with; one with others stays as it is.
+fn ungrouped(text: &str) -> String {
+    let digits = text.replace(',', "");
+    let written = digits.parse().map(grouped);
+    match written.is_ok_and(|written| written == text) {
+        true => digits,
+        false => text.into(),
+    }
 }
 
 fn not_zero(text: &str) -> Result<u64, String> {
@@ -432,13 +451,21 @@ mod tests {
 
     #[test]
     fn numbers_are_decimal_or_hexadecimal_after_0x() {
-        let good = [("0", 0), ("007", 7), ("0x1F", 31), ("0xff", 255)];
+        let good = [
+            ("0", 0),
+            ("007", 7),
+            ("0x1F", 31),
+            ("0xff", 255),
+            ("1,000", 1_000),
+            ("12,345,678", 12_345_678),
+        ];
         for (text, value) in good {
             assert_eq!(number(text), Ok(value), "{text}");
         }
         assert_eq!(number("18446744073709551615"), Ok(u64::MAX));
         for text in [
-            "", "0x", "+5", "-5", "0x+5", "1_000", "1f", "0X1", " 1", "0xg",
+            "", "0x", "+5", "-5", "0x+5", "1_000", "1f", "0X1", " 1", "0xg", ",", "1,00",
+            "1000,000", "0,001", ",100", "1,000,", "0x1,000",
         ] {
             assert!(
                 number(text).unwrap_err().starts_with("not a decimal"),

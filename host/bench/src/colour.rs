@@ -38,17 +38,28 @@ fn wanted(when: When, terminal: bool) -> bool {
     match when {
         When::Always => true,
         When::Never => false,
-        When::Auto => terminal && !plain("NO_COLOR") && env::var_os("TERM") != Some("dumb".into()),
+        When::Auto => terminal && !plain("NO_COLOR") && obeys(),
     }
+}
+
+/// Whether a terminal obeys orders: it says which it is, and that it is none that does not.
+pub fn obeys() -> bool {
+    let name = env::var_os("TERM");
+    name.is_some_and(|name| !name.is_empty() && name != "dumb")
 }
 
 fn asked() -> When {
     ASKED.get().copied().unwrap_or_default()
 }
 
+/// Whether what goes to standard output is painted.
+pub fn paints() -> bool {
+    wanted(asked(), io::stdout().is_terminal())
+}
+
 /// What goes to standard output.
 pub fn output(text: &str) -> Cow<'_, str> {
-    painted_where(wanted(asked(), io::stdout().is_terminal()), text)
+    painted_where(paints(), text)
 }
 
 /// What goes to standard error.

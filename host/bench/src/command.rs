@@ -20,7 +20,7 @@ use crate::proved::engine::{self, Engine};
 use crate::proved::sheets::BAD_IMAGE;
 use crate::proved::{self, Refusal};
 use crate::sheet::Bad;
-use crate::{colour, complain, file, json, report, state_file, Status};
+use crate::{colour, complain, file, json, report, state_file, visible, Status};
 use lent::{Capability, State};
 use serde_json::Value;
 use std::io::{ErrorKind, Write};
@@ -71,11 +71,11 @@ fn say_bytes(bytes: &[u8]) -> Result<(), String> {
 
 /// Says something to a person, painted where that is asked for.
 fn say(text: &str) -> Result<(), String> {
-    say_bytes(colour::output(text).as_bytes())
+    say_bytes(colour::output(&visible::said(text)).as_bytes())
 }
 
 fn say_json(value: &Value) -> Result<(), String> {
-    say_bytes(format!("{value:#}\n").as_bytes())
+    say_bytes(visible::json(&format!("{value:#}\n")).as_bytes())
 }
 
 /// Says that something was refused, with document 01's number.
@@ -124,7 +124,7 @@ fn refused_sheet(number: u64, path: &Path, bad: &Bad, as_json: bool) -> Result<S
 }
 
 fn read_state(path: &Path) -> Result<State, String> {
-    let named = |reason: String| format!("{}: {reason}", path.display());
+    let named = |reason: String| format!("{}: {reason}", visible::name(path));
     state_file::read(&file::read(path)?).map_err(named)
 }
 

@@ -18,6 +18,8 @@ pub struct Console<'a> {
     address: u32,
     bytes: Vec<u8>,
     said: u64,
+    /// Whether the last of it ended a line.
+    ended: bool,
     /// The bytes of a letter that is not whole yet.
     letter: Vec<u8>,
     show: &'a dyn Fn(&str),
@@ -29,6 +31,7 @@ impl<'a> Console<'a> {
             address,
             bytes: Vec::new(),
             said: 0,
+            ended: true,
             letter: Vec::new(),
             show,
         }
@@ -40,6 +43,7 @@ impl<'a> Console<'a> {
             return;
         };
         self.said += 1;
+        self.ended = byte == b'\n';
         if self.bytes.len() < MOST_KEPT {
             self.bytes.push(byte);
         }
@@ -60,7 +64,7 @@ impl<'a> Console<'a> {
         if !self.letter.is_empty() {
             (self.show)(&self.letter.escape_ascii().to_string());
         }
-        if self.bytes.last().is_some_and(|byte| *byte != b'\n') {
+        if !self.ended {
             (self.show)("\n");
         }
         Said {
@@ -100,10 +104,17 @@ pub struct Said {
 }
 
 impl Said {
-    /// Its text, without orders to a terminal, and at most so many bytes of it.
+    /// Its text, without orders to a terminal: at most so many bytes of it, and how many more there are.
     pub fn text(&self, most: usize) -> String {
-        let bytes = &self.bytes[..self.bytes.len().min(most)];
-        lines(&String::from_utf8_lossy(bytes))
+        let begins = |at: &usize| self.bytes.get(*at).is_none_or(|byte| byte & 0xC0 != 0x80);
+        // No letter is cut through.
+        let end = (0..=self.bytes.len().min(most)).rev().find(begins);
+        let end = end.unwrap_or(0);
+        let text = lines(&String::from_utf8_lossy(&self.bytes[..end]));
+        match self.said - end as u64 {
+            0 => text,
+            more => format!("{text}.. ({} more)", count(more, "byte")),
+        }
     }
 
     /// How much was said, for a report.
@@ -114,7 +125,8 @@ impl Said {
 
     pub fn json(&self) -> Value {
         let text = String::from_utf8_lossy(&self.bytes);
-        json!({ "address": self.address, "bytes": self.said, "text": text })
+        let kept = self.bytes.len();
+        json!({ "address": self.address, "bytes": self.said, "kept": kept, "text": text })
     }
 }
 
@@ -141,9 +153,25 @@ mod tests {
         let (shown, said) = heard("aé\n".as_bytes());
         assert_eq!(shown, ["a", "é", "\n"]);
         assert_eq!(said.line(), "Console: 4 bytes stored to 00000004.\n");
-        assert_eq!((said.text(9), said.text(1)), ("aé\n".into(), "a".into()));
+        assert_eq!(said.text(9), "aé\n");
+        for (most, shown) in [(0, ".. (4 bytes more)"), (1, "a.. (3 bytes more)")] {
+            assert_eq!((said.text(most), most), (shown.into(), most));
+        }
+        assert_eq!(
+            (said.text(2), said.text(3)),
+            ("a.. (3 bytes more)".into(), "aé.. (1 byte more)".into())
+        );
         assert_eq!(heard(b"a").0, ["a", "\n"]);
         assert_eq!(heard(b"").0, Vec::<String>::new());
+    }
+
+    #[test]
+    fn the_last_line_is_ended_whatever_was_kept() {
+        let mut bytes = vec![b'\n'; MOST_KEPT];
+        bytes.extend(b"ab");
+        let (shown, said) = heard(&bytes);
+        assert_eq!(shown.concat().len(), MOST_KEPT + 3);
+        assert_eq!(said.text(1), format!("\n.. ({} bytes more)", "1,048,577"));
     }
 
     #[test]

@@ -7,6 +7,7 @@ mod tests;
 use crate::image::Segment;
 use crate::names::{Name, Names};
 use crate::proved::{first_word, instruction, word_length};
+use crate::visible::quoted;
 use lent::State;
 use serde_json::{json, Value};
 use std::collections::BTreeMap;
@@ -142,7 +143,7 @@ impl Cover {
             let _ = writeln!(
                 text,
                 "{executed:>8} of {bytes:>7}  {percent:>3}%  {place:<20}  {}{missed}",
-                row.name
+                quoted(&row.name)
             );
         }
         match self.outside(segments) {

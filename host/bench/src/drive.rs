@@ -6,9 +6,10 @@ mod tests;
 
 use crate::course::Course;
 use crate::cover::Cover;
-use crate::halt::{by_calls, by_steps, bytes_at, is_still, is_stuck, Halt, Pace, Stops};
+use crate::halt::{by_calls, by_steps, bytes_at, is_still, stuck, Halt, Pace, Stops};
 use crate::probe;
 use crate::proved::{Counts, Refusal, MOST_STEPS};
+use crate::trap::Trap;
 use crate::{stop, sweep};
 use lent::{State, Watch, COMPARE, PCC};
 use std::collections::BTreeSet;
@@ -29,7 +30,7 @@ pub enum End {
     Still,
     /// The same, but the timer is set: it interrupts the program after so many steps, which are more than were left.
     Waits(u64),
-    /// The same after a trap, and where traps go: nothing handles them.
+    /// The same after a trap, of this run or one that its start records, and where traps go: nothing handles them.
     Unhandled,
     /// The same, but an end was named, and this is not it.
     Astray,
@@ -39,8 +40,9 @@ pub enum End {
     Break,
     /// The program came to where it ends; the step there is not made.
     Exit,
-    /// All the steps were made, and nothing handles the last trap: every further step traps and changes time alone.
-    Stuck,
+    /// All the steps were made, and nothing handles the last trap: so many further steps, with a trap among them, come again and
+    /// again and change time alone.
+    Stuck(u64),
     /// A signal stopped the run; the further steps are not made.
     Stopped,
 }
@@ -68,8 +70,23 @@ pub struct Outcome {
     pub record: Watch,
 }
 
-/// What is asked of a run, and who is shown each call's counts, with the states before and after
-/// it, and answers whether the run is still wanted.
+/// Who is shown a run, call by call. No state is copied for it.
+pub trait Watcher {
+    /// The state before a call.
+    fn before(&mut self, _state: &State) {}
+
+    /// The state after it and its counts; the answer is whether the run is still wanted.
+    fn after(&mut self, _state: &State, _made: Counts) -> bool {
+        true
+    }
+}
+
+/// Nobody is shown anything.
+pub struct Nobody;
+
+impl Watcher for Nobody {}
+
+/// What is asked of a run, and who is shown its calls.
 pub struct Plan<'a> {
     pub steps: u64,
     pub through_traps: bool,
@@ -79,20 +96,22 @@ pub struct Plan<'a> {
     pub sweep: Option<u64>,
     /// The watch record at the start.
     pub record: Watch,
-    /// Where the run stops before a step, but for its first.
+    /// Where the run stops before a step.
     pub breaks: BTreeSet<u32>,
+    /// Whether the first step is made though it is there.
+    pub leaves: bool,
     /// Where the program has ended.
     pub exits: BTreeSet<u32>,
     /// What is told of each word that retires.
     pub cover: Option<&'a mut Cover>,
     /// Who is told of each store into a range of the record, as it comes, by the state after it.
     pub stored: Option<&'a mut dyn FnMut(&State)>,
-    pub watch: &'a mut dyn FnMut(&State, &State, Counts) -> bool,
+    pub watch: &'a mut dyn Watcher,
 }
 
 impl<'a> Plan<'a> {
     /// A run of so many steps at most, to the first trap, with someone who is shown its calls.
-    pub fn new(steps: u64, watch: &'a mut dyn FnMut(&State, &State, Counts) -> bool) -> Plan<'a> {
+    pub fn new(steps: u64, watch: &'a mut dyn Watcher) -> Plan<'a> {
         Plan {
             steps,
             through_traps: false,
@@ -100,6 +119,7 @@ impl<'a> Plan<'a> {
             sweep: None,
             record: Watch::default(),
             breaks: BTreeSet::new(),
+            leaves: true,
             exits: BTreeSet::new(),
             cover: None,
             stored: None,
@@ -144,13 +164,16 @@ pub fn run(state: &mut State, plan: Plan) -> Result<Outcome, Refused> {
 
 fn follow(course: &mut Course, mut plan: Plan, done: &mut Outcome) -> Result<(), Refusal> {
     course.may_start()?;
-    if plan.exits.contains(&course.state().capability(PCC).address) {
+    let at = course.state().capability(PCC).address;
+    if plan.exits.contains(&at) {
         done.end = End::Exit;
+    } else if plan.breaks.contains(&at) && !plan.leaves {
+        done.end = End::Break;
     }
     plan.breaks.extend(&plan.exits);
     let (mut call, mut looked, mut wanted) = (1, false, true);
     while wanted && done.end == End::Steps && done.counts.steps() < plan.steps {
-        let before = course.state().clone();
+        plan.watch.before(course.state());
         let looks = plan.looks(course);
         // Calls grow anew where steps are no longer looked at.
         call = if looked && !looks { 1 } else { call };
@@ -167,7 +190,7 @@ fn follow(course: &mut Course, mut plan: Plan, done: &mut Outcome) -> Result<(),
         made += more;
         done.counts += more;
         done.end = end;
-        wanted = made.steps() == 0 || (plan.watch)(&before, course.state(), made);
+        wanted = made.steps() == 0 || plan.watch.after(course.state(), made);
         if done.end == End::Steps {
             pause(course, &plan, done)?;
         }
@@ -180,6 +203,11 @@ fn follow(course: &mut Course, mut plan: Plan, done: &mut Outcome) -> Result<(),
     Ok(())
 }
 
+/// Whether a run trapped, or the one before it that left its start.
+fn has_trapped(state: &State, made: Counts) -> bool {
+    made.trapped > 0 || Trap::recorded(state).is_some()
+}
+
 /// What it means that a program jumps to itself, after so many steps.
 fn standing(state: &State, exits: &BTreeSet<u32>, made: Counts) -> End {
     let at = state.capability(PCC).address;
@@ -187,7 +215,7 @@ fn standing(state: &State, exits: &BTreeSet<u32>, made: Counts) -> End {
     let set = state.long(COMPARE) != u64::MAX;
     match set.then(|| probe::steps_to_interrupt(state)).flatten() {
         _ if exits.contains(&at) => End::Exit,
-        _ if made.trapped > 0 && at == probe::handler(state) => End::Unhandled,
+        _ if has_trapped(state, made) && at == probe::handler(state) => End::Unhandled,
         Some(steps) => End::Waits(steps),
         None if exits.is_empty() => End::Still,
         None => End::Astray,
@@ -254,10 +282,15 @@ fn pause(course: &mut Course, plan: &Plan, done: &mut Outcome) -> Result<(), Ref
         done.swept.passes += 1;
         done.swept.tags += sweep::pass(course.change(), |_| ())?.len() as u64;
     }
+    let stuck = || {
+        (is_last && plan.through_traps)
+            .then(|| stuck(course))
+            .flatten()
+    };
     if is_last && plan.exits.contains(&course.state().capability(PCC).address) {
         done.end = End::Exit;
-    } else if is_last && plan.through_traps && is_stuck(course) {
-        done.end = End::Stuck;
+    } else if let Some(steps) = stuck() {
+        done.end = End::Stuck(steps);
     } else if !is_last && stop::is_asked() {
         done.end = End::Stopped;
     }

@@ -8,6 +8,7 @@ mod tests;
 use crate::digits;
 use crate::edition::Edition;
 use crate::proved;
+use crate::visible::quoted;
 use clap::ValueEnum;
 use lent::{place_name, Capability, State};
 use lent::{CAPABILITIES, CONTROL, MSTATUS, REPORT_EDITION, TIME, WORDS};
@@ -92,7 +93,7 @@ impl Dump {
         if is("edition") {
             let edition = Edition::from_str(told, true);
             self.edition = edition
-                .map_err(|_| format!("no edition '{told}'"))?
+                .map_err(|_| format!("no edition '{}'", quoted(told)))?
                 .number();
             Ok(())
         } else if let Some((_, place)) = LONG.iter().find(|(known, _)| is(known)) {
@@ -102,7 +103,7 @@ impl Dump {
             let value = word(told).ok_or_else(|| no_number(told))?;
             self.put(MSTATUS + index, &[value], name)
         } else {
-            Err(format!("no register has the name '{name}'"))
+            Err(format!("no register has the name '{}'", quoted(name)))
         }
     }
 
@@ -118,6 +119,7 @@ impl Dump {
 }
 
 fn no_number(text: &str) -> String {
+    let text = quoted(text);
     format!("'{text}' is no number: eight hexadecimal digits, or hexadecimal after 0x")
 }
 
@@ -162,7 +164,7 @@ fn capability(text: &str) -> Result<Capability, String> {
             (address, metadata, *tag)
         }
         [address, tag, rest @ ..] if !rest.is_empty() => return shown(address, tag, text, rest),
-        _ => return Err(format!("'{text}' is {FORMS}")),
+        _ => return Err(format!("'{}' is {FORMS}", quoted(text))),
     };
     Ok(Capability {
         address: word(address).ok_or_else(|| no_number(address))?,
@@ -176,7 +178,7 @@ fn tag_of(text: &str) -> Result<u32, String> {
     match text {
         "0" | "0x0" => Ok(0),
         "1" | "0x1" => Ok(1),
-        _ => word(text).ok_or_else(|| format!("'{text}' is no tag, 0 or 1")),
+        _ => word(text).ok_or_else(|| format!("'{}' is no tag, 0 or 1", quoted(text))),
     }
 }
 
@@ -189,7 +191,7 @@ fn of_fields(text: &str) -> Result<Capability, String> {
     };
     let number = |name: &str| {
         let told = field(name).ok_or_else(|| format!("there is no {name}"))?;
-        long(told).ok_or_else(|| format!("'{told}' is no number"))
+        long(told).ok_or_else(|| format!("'{}' is no number", quoted(told)))
     };
     let short = |name: &str| {
         let number = number(name)?;
@@ -222,6 +224,7 @@ fn shown(address: &str, tag: &str, text: &str, rest: &[&str]) -> Result<Capabili
         .find('[')
         .and_then(|at| found::metadata(address, &text[at..]));
     let metadata = metadata.ok_or_else(|| {
+        let text = quoted(text);
         format!("'{text}' is {FORMS}, and no capability has such bounds, rights and type")
     })?;
     Ok(Capability {

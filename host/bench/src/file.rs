@@ -1,22 +1,43 @@
-//! Files as they are read: whole, and no larger than what a bench has a use for.
+//! Files as they are read: whole, and no larger than what a bench has a use for. The name - is standard input.
 
+use crate::visible;
 use std::fs::File;
 use std::io::{Error, ErrorKind, Read};
 use std::path::Path;
+use std::sync::OnceLock;
 
 /// The most bytes of a file. Memory has 65,536; the rest is room for an ELF file's other sections.
-const MOST: u64 = 1 << 28;
+pub const MOST: u64 = 1 << 28;
 
 /// The bytes of a file, or what is wrong with it, by its name.
 pub fn read(path: &Path) -> Result<Vec<u8>, String> {
-    let named = |reason: String| format!("{}: {reason}", path.display());
-    let (mut bytes, file) = (Vec::new(), File::open(path));
-    file.and_then(|file| file.take(MOST + 1).read_to_end(&mut bytes))
-        .map_err(|error| named(why(&error)))?;
-    if bytes.len() as u64 > MOST {
-        return Err(named(format!("the file has more than {MOST} bytes")));
+    let read = match path == Path::new(visible::INPUT) {
+        true => input(),
+        false => File::open(path).map_err(|error| why(&error)).and_then(all),
+    };
+    read.map_err(|reason| format!("{}: {reason}", visible::name(path)))
+}
+
+/// The bytes of standard input, which are read once, however often it is named.
+fn input() -> Result<Vec<u8>, String> {
+    static INPUT: OnceLock<Result<Vec<u8>, String>> = OnceLock::new();
+    INPUT.get_or_init(|| all(std::io::stdin())).clone()
+}
+
+/// All that is left to read.
+pub fn all(from: impl Read) -> Result<Vec<u8>, String> {
+    let mut bytes = Vec::new();
+    let read = from.take(MOST + 1).read_to_end(&mut bytes);
+    read.map_err(|error| why(&error))?;
+    match bytes.len() as u64 > MOST {
+        true => Err(too_long()),
+        false => Ok(bytes),
     }
-    Ok(bytes)
+}
+
+/// What is said of a file with more than the most bytes.
+pub fn too_long() -> String {
+    format!("the file has more than {MOST} bytes")
 }
 
 /// What the system has against a file, a folder or a port, in words.

@@ -7,7 +7,7 @@ mod tests;
 use crate::course::Course;
 use crate::probe;
 use crate::proved::{Counts, Refusal, MOST_STEPS};
-use lent::{State, Watch, COMPARE, PCC, TIME};
+use lent::{State, Watch, COMPARE, MSTATUS, PCC, TIME};
 use std::collections::BTreeSet;
 
 /// Where a machine is to be stopped, besides where nothing changes any more.
@@ -166,11 +166,25 @@ pub fn is_still(course: &Course, left: u64) -> bool {
     retires && is_same_but_for_time(next, now) && !probe::interrupts_within(now, left)
 }
 
-/// Whether a step traps and changes time alone, so that every further step traps too: nothing handles the trap.
-pub fn is_stuck(course: &Course) -> bool {
-    let mut next = course.clone();
-    let traps = next.run(1).is_ok_and(|made| made.trapped == 1);
-    traps && is_same_but_for_time(next.into_state(), course.state())
+/// The most steps of a loop that is looked for.
+const LONGEST_LOOP: u64 = 64;
+
+/// How many steps lead back to the same state but for time, if one of them traps and none returns from a handler: they come again
+/// for ever, and nothing handles the trap. A return changes mstatus, and so does a trap after one.
+pub fn stuck(course: &Course) -> Option<u64> {
+    let (start, mut next, mut traps) = (course.state(), course.clone(), false);
+    for steps in 1..=LONGEST_LOOP {
+        traps |= next.run(1).ok()?.trapped == 1;
+        let now = next.state();
+        if now.register(MSTATUS) != start.register(MSTATUS) {
+            return None;
+        }
+        let same = start.regs[..TIME] == now.regs[..TIME];
+        if same && is_same_but_for_time(now.clone(), start) {
+            return traps.then_some(steps);
+        }
+    }
+    None
 }
 
 fn is_same_but_for_time(mut next: State, now: &State) -> bool {

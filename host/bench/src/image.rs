@@ -3,11 +3,13 @@
 mod elf;
 mod hex;
 pub mod lines;
+pub mod parts;
 
 use crate::names::Name;
 use crate::probe::value::stored;
-use crate::proved::sheets::{self, Record};
+use crate::proved::sheets::{self, Label, Record};
 use crate::sheet::Bad;
+use crate::visible;
 use lent::{State, GRANULE};
 use lines::Lines;
 use std::path::Path;
@@ -50,6 +52,12 @@ impl Segment {
         (self.address.into(), self.end())
     }
 
+    /// Whether a byte of the file lies at an address.
+    pub fn holds(&self, address: u32) -> bool {
+        let offset = address.checked_sub(self.address);
+        offset.is_some_and(|offset| (offset as usize) < self.bytes.len())
+    }
+
     pub fn shown(&self) -> String {
         format!("[{:08x}, {:08x})", self.address, self.end())
     }
@@ -65,26 +73,29 @@ pub struct Image {
     pub lines: Lines,
     /// The regions of its label, where it has one.
     pub label: Option<Vec<Record>>,
-    /// What its header says of another core.
+    /// What its header says of another core, or has lost.
     pub notes: Vec<String>,
 }
 
-/// The image of a file's bytes; raw bytes go to `start`.
+/// The image of a file's bytes, of which no two parts overlap; raw bytes go to `start`.
 pub fn read(path: &Path, bytes: &[u8], format: Format, start: u32) -> Result<Image, String> {
     let image = match detected(format, bytes) {
-        _ if bytes.is_empty() => Err("the file is empty".into()),
+        _ if bytes.is_empty() => Err(EMPTY.into()),
         Format::Auto if is_text(bytes) => Err(TEXT.into()),
         Format::Labelled => payload(bytes),
         format => plain(bytes, format, start),
     };
-    let mut image = image.map_err(|reason| format!("{}: {reason}", path.display()))?;
+    let mut image = image.map_err(|reason| format!("{}: {reason}", visible::name(path)))?;
     let own = image.segments.iter_mut().map(|segment| &mut segment.origin);
     for said in own.chain(&mut image.notes) {
-        *said = format!("{}: {said}", path.display());
+        *said = format!("{}: {said}", visible::name(path));
     }
+    no_overlap(&image.segments)?;
     Ok(image)
 }
 
+/// What is said of a file without a byte.
+const EMPTY: &str = "the file is empty";
 /// What is said of a file that no code would be.
 const TEXT: &str =
     "it is text, and no Intel HEX or labelled image; --format raw takes it as code nevertheless";
@@ -109,12 +120,17 @@ fn detected(format: Format, bytes: &[u8]) -> Format {
     }
 }
 
-/// The image in the payload after a map sheet.
-fn payload(bytes: &[u8]) -> Result<Image, String> {
-    let label = sheets::label(bytes).map_err(|line| {
+/// The label of an image, or its bad line.
+fn label_of(bytes: &[u8]) -> Result<Label, String> {
+    sheets::label(bytes).map_err(|line| {
         let Bad { line, reason } = Bad::of_image(bytes, line);
         format!("line {line}: {reason}")
-    })?;
+    })
+}
+
+/// The image in the payload after a map sheet.
+fn payload(bytes: &[u8]) -> Result<Image, String> {
+    let label = label_of(bytes)?;
     let start = label.regions.first().map_or(0, |region| region.start);
     let bytes = &bytes[label.payload..];
     let image = match detected(Format::Auto, bytes) {
@@ -137,9 +153,7 @@ fn plain(bytes: &[u8], format: Format, start: u32) -> Result<Image, String> {
 }
 
 fn raw(bytes: Vec<u8>, address: u32) -> Result<Image, String> {
-    if u64::from(address) + bytes.len() as u64 > 1 << 32 {
-        return Err("the bytes end past 2^32".into());
-    }
+    ends_in_space(address, bytes.len() as u64)?;
     let segment = Segment {
         address,
         bytes,
@@ -150,6 +164,14 @@ fn raw(bytes: Vec<u8>, address: u32) -> Result<Image, String> {
         segments: vec![segment],
         ..Image::default()
     })
+}
+
+/// That so many bytes at an address end at 2^32 at most.
+fn ends_in_space(address: u32, length: u64) -> Result<(), String> {
+    match u64::from(address) + length > 1 << 32 {
+        true => Err("the bytes end past 2^32".into()),
+        false => Ok(()),
+    }
 }
 
 /// Puts segments into a state's memory and clears the tags of the granules they touch. Nothing is

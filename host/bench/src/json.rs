@@ -6,7 +6,6 @@ use crate::command::fit::{Beside, Chosen};
 use crate::command::sheet::Pair;
 use crate::drive::{End, Outcome, Refused, Swept};
 use crate::edition;
-use crate::listing::Part;
 use crate::memory_rows::rows;
 use crate::names::Names;
 use crate::payload::Outside;
@@ -47,7 +46,7 @@ fn run(state: &State, outcome: &Outcome, trap: Option<&Trap>, names: &Names) -> 
         End::Trap(_) => "trap",
         End::Break => "break",
         End::Exit => "exit",
-        End::Stuck => "stuck",
+        End::Stuck(_) => "stuck",
         End::Stopped => "stopped",
     };
     json!({
@@ -116,6 +115,11 @@ pub fn refused_state(refusal: Refusal, state: &State) -> Value {
     value
 }
 
+/// A handover that is not reached, and why; document 01 has no number for it.
+pub fn not_reached(reason: &str) -> Value {
+    json!({ "refused": { "number": null, "reason": reason } })
+}
+
 /// A run that was refused on its way: the same, with the steps that were made.
 pub fn refused_on_the_way(refused: Refused, state: &State) -> Value {
     let mut value = refused_state(refused.refusal, state);
@@ -124,36 +128,16 @@ pub fn refused_on_the_way(refused: Refused, state: &State) -> Value {
     value
 }
 
-/// The parts of an image with their words.
-pub fn listing(parts: &[Part]) -> Value {
-    let parts = parts.iter().map(|part| {
-        let words = part.lines().into_iter().map(|line| {
-            json!({
-                "address": line.address,
-                "word": line.word,
-                "length": line.length,
-                "instruction": line.instruction,
-            })
-        });
-        json!({
-            "origin": part.segment.origin,
-            "address": part.segment.address,
-            "words": words.collect::<Vec<Value>>(),
-            "zeros": part.segment.zeros,
-        })
-    });
-    json!({ "parts": parts.collect::<Vec<Value>>() })
-}
-
 /// A bad sheet.
 pub fn refused_sheet(number: u64, path: &Path, bad: &Bad) -> Value {
     let (file, line, reason) = (path.display().to_string(), bad.line, &bad.reason);
     json!({ "refused": { "number": number, "file": file, "line": line, "reason": reason } })
 }
 
-/// A good sheet.
-pub fn sheet(regions: &[Record]) -> Value {
-    json!({ "regions": regions.iter().map(record).collect::<Vec<Value>>() })
+/// A good sheet, and why no run takes it as its board, if none does.
+pub fn sheet(regions: &[Record], refused: Option<&str>) -> Value {
+    let regions: Vec<Value> = regions.iter().map(record).collect();
+    json!({ "regions": regions, "refused_as_board": refused })
 }
 
 /// The names in which two sheets differ.

@@ -2,8 +2,10 @@
 //! gives the same steps from the same state.
 
 use crate::course::Course;
+use crate::drive::Watcher;
 use crate::proved::{Counts, Refusal};
-use crate::{sweep, trace};
+use crate::sweep;
+use crate::trace::{self, Before};
 use lent::{State, Watch};
 
 /// A state of a run, and how many steps led to it.
@@ -94,12 +96,26 @@ impl Last {
 
     /// The last steps on lines of the trace.
     pub fn lines(&self, made: u64, wanted: u64) -> Result<Vec<String>, Refusal> {
-        self.steps(
-            made,
-            wanted,
-            State::clone,
-            |number, before, after, counts| trace::line(number, &before, after, counts),
-        )
+        self.steps(made, wanted, Before::of, |number, before, after, counts| {
+            trace::line(number, &before, after, counts)
+        })
+    }
+}
+
+/// Takes note of a run's states as it goes on, after so many steps.
+pub struct Seen<'a> {
+    pub last: &'a mut Last,
+    pub made: u64,
+}
+
+impl Watcher for Seen<'_> {
+    fn before(&mut self, state: &State) {
+        self.last.see(self.made, state);
+    }
+
+    fn after(&mut self, _: &State, made: Counts) -> bool {
+        self.made += made.steps();
+        true
     }
 }
 

@@ -30,6 +30,7 @@ mod names;
 mod page;
 mod payload;
 mod probe;
+mod progress;
 mod proved;
 mod reach;
 mod recent;
@@ -95,7 +96,7 @@ impl Status {
 /// A message on standard error; where that can not be written, the exit status says it alone.
 fn complain(reason: &str) {
     let line = format!("bench: {reason}\n");
-    let _ = std::io::stderr().write_all(colour::error(&line).as_bytes());
+    let _ = std::io::stderr().write_all(colour::error(&visible::said(&line)).as_bytes());
 }
 
 /// The command line, or its own message.
@@ -103,6 +104,24 @@ fn parsed() -> Result<Arguments, clap::Error> {
     let choice = colour::of_usage(std::env::args_os());
     let mut matches = arguments::command().color(choice).try_get_matches()?;
     Arguments::from_arg_matches_mut(&mut matches)
+}
+
+/// Says the command line's own message, with what it quotes written out, or its help, which has to be written.
+fn told(usage: &clap::Error) -> Status {
+    let plain = usage.render().to_string();
+    let said = visible::said(&plain);
+    let written = match said == plain {
+        true => usage.print().and_then(|()| std::io::stdout().flush()),
+        false => std::io::stderr().write_all(said.as_bytes()),
+    };
+    match (usage.use_stderr(), written) {
+        (true, _) => Status::Bad,
+        (false, Ok(())) => Status::Ran,
+        (false, Err(error)) => {
+            complain(&format!("standard output: {}", file::why(&error)));
+            Status::Bad
+        }
+    }
 }
 
 fn main() -> ExitCode {
@@ -115,14 +134,7 @@ fn main() -> ExitCode {
                 Status::Bad
             })
         }
-        Err(usage) => {
-            let _ = usage.print();
-            if usage.use_stderr() {
-                Status::Bad
-            } else {
-                Status::Ran
-            }
-        }
+        Err(usage) => told(&usage),
     };
     ExitCode::from(status.code())
 }

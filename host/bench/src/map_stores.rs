@@ -180,7 +180,7 @@ fn stores(number: u32) -> String {
 impl Stores {
     /// Whether a store broke the map.
     pub fn broken(&self) -> bool {
-        self.first.is_some()
+        self.all > 0
     }
 
     /// The stores into each part that has some.

@@ -1,6 +1,8 @@
 //! Names of places in memory, for reports: the symbols of an ELF image and the regions of a map
 //! sheet.
 
+use crate::visible::quoted;
+
 /// A named stretch of memory.
 #[derive(Clone, PartialEq, Eq, Debug)]
 pub struct Name {
@@ -36,7 +38,7 @@ impl Names {
     /// The same as the end of a line.
     pub fn place(&self, address: u32) -> String {
         self.at(address)
-            .map(|(name, offset)| format!(", byte {offset} of {name}"))
+            .map(|(name, offset)| format!(", byte {offset} of {}", quoted(name)))
             .collect()
     }
 }

@@ -76,7 +76,7 @@ pub struct Source {
 impl Source {
     pub fn of(path: &Path, bytes: &[u8]) -> Source {
         Source {
-            name: path.display().to_string(),
+            name: visible::plain_name(path),
             bytes: bytes.len() as u64,
             sha256: digest(bytes),
         }
@@ -222,7 +222,7 @@ fn headed(account: &Account) -> (&'static str, String) {
             "trapped",
             format!("It was stopped by a trap: {}.", trap.cause),
         ),
-        (Verdict::Trapped, _, End::Stuck | End::Unhandled) => {
+        (Verdict::Trapped, _, End::Stuck(_) | End::Unhandled) => {
             ("trapped", "It traps, and nothing handles it.".into())
         }
         (Verdict::Trapped, ..) => ("trapped", "It ran, with traps.".into()),
@@ -251,7 +251,7 @@ fn fit(image: &Beside) -> Value {
         json!({ "name": placed.region.name, "wanted": wanted(placed.region), "place": place })
     });
     json!({
-        "file": shortened(&image.path.display().to_string()),
+        "file": shortened(&visible::plain_name(image.path)),
         "fits": image.fits,
         "regions": regions.collect::<Vec<Value>>(),
         "amiss": image.amiss(),

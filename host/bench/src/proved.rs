@@ -6,7 +6,7 @@
 pub mod engine;
 pub mod sheets;
 
-pub use ::proved::{assemble, list, Refused};
+pub use ::proved::{assemble, list, piece_ends, Refused};
 
 use ::proved::{bounds_high, bounds_low, cut_exact, cut_high, cut_low, cut_number};
 use lent::{number_and_rest, Answer, Capability, Query, State, Watch};

@@ -1,4 +1,4 @@
-//! What a run or a saved state comes to, for a person: counts, the trap, the registers; and an image's listing.
+//! What a run or a saved state comes to, for a person: counts, the trap, the registers.
 
 use crate::account::Account;
 use crate::capability_text::{count, grouped, is_integer, length, region};
@@ -6,7 +6,6 @@ use crate::capability_text::{revocation_words, rights, type_words};
 use crate::console::Said;
 use crate::drive::{End, Outcome, Refused, Swept};
 use crate::edition;
-use crate::listing::Part;
 use crate::memory_rows::{rows, Row, ROW};
 use crate::names::Names;
 use crate::probe;
@@ -110,7 +109,8 @@ pub fn counts(state: &State, outcome: &Outcome) -> String {
         End::Trap(_) => "Stopped at the trap.".into(),
         End::Break => format!("Stopped before the step at {at:08x}."),
         End::Exit => format!("The program ended: it came to {at:08x}."),
-        End::Stuck => format!("Nothing handles the trap: every further step traps, at {at:08x}."),
+        End::Stuck(1) => format!("Nothing handles the trap: every further step traps, at {at:08x}."),
+        End::Stuck(steps) => format!("Nothing handles the trap: {steps} steps from {at:08x} on come again for ever, with it among them."),
         End::Stopped => format!("A signal stopped the run; the next step is at {at:08x}."),
     };
     format!("{retired} retired, {trapped} trapped. {end}\n")
@@ -437,26 +437,6 @@ pub fn control_lines(state: &State) -> Vec<String> {
         lines.push(format!("edition {}", edition::name(state.edition)));
     }
     lines
-}
-
-/// The parts of an image, one after the other: where each lies, its words, and how many zeros follow.
-pub fn listing(parts: &[Part]) -> String {
-    let texts: Vec<String> = parts.iter().map(part_listing).collect();
-    texts.join("\n")
-}
-
-fn part_listing(part: &Part) -> String {
-    let segment = part.segment;
-    let mut text = format!("{} at {}\n", segment.origin, segment.shown());
-    for line in part.lines() {
-        let (word, said) = (digits(line.word), &line.instruction);
-        let _ = writeln!(text, "  {:08x}  {word:<8}  {said}", line.address);
-    }
-    if segment.zeros > 0 {
-        let zeros = count(segment.zeros, "byte");
-        let _ = writeln!(text, "  then {zeros} of zeros, which are not in the file");
-    }
-    text
 }
 
 #[cfg(test)]

@@ -1,6 +1,6 @@
 //! Small programs for the tests.
 
-use crate::drive::Plan;
+use crate::drive::{Nobody, Plan, Watcher};
 use crate::proved::Counts;
 use lent::{Capability, State, MEMORY_ROOT};
 
@@ -66,9 +66,17 @@ pub fn loading(before: &[u32], program: State) -> State {
 
 /// A run to the first trap, or through all of them, that nobody is shown.
 pub fn plan<'a>(steps: u64, through_traps: bool) -> Plan<'a> {
-    let wanted = |_: &State, _: &State, _: Counts| true;
     Plan {
         through_traps,
-        ..Plan::new(steps, Box::leak(Box::new(wanted)))
+        ..Plan::new(steps, Box::leak(Box::new(Nobody)))
+    }
+}
+
+/// A watcher by what it does after each call.
+pub struct After<F>(pub F);
+
+impl<F: FnMut(Counts) -> bool> Watcher for After<F> {
+    fn after(&mut self, _: &State, made: Counts) -> bool {
+        (self.0)(made)
     }
 }

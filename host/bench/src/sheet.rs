@@ -6,6 +6,7 @@ pub mod label;
 use crate::file;
 use crate::names::Name;
 use crate::proved::sheets::{self, BadLine, Record};
+use crate::visible;
 use std::path::Path;
 
 /// The letters of each rights number, r 1, w 2 and x 4.
@@ -47,7 +48,8 @@ impl Bad {
 
     /// The line and the reason, of a file.
     pub fn shown(&self, path: &Path) -> String {
-        format!("{}: line {}: {}", path.display(), self.line, self.reason)
+        let name = visible::name(path);
+        format!("{name}: line {}: {}", self.line, self.reason)
     }
 }
 

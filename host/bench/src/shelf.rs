@@ -19,6 +19,7 @@ use crate::page::digest;
 use crate::proved::engine::Engine;
 use crate::reach::Never;
 use crate::save::Place;
+use crate::visible;
 use std::ffi::{OsStr, OsString};
 use std::fs;
 use std::path::{Path, PathBuf};
@@ -44,7 +45,7 @@ impl Shelf {
     /// The names of the images: the folder's regular files, but for those that belong to the board, by the order of
     /// their bytes.
     pub fn names(&self) -> Result<Vec<OsString>, String> {
-        let told = |error| format!("{}: {}", self.folder.display(), file::why(&error));
+        let told = |error| format!("{}: {}", visible::name(&self.folder), file::why(&error));
         let own = self.with.iter().map(|(path, _)| path);
         let own = own.chain([&self.board_name]);
         let own: Vec<PathBuf> = own.filter_map(|path| path.canonicalize().ok()).collect();

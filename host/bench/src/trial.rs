@@ -6,9 +6,9 @@ use crate::arguments::{ExitValue, Expect, MapStores, Terms};
 use crate::command::look;
 use crate::command::run::Ready;
 use crate::console::{self, Said, CONSOLE};
-use crate::drive::{End, Outcome, Plan};
+use crate::drive::{End, Outcome, Plan, Watcher};
 use crate::map_stores::Forbidden;
-use crate::proved::{Counts, Refusal};
+use crate::proved::Refusal;
 use crate::sheet::Sheet;
 use crate::stop;
 use crate::verdict::{Compared, Judged};
@@ -63,7 +63,7 @@ impl<'a> Trial<'a> {
     }
 
     /// The plan of the run, with someone who is shown its calls.
-    pub fn plan<'b>(&self, watch: &'b mut dyn FnMut(&State, &State, Counts) -> bool) -> Plan<'b> {
+    pub fn plan<'b>(&self, watch: &'b mut dyn Watcher) -> Plan<'b> {
         Plan {
             through_traps: self.terms.through_traps,
             sweep: self.terms.sweep,

@@ -96,7 +96,7 @@ impl Judged {
         match outcome.end {
             _ if self.stopped => Verdict::Stopped,
             _ if self.map.as_ref().is_some_and(Stores::broken) => Verdict::Breaks,
-            End::Trap(_) | End::Stuck | End::Unhandled => Verdict::Trapped,
+            End::Trap(_) | End::Stuck(_) | End::Unhandled => Verdict::Trapped,
             _ if !handled => Verdict::Trapped,
             _ if !self.wrong().is_empty() => Verdict::Wrong,
             End::Astray => Verdict::Running,
@@ -166,7 +166,7 @@ mod tests {
             End::Break,
             End::Waits(9),
             End::Astray,
-            End::Stuck,
+            End::Stuck(1),
             End::Unhandled,
         ];
         let verdicts = |judged: &Judged, trapped| {
@@ -195,7 +195,7 @@ mod tests {
         assert_eq!(status(&judged(true, false, false), End::Steps, 1), 1);
         assert_eq!(status(&judged(true, true, false), End::Steps, 1), 0);
         assert_eq!(status(&judged(true, false, false), End::Still, 1), 0);
-        assert_eq!(status(&judged(true, true, false), End::Stuck, 1), 1);
+        assert_eq!(status(&judged(true, true, false), End::Stuck(2), 1), 1);
         assert_eq!(status(&judged(true, true, false), End::Unhandled, 1), 1);
         // Where an end is named, that it was not come to is said before that traps were handled.
         assert_eq!(status(&judged(true, false, true), End::Steps, 1), 5);

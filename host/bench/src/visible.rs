@@ -1,8 +1,15 @@
 //! Text that others chose (names of files and symbols, lines that a message quotes) made safe to look at: a character
 //! that a terminal obeys, that turns the order of its neighbours or that has no picture is written out.
 
-/// The most letters that are shown of one name.
+use std::borrow::Cow;
+use std::path::Path;
+
+/// The most letters that are shown of one name, or of a text that a message quotes.
 pub const MOST_LETTERS: usize = 120;
+/// The most letters of a line. No report of ours comes near.
+const MOST_LINE: usize = 1 << 13;
+/// The name that stands for standard input.
+pub const INPUT: &str = "-";
 
 /// Whether a character is written out: controls, marks of direction, and those without a width.
 fn is_hidden(letter: char) -> bool {
@@ -51,14 +58,72 @@ pub fn html(text: &str) -> String {
 
 /// A name's first letters, and how many more there are.
 pub fn shortened(name: &str) -> String {
-    let letters = name.chars().count();
-    match letters > MOST_LETTERS {
-        true => {
-            let first: String = name.chars().take(MOST_LETTERS).collect();
-            format!("{first}.. ({} letters more)", letters - MOST_LETTERS)
+    let (first, more) = parted(name, MOST_LETTERS);
+    format!("{first}{more}")
+}
+
+/// Text of a file or of the command line as a message quotes it: its first letters, written out.
+pub fn quoted(text: &str) -> String {
+    let (first, more) = parted(text, MOST_LETTERS);
+    visible(first) + &more
+}
+
+/// The first letters of a text, and how many more there are in words.
+fn parted(text: &str, most: usize) -> (&str, String) {
+    match text.char_indices().nth(most) {
+        None => (text, String::new()),
+        Some((end, _)) => {
+            let (first, rest) = text.split_at(end);
+            let more = rest.chars().count();
+            (first, format!(".. ({more} letters more)"))
         }
-        false => name.into(),
     }
+}
+
+/// A file's name as a message has it.
+pub fn name(path: &Path) -> String {
+    quoted(&plain_name(path))
+}
+
+/// The same whole, for what writes it out itself.
+pub fn plain_name(path: &Path) -> String {
+    match path == Path::new(INPUT) {
+        true => "standard input".into(),
+        false => path.display().to_string(),
+    }
+}
+
+/// All that goes to a terminal as text: lines stay, each cut where it is too long, and what else is not seen is written out.
+pub fn said(text: &str) -> Cow<'_, str> {
+    let fits = |line: &str| line.chars().count() <= MOST_LINE && !line.chars().any(is_hidden);
+    if text.lines().all(fits) && !text.contains('\r') {
+        return text.into();
+    }
+    let line = |line: &str| {
+        let (body, end) = match line.strip_suffix('\n') {
+            Some(body) => (body, "\n"),
+            None => (line, ""),
+        };
+        let (first, more) = parted(body, MOST_LINE);
+        visible(first) + &more + end
+    };
+    text.split_inclusive('\n').map(line).collect()
+}
+
+/// JSON text that says the same, and on a terminal too: characters that are not seen stand in its strings alone.
+pub fn json(text: &str) -> Cow<'_, str> {
+    let hidden = |letter: char| letter != '\n' && is_hidden(letter);
+    if !text.contains(hidden) {
+        return text.into();
+    }
+    let written = |letter: char| match hidden(letter) {
+        true => {
+            let units = letter.encode_utf16(&mut [0; 2]).to_vec();
+            units.iter().map(|unit| format!("\\u{unit:04x}")).collect()
+        }
+        false => letter.to_string(),
+    };
+    text.chars().map(written).collect()
 }
 
 #[cfg(test)]
@@ -87,5 +152,42 @@ mod tests {
         assert_eq!(shortened(&name), name);
         let longer = format!("{name}xyz");
         assert_eq!(shortened(&longer), format!("{name}.. (3 letters more)"));
+    }
+
+    #[test]
+    fn what_is_quoted_is_written_out_and_cut() {
+        assert_eq!(quoted("\x1b[2J é"), "\\u{1b}[2J é");
+        let zeros = "\0".repeat(1 << 22);
+        let shown = "\\u{0}".repeat(MOST_LETTERS) + ".. (4194184 letters more)";
+        assert_eq!(quoted(&zeros), shown);
+        assert_eq!(name(Path::new("a\u{9b}b")), "a\\u{9b}b");
+        assert_eq!(name(Path::new("-")), "standard input");
+        assert_eq!(name(Path::new("./-")), "./-");
+    }
+
+    #[test]
+    fn what_is_said_keeps_its_lines_alone() {
+        assert!(matches!(said("a\n\n  b\n"), Cow::Borrowed("a\n\n  b\n")));
+        assert_eq!(said("a\tb\r\n\x1b[2J"), "a\\tb\\r\n\\u{1b}[2J");
+        let long = "x".repeat(MOST_LINE);
+        assert_eq!(said(&long), long);
+        let more = format!("{long}.. (1 letters more)\nb");
+        assert_eq!(said(&format!("{long}x\nb")), more);
+    }
+
+    #[test]
+    fn json_says_the_same_without_orders() {
+        let value = serde_json::json!({ "a": "\u{9b}2J\u{7f}\u{e0041}é\n" });
+        let text = format!("{value:#}\n");
+        let shown = json(&text);
+        assert!(
+            !shown.contains(|letter| letter != '\n' && is_hidden(letter)),
+            "{shown}"
+        );
+        assert_eq!(
+            serde_json::from_str::<serde_json::Value>(&shown).unwrap(),
+            value
+        );
+        assert!(matches!(json("{}\n"), Cow::Borrowed("{}\n")));
     }
 }

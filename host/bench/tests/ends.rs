@@ -41,6 +41,16 @@ fn said(run: i32, verdict: &str, end: &str, shelf: i32) -> (i32, String, String,
     (run, verdict.into(), end.into(), shelf)
 }
 
+/// The options of a run whose end is at an address.
+fn at(address: &str) -> [&str; 4] {
+    ["--steps", "1000", "--exit-at", address]
+}
+
+/// What is said of a run whose end is there.
+fn ends_at(directory: &Path, address: &str, expected: (i32, String, String, i32)) {
+    assert_eq!(judged(directory, &at(address)), expected, "{address}");
+}
+
 /// Counts up, and comes to its end at once; with c0 in the place of the second c10 of its branch, it counts on.
 const COUNTS: &str = "addi 10 10 1; bne 10 10 -4; cjal 0 0";
 
@@ -79,19 +89,9 @@ const COMES_BY: &str = "addi 10 10 1; bne 10 10 -4; addi 11 0 1; cjal 0 -12";
 #[test]
 fn a_program_ends_where_its_end_is_named() {
     let (directory, bytes) = with_image("ends_named", COMES_BY);
-    let at = |address: &'static str| ["--steps", "1000", "--exit-at", address];
-    assert_eq!(
-        judged(&directory, &at("0x20000008")),
-        said(0, "good", "exit", 0)
-    );
-    assert_eq!(
-        judged(&directory, &at("0x20000000")),
-        said(0, "good", "exit", 0)
-    );
-    assert_eq!(
-        judged(&directory, &at("0x20000010")),
-        said(5, "running", "steps", 5)
-    );
+    ends_at(&directory, "0x20000008", said(0, "good", "exit", 0));
+    ends_at(&directory, "0x20000000", said(0, "good", "exit", 0));
+    ends_at(&directory, "0x20000010", said(5, "running", "steps", 5));
     // With the steps just used up it is there too.
     let exact = [
         "run",
@@ -116,10 +116,7 @@ fn a_program_ends_where_its_end_is_named() {
         assert!(answer.err.contains(reason), "{}", answer.err);
     }
     put(&directory, &changed(&bytes, 6, 0xA5, 0x05));
-    assert_eq!(
-        judged(&directory, &at("0x20000008")),
-        said(5, "running", "steps", 5)
-    );
+    ends_at(&directory, "0x20000008", said(5, "running", "steps", 5));
 }
 
 #[test]
@@ -324,15 +321,8 @@ fn a_jump_to_itself_is_no_end_where_another_is_named() {
         "ends_astray",
         "bne 10 10 8; addi 11 0 1; cjal 0 0; cjal 0 0",
     );
-    let at = |address: &'static str| ["--steps", "1000", "--exit-at", address];
-    assert_eq!(
-        judged(&directory, &at("0x20000008")),
-        said(0, "good", "exit", 0)
-    );
-    assert_eq!(
-        judged(&directory, &at("0x2000000c")),
-        said(5, "running", "astray", 5)
-    );
+    ends_at(&directory, "0x20000008", said(0, "good", "exit", 0));
+    ends_at(&directory, "0x2000000c", said(5, "running", "astray", 5));
     // That it may run on does not make it good: it runs nowhere.
     let on = [&at("0x2000000c")[..], &["--may-run-on"]].concat();
     assert_eq!(judged(&directory, &on), said(5, "running", "astray", 5));
@@ -412,4 +402,58 @@ fn a_page_says_traps_by_their_count() {
     );
     let (_, page) = shelved(&directory, &through);
     assert!(page.contains("It ran to its end, through traps."), "{page}");
+}
+
+/// What a run from a state comes to: its status, verdict, end and trap.
+fn from_state(directory: &Path, state: &str) -> (i32, serde_json::Value) {
+    let run = ["run", "--state", state, "--steps", "1000", "--json"];
+    let answer = bench_in(directory, &run);
+    let value = answer.json();
+    let told = json!([value["verdict"], value["end"], value["trap"]["cause"]]);
+    (answer.status, told)
+}
+
+// The state was saved where the trap left it, or after more steps of its handler; one byte earlier the program ends well.
+#[test]
+fn a_state_that_stands_in_its_handler_has_not_ended() {
+    let (directory, bytes) = with_image("ends_saved", LOOPS);
+    let run = ["run", "--map", "board", "shelf/one", "--save", "state"];
+    let trapped = (
+        1,
+        json!(["trapped", "unhandled", "environment call (ECALL)"]),
+    );
+    for more in [&[][..], &["--through-traps"]] {
+        assert_eq!(bench_in(&directory, &[&run[..], more].concat()).status, 1);
+        assert_eq!(from_state(&directory, "state"), trapped);
+    }
+    // The third word jumps to itself, without a trap.
+    let mut ends = bytes.clone();
+    ends[12..16].copy_from_slice(&0x6Fu32.to_le_bytes());
+    put(&directory, &ends);
+    assert_eq!(bench_in(&directory, &run).status, 0);
+    assert_eq!(
+        from_state(&directory, "state"),
+        (0, json!(["good", "still", null]))
+    );
+}
+
+/// A call of the environment, whose handler does something and then traps itself; by one byte it returns instead.
+const TRAPS_AGAIN: &str =
+    "auipcc 5 0; cincaddrimm 5 5 20; cspecialrw 0 5 28; ecall; cjal 0 -4; addi 0 0 0; ebreak";
+
+// A handler that never comes back handles nothing, however long the program may run.
+#[test]
+fn a_handler_that_traps_for_ever_handles_nothing() {
+    let (directory, bytes) = with_image("ends_again", TRAPS_AGAIN);
+    let on = ["--through-traps", "--may-run-on", "--steps", "1001"];
+    assert_eq!(judged(&directory, &on), said(1, "trapped", "stuck", 1));
+    let run = ["run", "--map", "board", "shelf/one"];
+    let answer = bench_in(&directory, &[&run[..], &on].concat());
+    let told = "Nothing handles the trap: 2 steps from 20000018 on come again for ever, with it among them.\n";
+    assert!(answer.out.contains(told), "{}", answer.out);
+    // An MRET: the call is made again and again, by a program that runs on.
+    let mut returns = bytes.clone();
+    returns[24..28].copy_from_slice(&0x3020_0073u32.to_le_bytes());
+    put(&directory, &returns);
+    assert_eq!(judged(&directory, &on), said(0, "good", "steps", 0));
 }

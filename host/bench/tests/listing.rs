@@ -117,7 +117,9 @@ fn a_listing_is_json_too() {
     };
     let part = |segment: u32, address: u32, words, zeros: u32| {
         let origin = format!("file: segment {segment}");
-        json!({ "origin": origin, "address": address, "words": words, "zeros": zeros })
+        json!({
+            "origin": origin, "number": segment, "address": address, "listed": true, "words": words, "tail": null, "zeros": zeros,
+        })
     };
     let first = part(0, 0x2000_0100, word(0x2000_0100, EBREAK, 4, "ebreak"), 0);
     let second = part(
@@ -131,31 +133,33 @@ fn a_listing_is_json_too() {
 
 #[test]
 fn a_cut_off_word_is_refused_with_its_place() {
-    let directory = with_file("cut_off", &code()[..8]);
-    let reason = "file: raw bytes at [20000000, 20000008): \
-                  the bytes end inside the word at offset 6, 20000006";
-    let said = format!("bench: refused, number 15: {reason}\n");
-    for form in [&[][..], &["--plain"], &["--json"]] {
-        let answer = bench_in(&directory, &[&["list", "file"], form].concat());
-        assert_eq!((answer.status, &answer.err), (2, &said), "{form:?}");
-        if form == ["--json"] {
-            let refused = json!({ "number": 15, "reason": reason });
-            assert_eq!(answer.json(), json!({ "refused": refused }));
-        } else {
-            assert_eq!(answer.out, "");
-        }
-    }
-    for (bytes, offset) in [(1, 0), (3, 2), (5, 2), (17, 16)] {
+    let directory = directory("cut_off");
+    for (bytes, offset) in [(1, 0), (3, 2), (5, 2), (8, 6), (17, 16)] {
         std::fs::write(directory.join("file"), &code()[..bytes]).unwrap();
-        let answer = bench_in(&directory, &["list", "file"]);
-        let place = format!(
-            "inside the word at offset {offset}, {:08x}\n",
+        let answer = bench_in(&directory, &["list", "file", "--plain"]);
+        let end = 0x2000_0000 + bytes;
+        let said = format!(
+            "bench: refused, number 15: file: raw bytes at [20000000, {end:08x}): \
+             the bytes end inside the word at offset {offset}, {:08x}\n",
+            0x2000_0000 + offset
+        );
+        assert_eq!(
+            (answer.status, answer.out, answer.err),
+            (2, String::new(), said)
+        );
+        // For a person it is data.
+        let shown = bench_in(&directory, &["list", "file"]);
+        let code = code();
+        let digits = code[offset..bytes].iter().map(|byte| format!("{byte:02x}"));
+        let digits: String = digits.collect();
+        let line = format!(
+            "  {:08x}  {digits:<8}  data: the bytes end inside a word\n",
             0x2000_0000 + offset
         );
         assert!(
-            answer.status == 2 && answer.err.ends_with(&place),
+            shown.status == 0 && shown.out.ends_with(&line),
             "{}",
-            answer.err
+            shown.out
         );
     }
 }

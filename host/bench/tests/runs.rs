@@ -325,7 +325,7 @@ fn through_traps_goes_on_at_mtcc() {
     std::fs::write(directory.join("start"), text(&state)).unwrap();
     let answer = bench_in(&directory, &through_traps("1000", &["--json"]));
     let value = answer.json();
-    assert_eq!((answer.status, &value["end"]), (1, &json!("steps")));
+    assert_eq!((answer.status, &value["end"]), (1, &json!("stuck")));
     assert_eq!(
         (&value["retired"], &value["trapped"]),
         (&json!(668), &json!(332))

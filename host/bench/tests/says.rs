@@ -49,7 +49,7 @@ fn a_console_is_shown_as_it_comes_and_kept() {
         &["run", "shelf/image", "--map", "board", "--json"],
     )
     .json();
-    let said = json!({ "address": 0x2000_0300, "bytes": 3, "text": "Hi\n" });
+    let said = json!({ "address": 0x2000_0300, "bytes": 3, "kept": 3, "text": "Hi\n" });
     assert_eq!(value["console"], said);
     assert_eq!(
         bench_in(&directory, &["run", "shelf/image", "--json"]).json()["console"],

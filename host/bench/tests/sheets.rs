@@ -170,7 +170,8 @@ fn sheets_as_json() {
     let code =
         |rights| json!({ "name": "code", "start": 0x2000_0000, "length": 0x400, "rights": rights });
     let check = bench_in(&directory, &["sheet", "check", "one", "--json"]);
-    assert_eq!(check.json(), json!({ "regions": [code("rx")] }));
+    let good = json!({ "regions": [code("rx")], "refused_as_board": null });
+    assert_eq!(check.json(), good);
     let compare = bench_in(&directory, &["sheet", "compare", "one", "other", "--json"]);
     let pair = json!({ "name": "code", "first": code("rx"), "second": code("r") });
     assert_eq!(

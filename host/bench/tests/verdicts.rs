@@ -3,7 +3,7 @@
 
 mod common;
 
-use common::elf::{elf, Header, EXEC, RISCV};
+use common::elf::{elf, with_symbols, Header, EXEC, RISCV};
 use common::{assembled, bench_in, changed, directory, golden, sheet};
 use serde_json::json;
 use std::path::{Path, PathBuf};
@@ -27,8 +27,13 @@ const CODE: u8 = 0x00;
 
 /// A folder with the board's sheet.
 fn board(name: &str) -> PathBuf {
+    board_of(name, &BOARD)
+}
+
+/// A folder with a sheet of these regions.
+fn board_of(name: &str, regions: &[&str]) -> PathBuf {
     let directory = directory(name);
-    std::fs::write(directory.join("board"), sheet(&BOARD)).unwrap();
+    std::fs::write(directory.join("board"), sheet(regions)).unwrap();
     directory
 }
 
@@ -166,7 +171,7 @@ fn one_segment(code: &[u8]) -> Vec<u8> {
         in_file: code.len() as u32,
         in_memory: code.len() as u32,
     };
-    elf(1, EXEC, RISCV, &[header], code)
+    with_symbols(elf(1, EXEC, RISCV, &[header], code), &[])
 }
 
 #[test]
@@ -372,12 +377,7 @@ fn a_store_that_touches_a_hole_breaks_the_map() {
 
 #[test]
 fn a_map_that_may_be_written_everywhere_judges_nothing() {
-    let directory = board("stores_free");
-    std::fs::write(
-        directory.join("board"),
-        sheet(&["all 20000000 00001000 rwx"]),
-    )
-    .unwrap();
+    let directory = board_of("stores_free", &["all 20000000 00001000 rwx"]);
     write(&directory, "image", &assembled(&directory, STORES));
     let answer = bench_in(&directory, &["run", "--map", "board", "image"]);
     assert_eq!(answer.status, 0);
@@ -439,12 +439,7 @@ fn a_fit_tells_of_another_core() {
 // A label and a board may end at 2^32; bytes may not go on after that.
 #[test]
 fn a_payload_that_ends_past_2_to_the_32_does_not_fit() {
-    let directory = board("payload_past");
-    std::fs::write(
-        directory.join("board"),
-        sheet(&["all ffff0000 00010000 rwx"]),
-    )
-    .unwrap();
+    let directory = board_of("payload_past", &["all ffff0000 00010000 rwx"]);
     let label = ["mine fffffffc 00000004 rx"];
     let code = assembled(&directory, "cjal 0 0; addi 0 0 0");
     write(&directory, "image", &labelled(&label, &code[..4]));
@@ -581,4 +576,32 @@ fn no_reach_is_told_of_what_lies_outside_the_board() {
         answer.0 == 2 && answer.1.contains("\"nearest\""),
         "{answer:?}"
     );
+}
+
+// Two records of one place: which of them counts is not told, so that neither does.
+#[test]
+fn a_payload_whose_parts_overlap_does_not_fit() {
+    let directory = board("payload_overlap");
+    let label = ["mine 20000000 00000100 rx"];
+    let code = assembled(&directory, STORES);
+    let record = |offset| String::from_utf8(hex(offset, &code)).unwrap();
+    for (offset, statuses) in [(0x20, [0, 0, 0]), (0x14, [1, 3, 1])] {
+        let end = record(offset).lines().last().unwrap().len() + 1;
+        let first = record(0);
+        let both = format!("{}{}", &first[..first.len() - end], record(offset));
+        write(&directory, "image", &labelled(&label, both.as_bytes()));
+        let answers = everywhere(&directory);
+        assert_eq!(
+            answers.each_ref().map(|answer| answer.0),
+            statuses,
+            "{answers:?}"
+        );
+        let told = answers
+            .iter()
+            .filter(|answer| answer.1.contains(" overlaps "));
+        assert_eq!(
+            told.count(),
+            statuses.iter().filter(|status| **status > 0).count()
+        );
+    }
 }

@@ -6,7 +6,7 @@
 
 mod listing;
 
-pub use listing::{assemble, list, Refused};
+pub use listing::{assemble, list, piece_ends, Refused};
 
 // SAFETY: declared as in include/oddersnow.h; each takes and gives plain numbers, and is total.
 unsafe extern "C" {

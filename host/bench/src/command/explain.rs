@@ -7,7 +7,7 @@ use crate::image::{self, Format, Segment, DEFAULT_START};
 use crate::names::{Name, Names};
 use crate::stack::Stack;
 use crate::trap::{Action, Authority, Trap};
-use crate::{file, json, proved, report, state_file, Status};
+use crate::{file, json, proved, report, state_file, visible, Status};
 use lent::{State, BLOCK, MEPCC, MOST_MEMORY};
 use serde_json::Value;
 use std::path::Path;
@@ -49,7 +49,7 @@ pub fn obey(asked: &Explain) -> Result<Status, String> {
 }
 
 fn named(path: &Path, reason: &str) -> String {
-    format!("{}: {reason}", path.display())
+    format!("{}: {reason}", visible::name(path))
 }
 
 fn saved(asked: &Explain, bytes: &[u8]) -> Result<State, String> {

@@ -8,7 +8,7 @@ use crate::payload::{self, Outside};
 use crate::proved::sheets::{self, BadLine, Fit, Label, BAD_BOARD, BAD_IMAGE};
 use crate::sheet::label::{placed, Placed};
 use crate::sheet::{self, letters, Bad, Sheet};
-use crate::{complain, file, json, Status};
+use crate::{complain, file, json, visible, Status};
 use std::path::Path;
 
 /// A board: the bytes of its sheet, which is good, and its regions.
@@ -162,7 +162,7 @@ fn told(board: &Path, chosen: Option<&Chosen>, images: &[Beside]) -> String {
     if let [image] = images {
         return format!("{}.{payload}\n\n{}", verdict(board, image), rows(image));
     }
-    let board = board.display();
+    let board = visible::name(board);
     let mut text = match chosen.map(|chosen| chosen.number) {
         Some(number) => format!("Image {number} fits {board}.{payload}\n"),
         None => format!("Neither image fits {board}.\n"),
@@ -173,7 +173,7 @@ fn told(board: &Path, chosen: Option<&Chosen>, images: &[Beside]) -> String {
         } else {
             "does not fit"
         };
-        let (file, rows) = (image.path.display(), rows(image));
+        let (file, rows) = (visible::name(image.path), rows(image));
         text.push_str(&format!("\nimage {number}, {file}: {fits}\n\n{rows}"));
     }
     text
@@ -186,7 +186,11 @@ pub fn verdict(board: &Path, image: &Beside) -> String {
     } else {
         "does not fit"
     };
-    format!("{} {verb} {}", image.path.display(), board.display())
+    format!(
+        "{} {verb} {}",
+        visible::name(image.path),
+        visible::name(board)
+    )
 }
 
 /// Each region of an image, with where it lies on the board or why it does not.

@@ -5,7 +5,7 @@ use super::run::{self, Halt};
 use crate::arguments::{Gdb, Run};
 use crate::capability_text::{count, grouped};
 use crate::gdb::{serve, Served, Target};
-use crate::{complain, file, Status};
+use crate::{complain, file, visible, Status};
 use std::io::Write;
 use std::net::{Ipv4Addr, TcpListener};
 
@@ -73,6 +73,6 @@ fn listener(port: u16, anywhere: bool) -> Result<TcpListener, String> {
 /// Says something at once. Where nobody reads it, the session goes on.
 fn tell(text: &str) {
     let mut output = std::io::stdout().lock();
-    let _ = output.write_all(text.as_bytes());
+    let _ = output.write_all(visible::said(text).as_bytes());
     let _ = output.flush();
 }

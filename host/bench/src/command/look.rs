@@ -6,6 +6,7 @@ use crate::cover::Cover;
 use crate::last::Last;
 use crate::proved::Refusal;
 use crate::recent::Recent;
+use crate::visible;
 use serde_json::Value;
 use std::collections::BTreeSet;
 
@@ -76,6 +77,7 @@ fn address(
     match label.or_else(|| ready.lines.address(place)) {
         Some(address) => Ok(address),
         None => number(place).map_err(|reason| {
+            let place = visible::quoted(place);
             format!("{option} {place}: no symbol or line of an image has that name, and as a number it is {reason}")
         }),
     }

@@ -5,8 +5,9 @@ use super::run::{with_files, Halt, Ready, Task};
 use super::{say, say_json};
 use crate::arguments::{Reach as Asked, Run, Terms};
 use crate::reach::{page, rows, text, value, Account, Never};
-use crate::{complain, handover, report, Status};
+use crate::{complain, handover, json, report, Status};
 use lent::PCC;
+use serde_json::Value;
 
 pub fn obey(asked: Asked) -> Result<Status, String> {
     let run = Run {
@@ -31,6 +32,10 @@ fn judge(task: &Task, at: Option<&str>, nevers: &[Never]) -> Result<Status, Stri
         .try_for_each(|never| never.check(&board.sheet))?;
     let mut ready = match task.ready() {
         Err(Halt::Outside(outside)) => return task.outside(&outside),
+        Err(Halt::Refused(refusal, state)) => {
+            refused_as_json(task, || json::refused_state(refusal, &state))?;
+            return Err(report::refused(refusal, &state));
+        }
         Err(halt) => return Err(halt.said()),
         Ok(ready) => ready,
     };
@@ -38,9 +43,21 @@ fn judge(task: &Task, at: Option<&str>, nevers: &[Never]) -> Result<Status, Stri
     let at = at.map(|place| even_place("--at", place, &ready));
     let at = at.transpose()?;
     let steps = at.map(|at| handover::arrive(&mut ready.state, at, task.asked.terms.steps));
-    let steps = steps.transpose()?;
+    let steps = match steps.transpose() {
+        Ok(steps) => steps,
+        Err(reason) => {
+            refused_as_json(task, || json::not_reached(&reason))?;
+            return Err(reason);
+        }
+    };
     let state = &ready.state;
-    let rows = rows(state, &board.sheet).map_err(|refusal| report::refused(refusal, state))?;
+    let rows = match rows(state, &board.sheet) {
+        Ok(rows) => rows,
+        Err(refusal) => {
+            refused_as_json(task, || json::refused_state(refusal, state))?;
+            return Err(report::refused(refusal, state));
+        }
+    };
     let account = Account {
         at: state.capability(PCC).address,
         steps,
@@ -48,6 +65,14 @@ fn judge(task: &Task, at: Option<&str>, nevers: &[Never]) -> Result<Status, Stri
         nevers,
     };
     conclude(task, &ready, &account)
+}
+
+/// Why there is no answer, where it is a program that asks.
+fn refused_as_json(task: &Task, value: impl FnOnce() -> Value) -> Result<(), String> {
+    match task.asked.json {
+        true => say_json(&value()),
+        false => Ok(()),
+    }
 }
 
 /// Says the answer, and writes its page. What cannot be said has its page nevertheless.

@@ -7,7 +7,7 @@ use crate::account::Account;
 use crate::arguments::Run;
 use crate::capability_text::count;
 use crate::console::{Console, Said};
-use crate::drive::{self, Outcome, Plan, Refused};
+use crate::drive::{self, Outcome, Plan, Refused, Watcher};
 use crate::edition::Edition;
 use crate::image::lines::Lines;
 use crate::image::{self, Image, Segment, DEFAULT_START};
@@ -21,10 +21,14 @@ use crate::proved::{self, Counts, Refusal, MOST_STEPS};
 use crate::save::Place;
 use crate::sheet::Sheet;
 use crate::stack::Stack;
+use crate::trace::{self, Before};
 use crate::trial::Trial;
-use crate::{colour, complain, file, json, report, revoke, state_file, stop, trace, Status};
-use indicatif::{ProgressBar, ProgressStyle};
+use crate::{
+    colour, complain, file, json, progress, report, revoke, state_file, stop, visible, Status,
+};
+use indicatif::ProgressBar;
 use lent::{State, Window, COMPARE, TIME};
+use std::cell::RefCell;
 use std::io::Write;
 use std::path::{Path, PathBuf};
 
@@ -45,6 +49,7 @@ pub fn run(asked: Run) -> Result<Status, String> {
             Err(Halt::Bad(reason)) => return Err(reason),
             Ok(ready) => ready,
         };
+        ready.notes.iter().for_each(|note| complain(note));
         let look = Look::of(&asked, &ready)?;
         let map = task.board.map(|board| &board.sheet);
         let trial = Trial::of(&asked.terms, &ready, map)?;
@@ -56,7 +61,6 @@ pub fn run(asked: Run) -> Result<Status, String> {
         } else {
             say(&labels_told(&asked, labelled, task.fits))
         };
-        ready.notes.iter().for_each(|note| complain(note));
         let status = task.carry_out(ready, look, &trial, (place, signature))?;
         told.map(|()| status)
     })
@@ -226,7 +230,7 @@ pub struct Ready {
     pub stack: Option<Stack>,
     pub labels: Vec<(String, u32)>,
     pub lines: Lines,
-    /// What the images' headers say of another core.
+    /// What is odd about the images: headers of another core, lost symbols, a start where nothing is.
     pub notes: Vec<String>,
 }
 
@@ -333,7 +337,7 @@ pub fn fits<'a>(board: Option<&'a Board>, images: &'a [Labelled]) -> Vec<Beside<
 pub fn labels_told(asked: &Run, labelled: &[Labelled], fits: &[Beside]) -> String {
     let Some(board) = &asked.map else {
         let unchecked = |image: &Labelled| {
-            let file = image.path.display();
+            let file = visible::name(image.path);
             format!("{file} has a map sheet; without a board's (--map) nothing was checked.\n")
         };
         return labelled.iter().map(unchecked).collect();
@@ -393,6 +397,10 @@ fn start(asked: &Run, files: &[&[u8]], map: Option<&Sheet>) -> Result<(State, Im
     if !fetch::is_place(entry) {
         let odd = "odd, and an instruction's address is even";
         return Err(format!("the image's start, {entry:08x}, is {odd}").into());
+    }
+    if !images.segments.is_empty() && !images.segments.iter().any(|part| part.holds(entry)) {
+        let note = format!("the program starts at {entry:08x}, where nothing is loaded");
+        images.notes.push(note);
     }
     let size = asked.size.unwrap_or(map_size).min(MOST_SIZE);
     let mut state = State::reset(start, vec![0; size as usize], entry);
@@ -470,11 +478,20 @@ fn drive(
     last: Option<&mut Last>,
     (look, trial): (&mut Look, &Trial),
 ) -> Result<(Outcome, Option<Said>), Refused> {
-    let bar = progress(asked);
-    let mut watch = watch(asked, &bar, last);
-    let show = |text: &str| match asked.json {
-        true => (),
-        false => bar.suspend(|| say_bytes(text.as_bytes()).unwrap_or(())),
+    let (bar, heard) = (bar_of(asked), RefCell::default());
+    let mut watch = Shown {
+        asked,
+        bar: &bar,
+        last,
+        number: 0,
+        before: None,
+        heard: &heard,
+    };
+    // Between lines of a trace, letters wait until their line is whole.
+    let show = |text: &str| match (asked.json, asked.trace) {
+        (true, _) => (),
+        (_, true) => heard.borrow_mut().push_str(text),
+        _ => bar.suspend(|| say_bytes(text.as_bytes()).unwrap_or(())),
     };
     let mut console = trial.console.map(|address| Console::new(address, &show));
     let mut hear = console
@@ -484,6 +501,7 @@ fn drive(
         breaks: std::mem::take(&mut look.breaks),
         cover: look.cover.as_mut(),
         stored: hear.as_mut().map(|hear| hear as &mut dyn FnMut(&State)),
+        leaves: asked.state.is_some(),
         ..trial.plan(&mut watch)
     };
     if asked.trace {
@@ -491,39 +509,62 @@ fn drive(
     }
     let outcome = drive::run(&mut ready.state, plan);
     bar.finish_and_clear();
-    outcome.map(|outcome| (outcome, console.map(Console::said)))
+    let said = console.map(Console::said);
+    tell_heard(&heard);
+    outcome.map(|outcome| (outcome, said))
 }
 
 /// Who is shown each call of a run, keeps states on the way and shows a line a step, or how far it has come.
-fn watch<'a>(
+struct Shown<'a> {
     asked: &'a Run,
     bar: &'a ProgressBar,
-    mut last: Option<&'a mut Last>,
-) -> impl FnMut(&State, &State, Counts) -> bool + 'a {
-    let mut number = 0;
-    move |before, after, made| {
-        if let Some(last) = &mut last {
-            last.see(number, before);
+    last: Option<&'a mut Last>,
+    number: u64,
+    before: Option<Before>,
+    /// What the program said that is not shown yet.
+    heard: &'a RefCell<String>,
+}
+
+impl Watcher for Shown<'_> {
+    fn before(&mut self, state: &State) {
+        if let Some(last) = &mut self.last {
+            last.see(self.number, state);
         }
-        number += made.steps();
-        if asked.trace {
-            let line = trace::line(number, before, after, made);
-            return tell(asked.json, &line) || outputs(asked).next().is_some();
-        }
-        bar.set_position(number);
-        true
+        self.before = self.asked.trace.then(|| Before::of(state));
+    }
+
+    fn after(&mut self, state: &State, made: Counts) -> bool {
+        self.number += made.steps();
+        self.bar.set_position(self.number);
+        let Some(before) = self.before.take() else {
+            return true;
+        };
+        let line = trace::line(self.number, &before, state, made);
+        let told = tell(self.asked.json, &line) && tell_heard(self.heard);
+        told || outputs(self.asked).next().is_some()
     }
 }
 
-/// A bar on standard error for long runs; it draws nothing where that is no terminal.
-fn progress(asked: &Run) -> ProgressBar {
+/// The bar of a long run.
+fn bar_of(asked: &Run) -> ProgressBar {
     if asked.trace || asked.terms.steps <= MOST_STEPS {
         return ProgressBar::hidden();
     }
-    let form = "{elapsed_precise} {wide_bar} {human_pos} of {human_len} steps, {eta} left";
-    let style = ProgressStyle::with_template(form);
-    let style = style.unwrap_or_else(|_| ProgressStyle::default_bar());
-    ProgressBar::new(asked.terms.steps).with_style(style)
+    progress::bar(asked.terms.steps, "steps")
+}
+
+/// The lines that a program has said whole, told apart from those of the trace, and whether they were written.
+fn tell_heard(heard: &RefCell<String>) -> bool {
+    let mut heard = heard.borrow_mut();
+    let whole = heard.rfind('\n').map_or(0, |end| end + 1);
+    let lines: Vec<String> = heard
+        .drain(..whole)
+        .as_str()
+        .lines()
+        .map(str::to_string)
+        .collect();
+    let mut lines = lines.iter();
+    lines.all(|line| tell(false, &format!("{:>8}  console   {line}", "")))
 }
 
 /// A line of the trace, and whether it was written: whoever closes the output does not want the

@@ -1,11 +1,12 @@
 //! `bench sheet`: map sheets checked and compared.
 
+use super::run::{self, Halt};
 use super::{refused_sheet, say, say_json};
-use crate::arguments::{SheetCheck, SheetCommand, SheetCompare};
+use crate::arguments::{Run, SheetCheck, SheetCommand, SheetCompare};
 use crate::capability_text::count;
 use crate::proved::sheets::{differing, Record, Which, BAD, SECOND_BAD};
 use crate::sheet::{self, letters, Bad, Sheet};
-use crate::{file, json, Status};
+use crate::{file, json, visible, Status};
 use std::path::Path;
 
 pub fn obey(command: &SheetCommand) -> Result<Status, String> {
@@ -24,21 +25,28 @@ fn shown(region: &Record) -> String {
 fn checked(asked: &SheetCheck) -> Result<Status, String> {
     match sheet::of(&file::read(&asked.sheet)?) {
         Err(bad) => refused_sheet(BAD, &asked.sheet, &bad, asked.json),
-        Ok(sheet) if asked.json => {
-            say_json(&json::sheet(&sheet.regions))?;
-            Ok(Status::Ran)
-        }
         Ok(sheet) => {
-            say(&good(&asked.sheet, &sheet))?;
+            let refused = refused_as_board(&sheet);
+            match asked.json {
+                true => say_json(&json::sheet(&sheet.regions, refused.as_deref()))?,
+                false => say(&good(&asked.sheet, &sheet, refused.as_deref()))?,
+            }
             Ok(Status::Ran)
         }
     }
 }
 
-/// What is said of a good sheet: how many regions, and each of them.
-fn good(path: &Path, sheet: &Sheet) -> String {
+/// Why no run takes a sheet as its board, if none does: the machine is asked, without an image. A label need not be a board.
+fn refused_as_board(sheet: &Sheet) -> Option<String> {
+    run::ready(&Run::default(), &[], Some(sheet))
+        .err()
+        .map(Halt::said)
+}
+
+/// What is said of a good sheet: how many regions, each of them, and that it is no board where it is none.
+fn good(path: &Path, sheet: &Sheet, refused: Option<&str>) -> String {
     let regions = count(sheet.regions.len() as u64, "region");
-    let mut text = format!("{}: a good sheet, {regions}\n\n", path.display());
+    let mut text = format!("{}: a good sheet, {regions}\n\n", visible::name(path));
     for region in &sheet.regions {
         let bytes = count(region.length.into(), "byte");
         text.push_str(&format!(
@@ -47,7 +55,10 @@ fn good(path: &Path, sheet: &Sheet) -> String {
             shown(region)
         ));
     }
-    text
+    match refused {
+        Some(refused) => format!("{text}\nNo run takes it as its board: {refused}\n"),
+        None => text,
+    }
 }
 
 fn compared(asked: &SheetCompare) -> Result<Status, String> {
@@ -91,7 +102,7 @@ fn find<'a>(sheet: &'a Sheet, name: &str) -> Option<&'a Record> {
 
 /// What is said of two good sheets: each name that differs, with what the one and the other has.
 fn difference(asked: &SheetCompare, pairs: &[Pair]) -> String {
-    let (first, second) = (asked.first.display(), asked.second.display());
+    let (first, second) = (visible::name(&asked.first), visible::name(&asked.second));
     if pairs.is_empty() {
         return format!("{first} and {second} have the same regions.\n");
     }

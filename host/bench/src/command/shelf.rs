@@ -11,8 +11,7 @@ use crate::save::Place;
 use crate::shelf::table::{self, Counted};
 use crate::shelf::{own, work, Done, Results, Shelf};
 use crate::trial::Trial;
-use crate::{complain, file, stop, Status};
-use indicatif::{ProgressBar, ProgressStyle};
+use crate::{complain, file, progress, stop, visible, Status};
 use std::fs;
 use std::io::{BufWriter, Error, ErrorKind, Write};
 use std::path::{Path, PathBuf};
@@ -36,7 +35,7 @@ pub fn obey(asked: &Asked) -> Result<Status, String> {
     if names.is_empty() {
         return Err(format!(
             "{}: there is no image in it",
-            asked.folder.display()
+            visible::name(&asked.folder)
         ));
     }
     let index = asked
@@ -47,7 +46,7 @@ pub fn obey(asked: &Asked) -> Result<Status, String> {
     let kept = kept(asked)?;
     let pages = asked.report.as_deref().map(index_of);
     let results = Results::of(shelf.key()?, &names, kept.as_deref(), pages.as_deref())?;
-    let bar = progress(names.len() as u64);
+    let bar = progress::bar(names.len() as u64, "images");
     stop::heed();
     let done = work(&shelf, &names, results, jobs(asked), &bar);
     bar.finish_and_clear();
@@ -116,7 +115,7 @@ fn jobs(asked: &Asked) -> usize {
 
 /// The folder of the pages, made where it is missing, and the place of the page of all.
 fn index(folder: &Path, asked: &Asked) -> Result<Place, String> {
-    let told = |error| format!("{}: {}", folder.display(), file::why(&error));
+    let told = |error| format!("{}: {}", visible::name(folder), file::why(&error));
     fs::create_dir_all(folder).map_err(told)?;
     apart(folder, asked)?;
     Place::of_page(&index_of(folder), own::is_index)?.tried()
@@ -147,18 +146,10 @@ fn apart(folder: &Path, asked: &Asked) -> Result<(), String> {
     match same {
         true => Err(format!(
             "{}: the images are there, and nothing is written among them",
-            folder.display()
+            visible::name(folder)
         )),
         false => Ok(()),
     }
-}
-
-/// A bar on standard error; it draws nothing where that is no terminal.
-fn progress(images: u64) -> ProgressBar {
-    let form = "{elapsed_precise} {wide_bar} {human_pos} of {human_len} images, {eta} left";
-    let style = ProgressStyle::with_template(form);
-    let style = style.unwrap_or_else(|_| ProgressStyle::default_bar());
-    ProgressBar::new(images).with_style(style)
 }
 
 /// Says what came of the shelf, and writes the page of all.

@@ -5,7 +5,7 @@ mod looked;
 use super::*;
 use crate::probe;
 use crate::proved::{self, UNSOUND};
-use crate::samples::{coded, counting, loading, plan, storing};
+use crate::samples::{coded, counting, loading, plan, storing, After};
 use crate::samples::{COUNT, EBREAK, JUMP_TO_ITSELF, LOADED, LOOP, NOP, START, STORED};
 use lent::{Capability, Range, COMPARE, EXECUTABLE_ROOT, MCAUSE, MTCC};
 use lent::{MIE, MSTATUS, PCC, TIME, TIMER_INTERRUPT};
@@ -107,7 +107,7 @@ fn a_run_through_traps_counts_them_all() {
     let mut state = counting(10, EBREAK);
     let outcome = driven(&mut state, 5_000, true);
     assert_eq!(outcome.counts, counts(20, 4_980));
-    assert_eq!(outcome.end, End::Stuck);
+    assert_eq!(outcome.end, End::Stuck(1));
 }
 
 // The handler is the last word, which a program without the trap comes to by itself.
@@ -143,10 +143,10 @@ fn a_program_that_stands_still_where_its_end_is_not_has_not_ended() {
 fn the_watcher_sees_every_step() {
     let mut state = counting(100, EBREAK);
     let mut seen = 0;
-    let mut watch = |_: &State, _: &State, made: Counts| {
+    let mut watch = After(|made: Counts| {
         seen += made.steps();
         true
-    };
+    });
     let mut plan = Plan::new(u64::MAX, &mut watch);
     plan.call = 1;
     run(&mut state, plan).unwrap();
@@ -157,10 +157,10 @@ fn the_watcher_sees_every_step() {
 fn a_run_that_is_no_longer_wanted_ends() {
     let mut state = counting(100, EBREAK);
     let mut seen = 0;
-    let mut watch = |_: &State, _: &State, _: Counts| {
+    let mut watch = After(|_: Counts| {
         seen += 1;
         seen < 5
-    };
+    });
     let mut plan = Plan::new(u64::MAX, &mut watch);
     plan.call = 1;
     let outcome = run(&mut state, plan).unwrap();
@@ -295,11 +295,11 @@ fn such_a_run_ends_a_million_steps_on_or_at_a_sweep() {
 #[test]
 fn steps_that_are_only_shown_are_not_made_again_without_end() {
     let (mut shown, mut calls, mut seen) = (0, 0, 0);
-    let mut watch = |_: &State, _: &State, made: Counts| {
+    let mut watch = After(|made: Counts| {
         (calls, seen) = (calls + 1, seen + made.steps());
         shown += u64::from(made.steps() == 1);
         true
-    };
+    });
     let mut asked = Plan::new(300_000, &mut watch);
     asked.call = 1;
     let mut state = loading(&[], counting(3_000_000, EBREAK));
@@ -319,10 +319,10 @@ fn steps_that_are_only_shown_are_not_made_again_without_end() {
 fn steps_are_shown_again_from_the_next_start_on() {
     let mut state = loading(&[], counting(20_000, CLEAR));
     let mut lines = Vec::new();
-    let mut watch = |_: &State, _: &State, made: Counts| {
+    let mut watch = After(|made: Counts| {
         lines.push(made.steps());
         true
-    };
+    });
     let mut asked = Plan::new(100_000, &mut watch);
     (asked.call, asked.through_traps) = (1, true);
     state.regs[MSTATUS] = 0;

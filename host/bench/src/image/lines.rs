@@ -1,6 +1,7 @@
 //! The source lines of an image's words, by the ELF file's DWARF. A file without them, or with ones that are not whole, has
 //! none.
 
+use crate::visible::quoted;
 use addr2line::Context;
 use gimli::{Dwarf, EndianSlice, LittleEndian, SectionId};
 use std::path::Path;
@@ -24,7 +25,7 @@ impl Lines {
         let mut lines = self.0.iter();
         let line = lines.find(|line| line.start <= address && address < line.end)?;
         let file = Path::new(&line.file).file_name()?.to_str()?;
-        Some(format!("{}:{}", file.escape_default(), line.number))
+        Some(format!("{}:{}", quoted(file), line.number))
     }
 
     /// The lowest address of a line that is given as FILE:LINE, FILE as much of its path's end as is wanted.

@@ -8,11 +8,10 @@ use crate::samples::{counting, loading, EBREAK, NOP};
 /// The last lines of a run by calls, and how many steps it made.
 fn last_of(start: &State, wanted: u64, sweep: Option<u64>) -> (Vec<String>, u64) {
     let mut state = start.clone();
-    let (mut last, mut made) = (Last::new(start, wanted, sweep), 0);
-    let mut watch = |before: &State, _: &State, counts: Counts| {
-        last.see(made, before);
-        made += counts.steps();
-        true
+    let mut last = Last::new(start, wanted, sweep);
+    let mut watch = Seen {
+        last: &mut last,
+        made: 0,
     };
     let plan = Plan {
         sweep,
@@ -28,24 +27,40 @@ fn loading_last(words: u32, rounds: u32) -> State {
     loading(&before, counting(rounds, EBREAK))
 }
 
+/// The lines of a trace.
+#[derive(Default)]
+struct Traced {
+    before: Option<Before>,
+    lines: Vec<String>,
+}
+
+impl Watcher for Traced {
+    fn before(&mut self, state: &State) {
+        self.before = Some(Before::of(state));
+    }
+
+    fn after(&mut self, state: &State, made: Counts) -> bool {
+        let before = self.before.take().expect("a state before");
+        let number = self.lines.len() as u64 + 1;
+        self.lines.push(trace::line(number, &before, state, made));
+        true
+    }
+}
+
 /// The trace of a run: its calls make one step each.
 fn trace(start: &State) -> Vec<String> {
-    let mut lines = Vec::new();
-    let mut watch = |before: &State, after: &State, counts: Counts| {
-        lines.push(trace::line(lines.len() as u64 + 1, before, after, counts));
-        true
-    };
-    let mut plan = Plan::new(u64::MAX, &mut watch);
+    let mut traced = Traced::default();
+    let mut plan = Plan::new(u64::MAX, &mut traced);
     plan.call = 1;
     drive::run(&mut start.clone(), plan).unwrap();
-    lines
+    traced.lines
 }
 
 /// All lines of a run, step by step.
 fn stepped(start: &State, steps: u64) -> Vec<String> {
     let mut state = start.clone();
     let step = |number| {
-        let before = state.clone();
+        let before = Before::of(&state);
         let counts = proved::run(&mut state, 1).unwrap();
         trace::line(number, &before, &state, counts)
     };

@@ -8,16 +8,15 @@ use crate::command::fit::{Beside, Labelled};
 use crate::command::look::even_place;
 use crate::command::run::{ran_page, ready, Halt, Ready};
 use crate::console::Console;
-use crate::drive::{self, Outcome, Plan, Refused};
+use crate::drive::{self, Nobody, Outcome, Plan, Refused};
 use crate::image;
-use crate::last::Last;
+use crate::last::{Last, Seen};
 use crate::page::{self, Answer, Source, Subject, LAST};
 use crate::payload::Outside;
-use crate::proved::Counts;
 use crate::reach::{self, rows};
 use crate::sheet::Bad;
 use crate::trial::Trial;
-use crate::{handover, report, verdict};
+use crate::{handover, report, verdict, visible};
 use lent::State;
 use std::panic::{catch_unwind, AssertUnwindSafe};
 use std::path::{Path, PathBuf};
@@ -157,7 +156,14 @@ impl Image<'_> {
         };
         let at = even_place("--handover", place, ready)?;
         let mut state = before.clone();
-        let steps = Some(handover::arrive(&mut state, at, self.shelf.terms.steps)?);
+        let terms = &self.shelf.terms;
+        let mut nobody = Nobody;
+        let plan = Plan {
+            through_traps: terms.through_traps,
+            sweep: terms.sweep,
+            ..Plan::new(terms.steps, &mut nobody)
+        };
+        let steps = Some(handover::arrive_by(&mut state, at, plan)?);
         let rows = rows(&state, &self.shelf.board.sheet);
         let rows = rows.map_err(|refusal| report::refused(refusal, &state))?;
         row.take_reach(&reach::Account {
@@ -172,7 +178,7 @@ impl Image<'_> {
     /// What is said of the image, which does not name it again.
     fn unnamed(&self, said: String) -> String {
         let own = [self.shelf.folder.join(self.name), self.name.into()];
-        let own = own.map(|path| format!("{}: ", path.display()));
+        let own = own.map(|path| format!("{}: ", visible::name(&path)));
         let short = own.iter().find_map(|own| said.strip_prefix(own));
         short.map(str::to_string).unwrap_or(said)
     }
@@ -233,12 +239,7 @@ fn tried(
     trial: &Trial,
     last: &mut Last,
 ) -> Result<(Outcome, verdict::Judged), Refused> {
-    let mut made = 0;
-    let mut watch = |before: &State, _: &State, counts: Counts| {
-        last.see(made, before);
-        made += counts.steps();
-        true
-    };
+    let mut watch = Seen { last, made: 0 };
     let mut console = trial.console.map(|address| Console::new(address, &|_| ()));
     let mut hear = console
         .as_mut()

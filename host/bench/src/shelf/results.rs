@@ -6,6 +6,7 @@ use super::row::Row;
 use crate::file;
 use crate::page::digest;
 use crate::save::Place;
+use crate::visible;
 use std::collections::HashMap;
 use std::ffi::OsString;
 use std::io::Write;
@@ -77,7 +78,7 @@ impl Results {
         let bytes = file::read(path)?;
         let mut lines = bytes.split(|byte| *byte == b'\n');
         if lines.next() != Some(HEAD.as_bytes()) {
-            let name = path.display();
+            let name = visible::name(path);
             return Err(format!(
                 "{name}: it holds no results of a shelf, and is not written over"
             ));

@@ -85,6 +85,25 @@ pub struct Row {
     pub kept: Option<Kept>,
 }
 
+/// What an image counts as on its shelf: the first of these that holds, so that every image is counted once.
+#[derive(Clone, Copy, PartialEq, Eq, Debug)]
+pub enum Kind {
+    Misfit,
+    /// It could not be judged or run.
+    Bad,
+    /// A run from the handover on could do what none may.
+    Could,
+    Breaks,
+    Trapped,
+    Wrong,
+    /// The handover is not reached.
+    Missed,
+    Running,
+    /// All is well, but that there is no label to be judged by.
+    Unlabelled,
+    Good,
+}
+
 /// The most bytes of what an image said.
 const MOST_SAID: usize = 1 << 10;
 
@@ -128,7 +147,7 @@ impl Row {
         self.run = match outcome.end {
             End::Still | End::Exit => Ran::Ended,
             End::Steps | End::Break | End::Waits(_) | End::Astray | End::Stopped => Ran::Running,
-            End::Trap(_) | End::Stuck | End::Unhandled => Ran::Trapped,
+            End::Trap(_) | End::Stuck(_) | End::Unhandled => Ran::Trapped,
         };
         self.judge(account);
         self.retired = Some(outcome.counts.retired);
@@ -201,19 +220,23 @@ impl Row {
         self.why.push_str(why);
     }
 
-    /// Whether it fits by its label, its run is good, and it keeps to what was asked for.
-    pub fn is_good(&self) -> bool {
-        self.is(Verdict::Good)
+    pub fn kind(&self) -> Kind {
+        match (self.label, self.verdict, self.kept) {
+            (Label::Misfit, ..) => Kind::Misfit,
+            (_, None, _) => Kind::Bad,
+            (.., Some(Kept::Could)) => Kind::Could,
+            (_, Some(Verdict::Breaks), _) => Kind::Breaks,
+            (_, Some(Verdict::Trapped), _) => Kind::Trapped,
+            (_, Some(Verdict::Wrong), _) => Kind::Wrong,
+            (.., Some(Kept::Missed)) => Kind::Missed,
+            (_, Some(Verdict::Running | Verdict::Stopped), _) => Kind::Running,
+            (Label::None | Label::Bad, ..) => Kind::Unlabelled,
+            (Label::Fits, Some(Verdict::Good), _) => Kind::Good,
+        }
     }
 
     /// Whether all that is amiss is that it still runs.
     pub fn runs_on(&self) -> bool {
-        self.is(Verdict::Running)
-    }
-
-    /// Whether it fits by its label and keeps to what was asked for, and its run has a verdict.
-    fn is(&self, verdict: Verdict) -> bool {
-        let kept = self.kept.is_none_or(|kept| kept == Kept::Holds);
-        self.label == Label::Fits && kept && self.verdict == Some(verdict)
+        self.label == Label::Fits && self.kind() == Kind::Running
     }
 }

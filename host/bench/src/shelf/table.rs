@@ -1,16 +1,16 @@
 //! The rows of a shelf as text, CSV, JSON and a page, one row after the other.
 
-use super::row::{Kept, Label, Ran, Row};
+use super::row::{Kept, Kind, Label, Ran, Row};
 use super::{page_name, Results, Shelf};
 use crate::capability_text::{count, grouped};
 use crate::page::{filled, Source};
 use crate::verdict::Verdict;
-use crate::visible::{shortened, visible};
+use crate::visible::{self, quoted, shortened};
 use crate::Status;
 use serde_json::{json, Value};
 use std::io::{Error, Write};
 
-/// How many images are what. Each that was run has one verdict, whatever its label.
+/// How many images are what. Each is counted once.
 #[derive(Clone, Copy, Default, PartialEq, Eq, Debug)]
 pub struct Counted {
     pub images: u64,
@@ -41,22 +41,28 @@ impl Counted {
             ..Counted::default()
         };
         for row in results.rows() {
-            let is = |verdict| u64::from(row.verdict == Some(verdict));
             counted.images += 1;
-            counted.good += u64::from(row.is_good());
-            counted.misfits += u64::from(row.label == Label::Misfit);
-            counted.trapped += is(Verdict::Trapped);
-            counted.breaks += is(Verdict::Breaks);
-            counted.wrong += is(Verdict::Wrong);
-            counted.running += is(Verdict::Running);
-            counted.bad += u64::from(row.run == Ran::No && row.label != Label::Misfit);
-            counted.unlabelled += u64::from(row.label == Label::None);
-            counted.runs_on += u64::from(row.runs_on());
             counted.judged += u64::from(row.kept.is_some());
-            counted.could += u64::from(row.kept == Some(Kept::Could));
-            counted.missed += u64::from(row.kept == Some(Kept::Missed));
+            counted.runs_on += u64::from(row.runs_on());
+            *counted.of_kind(row.kind()) += 1;
         }
         counted
+    }
+
+    /// How many images are of a kind; all kinds together are all images.
+    fn of_kind(&mut self, kind: Kind) -> &mut u64 {
+        match kind {
+            Kind::Misfit => &mut self.misfits,
+            Kind::Bad => &mut self.bad,
+            Kind::Breaks => &mut self.breaks,
+            Kind::Trapped => &mut self.trapped,
+            Kind::Wrong => &mut self.wrong,
+            Kind::Could => &mut self.could,
+            Kind::Missed => &mut self.missed,
+            Kind::Running => &mut self.running,
+            Kind::Unlabelled => &mut self.unlabelled,
+            Kind::Good => &mut self.good,
+        }
     }
 
     /// Whether every image fits and its run is good.
@@ -187,7 +193,7 @@ fn why(row: &Row) -> String {
 
 /// The table for people.
 pub fn text(out: &mut impl Write, results: &Results) -> Result<(), Error> {
-    let letters = results.rows().map(|row| visible(&row.file).chars().count());
+    let letters = results.rows().map(|row| quoted(&row.file).chars().count());
     let width = letters.max().unwrap_or(0).clamp(5, MOST_LETTERS);
     let counted = Counted::of(results);
     // A column of its own where a handover was asked for.
@@ -207,7 +213,7 @@ pub fn text(out: &mut impl Write, results: &Results) -> Result<(), Error> {
     )?;
     for row in results.rows() {
         let (file, steps) = (
-            visible(&row.file),
+            quoted(&row.file),
             row.retired.map_or(String::new(), grouped),
         );
         let line = format!(
@@ -216,7 +222,7 @@ pub fn text(out: &mut impl Write, results: &Results) -> Result<(), Error> {
             run(&row),
             stack(&row),
             column(&may_write(&row)),
-            visible(&why(&row)),
+            visible::said(&why(&row).replace('\n', "\\n")),
         );
         writeln!(out, "{}", line.trim_end())?;
     }
@@ -237,7 +243,8 @@ pub fn json(out: &mut impl Write, results: &Results) -> Result<(), Error> {
     write!(out, "{{\n  \"rows\": [")?;
     for (place, row) in results.rows().enumerate() {
         let comma = if place == 0 { "" } else { "," };
-        write!(out, "{comma}\n    {}", serde_json::to_string(&row)?)?;
+        let row = serde_json::to_string(&row)?;
+        write!(out, "{comma}\n    {}", visible::json(&row))?;
     }
     let counted = Counted::of(results);
     let counts = json!({
@@ -276,8 +283,8 @@ pub fn page(out: &mut impl Write, results: &Results, shelf: &Shelf) -> Result<()
     let counted = Counted::of(results);
     let judged = counted.judged > 0;
     let (kind, said) = counted.verdict();
-    let folder = shortened(&shelf.folder.display().to_string());
-    let board = shortened(&shelf.board_name.display().to_string());
+    let folder = shortened(&visible::plain_name(&shelf.folder));
+    let board = shortened(&visible::plain_name(&shelf.board_name));
     let title = format!("{folder} on {board}");
     let head = json!({
         "title": title, "kind": kind, "head": said, "summary": counted.said(),

@@ -63,7 +63,7 @@ pub struct Symbol<'a> {
 }
 
 /// A file with a symbol table, the names for it, and the headers of these two sections at its end.
-fn with_symbols(mut file: Vec<u8>, symbols: &[Symbol]) -> Vec<u8> {
+pub fn with_symbols(mut file: Vec<u8>, symbols: &[Symbol]) -> Vec<u8> {
     const FUNCTION: u8 = 2;
     let (mut table, mut names) = (vec![0; 16], vec![0]);
     for symbol in symbols {
