@@ -83,7 +83,14 @@ fn outside_refusal(regs: &[u32], start: u32, mem: &[u8], tags: &[u8], q: Query, 
 
 // The first place from one on whose capability counts and that is no granule of the range. Those are one row of places: where the first find is one
 // of them, the search goes on behind them all. Nothing is written.
-pub fn reach_outside(regs: &[u32], start: u32, mem: &[u8], tags: &[u8], q: Query, from: u32) -> ReachAnswer
+pub fn reach_outside(
+    regs: &[u32],
+    start: u32,
+    mem: &[u8],
+    tags: &[u8],
+    q: Query,
+    from: u32,
+) -> ReachAnswer
     ensures { λ r. ⌜ OutsidePromise start q from (state (now (regs .entry)) (now (mem .entry)) (now (tags .entry))) r ⌝ }
 {
     let no = outside_refusal(regs, start, mem, tags, q, from);
