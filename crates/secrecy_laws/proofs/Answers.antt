@@ -60,7 +60,7 @@ module _ (start : ℕ) (q : Query) (s : State) (answer : None start q s) where
       by-test (hidden g)
       (λ h.
       let b = both-true (leb (q .low) (start + g * granuleBytes)) (ltb (start + g * granuleBytes) (end q)) .0 h in
-      absurd (omega (arith, leb-true _ _ (b .0), ltb-true _ _ (b .1), z)))
+      absurd (omega (arith, leb-true (q .low) (start + g * granuleBytes) (b .0), ltb-true (start + g * granuleBytes) (end q) (b .1), z)))
       (λ h. h)
 
   module _ (some : q .length ≡ 0 → ⊥) where
@@ -100,13 +100,13 @@ module _ (start : ℕ) (q : Query) (s : State) (answer : None start q s) where
 
 module _ (start low length : ℕ) (s : State) (t : InType s) where
   -- the granules of the range are hidden
-  abbrev range : ℕ → Bool
+  abbrev pub range : ℕ → Bool
   range = inRange start (queryOf low length 0)
 
-  loading : Query
+  abbrev pub loading : Query
   loading = queryOf low length (2 ^ LD)
 
-  storing : Query
+  abbrev pub storing : Query
   storing = queryOf low length (2 ^ SD)
 
   -- none for the right to load: what is in the range makes no difference outside it

@@ -85,7 +85,7 @@ module _ (hidden : ℕ → Bool) where
 
     -- a visit of the sweeper: tags stay or go, so what is held after was held before
     module _ (board : Board) (revoked : List ℕ) (g : ℕ) where
-      after : List ℕ
+      abbrev after : List ℕ
       after = tagsAfter board revoked (a .mem) (a .tags) g
 
       visit-held : (c : Capability) → HeldOutside hidden (state (a .regs) (a .mem) after) c → HeldOutside hidden a c
@@ -136,7 +136,7 @@ module _ (hidden : ℕ → Bool) where
     none : ((g : ℕ) → hidden g ≡ false) → Secret a start
     unread : StartOutside hidden a → Unread hidden a start → Secret a start
 
-  secret-clear : (board : Board) (revoked : List ℕ) (a : State) → GoodState board revoked a → Secret a (board .start) → Clear hidden board revoked a
+  pub secret-clear : (board : Board) (revoked : List ℕ) (a : State) → GoodState board revoked a → Secret a (board .start) → Clear hidden board revoked a
   secret-clear board revoked a good (none f) = none-hidden f
   secret-clear board revoked a good (unread h u) = unread-clear hidden board revoked a good h u
 
@@ -224,8 +224,10 @@ module _ (hidden : ℕ → Bool) where
       unfolding runAfter
       run-stored n x k =
           let z = k .made in
+          let p = eq-eqb (refusalOf n board revoked a) 0 z in
+          let q = eq-eqb (refusalOf n board revoked b) 0 (sym (refusal-alike hidden a b alike n board revoked) ∙ z) in
           let e : k .before + suc (n - suc (k .before)) ≡ n = omega (arith, k .is-one) in
-          rw (z, ← (refusal-alike hidden a b alike n board revoked), ← (k .is-next))
+          rw (p, q, ← (k .is-next))
           (rw e at (stored-clear-on hidden board revoked a b alike (clear-of n z) (good-for board revoked a n z) (k .before) (n - suc (k .before))))
 
     -- a visit of the sweeper

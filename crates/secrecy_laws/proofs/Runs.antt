@@ -56,7 +56,7 @@ reads-origin o c address inside r =
       to = omega (arith, inside .region .to, r .to);
     }
 
-abbrev AllUnread : (hidden : ℕ → Bool) → State → (start : ℕ) → Type 0
+abbrev pub AllUnread : (hidden : ℕ → Bool) → State → (start : ℕ) → Type 0
 AllUnread hidden t start = (c : Capability) → Held t c → (i : ℕ) → hidden (i / granuleBytes) ≡ true → Reads c (start + i) → ⊥
 
 all-stays : (hidden : ℕ → Bool) (b a : State) (start : ℕ) → NoGain b a → AllUnread hidden b start → AllUnread hidden a start
@@ -66,10 +66,10 @@ all-stays hidden b a start g unread c held i h r =
 
 module _ (hidden : ℕ → Bool) (board : Board) (revoked : List ℕ) where
   -- good, sound, and nothing held may read what is hidden
-  record Shut (t : State) : Type 0 where
-    good : GoodState board revoked t
-    starts : Start t
-    unread : AllUnread hidden t (board .start)
+  pub record Shut (t : State) : Type 0 where
+    pub good : GoodState board revoked t
+    pub starts : Start t
+    pub unread : AllUnread hidden t (board .start)
 
   shut-after : (t : State) → Shut t → Shut (stepOf board revoked t)
   unfolding iterate oneMore
