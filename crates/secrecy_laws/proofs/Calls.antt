@@ -348,6 +348,12 @@ module _ (hidden : ℕ → Bool) where
         where-differed = where-both a b (leftBy c a) (leftBy c b) _ _ (k .where-differed) (rest .where-differed);
       }
 
+  -- what they leave is secret still
+  pub secrets-after : (calls : List Call) (a : State) → EachStart (Secret a) calls → (start : ℕ) → Secret a start → Secret (left calls a) start
+  unfolding left EachStart
+  secrets-after [] a e start k = k
+  secrets-after (c ∷ cs) a e start k = secrets-after cs (leftBy c a) (secrets-stay a c (e .0) cs (e .1)) start (secret-stays a c (e .0) start k)
+
   -- what one of them stores is the same in both from then on
   pub calls-stored : (before : List Call) (c : Call) (after : List Call) (a b : State) → Alike hidden a b → EachStart (Secret a) (before ++ (c ∷ after))
       → (x : Stored) → Stores c (left before a) x → SameStored x (left (before ++ (c ∷ after)) a) (left (before ++ (c ∷ after)) b)

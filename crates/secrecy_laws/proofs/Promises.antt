@@ -10,7 +10,9 @@ use Rattle.state.specs.Lent.{State}
 use Rattle.state.specs.declared.Board.{Board}
 use Rattle.commit.specs.Commit.{retires}
 use Rattle.execution.specs.Step.{effectAt}
+use Rattle.watch.specs.declared.Watch.{Watch}
 use Rattle.machine.specs.Refusals.{refusalOf}
+use Rattle.machine.specs.Watching.{watchLeft}
 use Rattle.machine.specs.Run.{stepRefusal, stepAnswer, stepNumber, stepRetired, stepTrapped}
 use Rattle.machine.specs.Run.{runAnswer, runNumber, runRetired, runTrapped, ranFrom}
 use Rattle.machine.specs.declared.StepAnswer.the-variants as StepAnswer
@@ -24,7 +26,8 @@ use Rattle.secrecy_laws.specs.Calls.{Call, step, run, visit, Answer, to-
 use Rattle.secrecy_laws.specs.Calls.{EachStart, callsOf, toldBy}
 use Rattle.secrecy_laws.specs.Secrecy.{SecrecyClaim, NoGainClaim}
 use Rattle.secrecy_laws.proofs.Runs.{Clear, clear-alike, steps-clear, stored-clear-on, steps-gain-none-outside}
-use Rattle.secrecy_laws.proofs.Calls.{Secret, unread, secret-clear, each-start, calls-alike, calls-stored, calls-gain-none}
+use Rattle.secrecy_laws.proofs.Calls.{Secret, unread, secret-clear, watch-answered, each-start, calls-alike, secrets-after}
+use Rattle.secrecy_laws.proofs.Calls.{calls-stored, calls-gain-none}
 
 -- ---- one more call
 
@@ -119,6 +122,14 @@ promises-alike hidden a b alike x y r q same e =
       rw (k .is-left, l .is-left, ← same) (c .where-differed),
     )
 
+-- and the record of a run with a watch that is made next
+promises-watched : (hidden : ℕ → Bool) (a b : State) → Alike hidden a b → (x y : State) (r : Reached a x) (q : Reached b y) → callsOf r ≡ callsOf q
+    → EachStart (Secret hidden a) (callsOf r) → (n : ℕ) (board : Board) (revoked : List ℕ) → Secret hidden a (board .start) → (w : Watch)
+    → watchLeft n board revoked x w ≡ watchLeft n board revoked y w
+promises-watched hidden a b alike x y r q same e n board revoked k w =
+    watch-answered hidden x y (promises-alike hidden a b alike x y r q same e .1) board revoked
+    (rw (reached-kept r .is-left) (secrets-after hidden (callsOf r) a e (board .start) k)) n w
+
 -- ---- the claims
 
 -- of what is secret with each start that is asked
@@ -132,6 +143,8 @@ secret-claim hidden P a b alike f =
       after-calls = λ calls e. calls-alike hidden calls a b alike (each calls e);
       stored-over-in-calls = λ before c after e x k. calls-stored hidden before c after a b alike (each (before ++ (c ∷ after)) e) x k;
       after-promises = λ x y r q same e. promises-alike hidden a b alike x y r q same (each (callsOf r) e);
+      watches-told = λ x y r q same e n board revoked p w.
+          promises-watched hidden a b alike x y r q same (each (callsOf r) e) n board revoked (f (board .start) p) w;
     }
   where
     clear : (board : Board) (revoked : List ℕ) → stepRefusal board revoked a ≡ 0 → P (board .start) → Clear hidden board revoked b

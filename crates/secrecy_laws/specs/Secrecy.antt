@@ -4,12 +4,14 @@ use mathlib.Core.Bool.{Bool}
 use mathlib.Core.List.{List, _∷_, _++_}
 use mathlib.Core.Path.{_≡_}
 use Prim.Native.Nat.{ℕ, suc, _+_, _/_, _≤_, _<_}
+use Rattle.watch.specs.declared.Watch.{Watch}
 use Rattle.state.specs.Lent.{State}
 use Rattle.state.specs.Memory.{granuleBytes}
 use Rattle.state.specs.Effects.{Stored, nothing, bytes, whole, storedBy}
 use Rattle.state.specs.declared.Board.{Board}
 use Rattle.execution.specs.Step.{effectAt}
 use Rattle.machine.specs.Run.{stepRefusal, Ran, ranFrom}
+use Rattle.machine.specs.Watching.{watchLeft}
 use Rattle.authority_laws.specs.Gain.{Reached}
 use Rattle.secrecy_laws.specs.Outside.{SameByte, SameTag, SameGranule, Alike, WhereDiffered, NoGainOutside}
 use Rattle.secrecy_laws.specs.Calls.{Call, Stores, answers, left, EachStart, callsOf, toldBy}
@@ -50,6 +52,9 @@ pub record SecrecyClaim (hidden : ℕ → Bool) (Secret : ℕ → Type 0) (a b :
       → (x : Stored) → Stores c (left before a) x → SameStored x (left (before ++ (c ∷ after)) a) (left (before ++ (c ∷ after)) b)
   pub after-promises : (x y : State) (r : Reached a x) (q : Reached b y) → callsOf r ≡ callsOf q → EachStart Secret (callsOf r)
       → (toldBy r ≡ toldBy q) × Alike hidden x y × WhereDiffered a b x y
+  -- a run with a watch record leaves the same record of what was reached
+  pub watches-told : (x y : State) (r : Reached a x) (q : Reached b y) → callsOf r ≡ callsOf q → EachStart Secret (callsOf r)
+      → (n : ℕ) (board : Board) (revoked : List ℕ) → Secret (board .start) → (w : Watch) → watchLeft n board revoked x w ≡ watchLeft n board revoked y w
 
 -- And nothing comes out of hidden granules: what is held outside later is derived from what was held outside (law `no-gain-claim`).
 pub record NoGainClaim (hidden : ℕ → Bool) (Secret : ℕ → Type 0) (a : State) : Type 0 where
