@@ -1,4 +1,4 @@
--- Two states that are alike step alike for any number of steps: the registers come from what the blanked state holds, which gains no authority. Assumes nothing.
+-- Two states that are alike step alike for any number of steps: registers come from what the blanked state holds, which gains no authority. Assumes nothing.
 use mathlib.Core.Path.{_≡_, refl, sym, _∙_}
 use mathlib.Core.Bool.{Bool, true, false, true≢false}
 use mathlib.Core.List.{List}
@@ -29,7 +29,8 @@ use Rattle.secrecy_laws.specs.Outside.{Reads, StandsOutside, in-register
 use Rattle.secrecy_laws.specs.Outside.{SameTag, Alike, WhereDiffered}
 use Rattle.secrecy_laws.specs.Secrecy.{AlikeRuns, SameStored}
 use Rattle.secrecy_laws.proofs.Steps.{RegistersUnread, next-alike, step-tag, step-where-differed, step-alike, step-stored}
-use Rattle.secrecy_laws.proofs.Blank.{alike-itself, alike-turned, alike-both, held-alike, good-alike, blanked, blanked-alike, blanked-held, blanked-starts}
+use Rattle.secrecy_laws.proofs.Blank.{alike-itself, alike-turned, alike-both, held-alike, good-alike}
+use Rattle.secrecy_laws.proofs.Blank.{blanked, blanked-alike, blanked-held, blanked-starts}
 
 -- ---- where what differs lies
 
