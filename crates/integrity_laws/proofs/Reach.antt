@@ -93,7 +93,7 @@ module _ (q : Query) (c : Capability) where
             }
 
     -- and one that is apart, if it is tagged, does not count
-    of-apart : (c .tag ≡ 1 → Apart q c) → reachesInto q c ≡ false
+    pub of-apart : (c .tag ≡ 1 → Apart q c) → reachesInto q c ≡ false
     unfolding reachesInto tagged
     of-apart f =
         by-test (eqb (c .tag) 1)

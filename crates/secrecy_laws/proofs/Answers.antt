@@ -1,12 +1,13 @@
 -- What an answer of none outside a range says, with no hypothesis left over: what is held outside is sound and apart from what was asked. So secrecy and
 -- isolation have all that they ask. Assumes nothing.
 use mathlib.Core.Path.{_≡_, refl, sym, _∙_}
-use mathlib.Core.Bool.{Bool, true, false, _&&_, true≢false}
+use mathlib.Core.Bool.{Bool, true, false, not, true≢false}
+use mathlib.Core.List.{List}
 use Prim.Native.Nat.{ℕ, _+_, _-_, _*_, _/_, _%_, _^_, _≤_, _<_}
 use native.Mathlib.Omega.{arith}
 use lib.Dec.{eqb, leb, ltb}
 use lib.ListN.{length}
-use borrow.Author.Tests.{eqb-true, eqb-false, leb-true, ltb-true, le-leb, lt-leb}
+use borrow.Author.Tests.{eqb-true, eqb-false, leb-true, ltb-true, ltb-false, le-leb, lt-leb, not-true}
 use Rattle.words.proofs.Word.{by-test}
 use Rattle.metadata.specs.Rights.{SD, LD, Has}
 use Rattle.capability.specs.declared.Capability.{Capability}
@@ -14,26 +15,40 @@ use Rattle.capability_laws.proofs.Tests.{both-true}
 use Rattle.state.specs.Layout.{capabilityCount}
 use Rattle.state.specs.Lent.{State}
 use Rattle.state.specs.Memory.{granuleBytes}
-use Rattle.reach.specs.Reach.{end, reachesInto, capabilityIs, packedReach, queryOf}
-use Rattle.reach.specs.Outside.{inRange, isHidden, firstOutside, outsideRefusal, outsideAnswer}
+use Rattle.reach.specs.Reach.{end, reachesInto, placesIn, capabilityIs, passesIn, packedReach, queryOf, FirstPlace, none-passes, first-passes}
+use Rattle.reach.specs.Outside.{inRange, isHidden, passesOutside, firstOutside, outsideRefusal, outsideAnswer}
 use Rattle.reach.specs.declared.Query.{Query}
+use Rattle.reach.specs.declared.ReachAnswer.{ReachAnswer}
 use Rattle.reach.specs.declared.ReachAnswer.the-variants.{Nowhere}
 use Rattle.reach.proofs.Search.{register-is, granule-is}
-use Rattle.reach.proofs.Passing.{none-but-hidden, accepted-start, accepted-outside, nowhere-outside, packed-outside}
+use Rattle.reach.proofs.Laws.{empty-range}
+use Rattle.reach.proofs.Passing.{outside-is, none-but-hidden, accepted-start, accepted-outside, nowhere-outside, packed-outside}
 use Rattle.machine_laws.specs.Fits.{InType}
 use Rattle.integrity_laws.specs.Reach.{Apart, InRange}
-use Rattle.integrity_laws.proofs.Reach.{apart-of, only-right}
-use Rattle.secrecy_laws.specs.Outside.{StandsOutside, in-register, in-granule, HeldOutside, StartOutside, Unread, Alike}
+use Rattle.integrity_laws.proofs.Reach.{apart-of, of-apart, only-right}
+use Rattle.secrecy_laws.specs.Outside.{StandsOutside, in-register, in-granule, HeldOutside, StartOutside, Unread, NoGainOutside, Alike}
 use Rattle.secrecy_laws.specs.Secrecy.{SecrecyClaim}
 use Rattle.secrecy_laws.specs.Isolation.{ShutOutside, IsolationClaim}
-use Rattle.secrecy_laws.specs.Calls.{callsOf}
+use Rattle.secrecy_laws.specs.Calls.{Call, left, EachStart, callsOf}
 use Rattle.secrecy_laws.proofs.Calls.{Secret, none, unread, each-start}
-use Rattle.secrecy_laws.proofs.Promises.{secret-claim}
+use Rattle.secrecy_laws.proofs.Promises.{secret-claim, no-gain-claim}
 use Rattle.secrecy_laws.proofs.Isolation.{Kept, isolation-claim}
 
 -- not refused, and none found from the first place on
 abbrev None : (start : ℕ) → Query → State → Type 0
 None start q s = (outsideRefusal start q 0 s ≡ 0) × (firstOutside start q s 0 ≡ Nowhere)
+
+-- none counts outside: none is found
+no-place : (start : ℕ) (q : Query) (s : State)
+    → ((p : ℕ) → p < placesIn (length (s .mem)) → isHidden start q p ≡ false → passesIn q s p ≡ false) → firstOutside start q s 0 ≡ Nowhere
+unfolding passesOutside
+no-place start q s f = go (firstOutside start q s 0) (outside-is start q s 0 (omega arith))
+  where
+    go : (a : ReachAnswer) → FirstPlace (passesOutside start q s) 0 (placesIn (length (s .mem))) a → a ≡ Nowhere
+    go a (none-passes n) = refl
+    go a (first-passes p l u t n) =
+        let b = both-true (not (isHidden start q p)) (passesIn q s p) .0 t in
+        absurd (true≢false (sym (b .1) ∙ f p u (not-true (isHidden start q p) (b .0))))
 
 module _ (start : ℕ) (q : Query) (s : State) (answer : None start q s) where
   -- granules of the range are hidden
@@ -90,6 +105,33 @@ module _ (start : ℕ) (q : Query) (s : State) (answer : None start q s) where
     none-shut stores i m c k w =
         held-apart c k .no-address (λ j e. rw (only-right SD j (rw stores at e)) (w .stores)) (start + i) (w .from) (w .to) (m .from) (m .to)
 
+    -- what stands at a place that is not hidden stands outside
+    stands-at : (a : State) (p : ℕ) → p < placesIn (length (a .mem)) → isHidden start q p ≡ false → StandsOutside hidden a (capabilityIs a p)
+    stands-at a p l h =
+        by-test (ltb p capabilityCount)
+        (λ t. let u = ltb-true p capabilityCount t in in-register p u (register-is a p u))
+        (λ t.
+        let u = ltb-false p capabilityCount t in
+        in-granule (p - capabilityCount) (omega arith) (rw (le-leb capabilityCount p u) at h) (granule-is a p u))
+
+    -- where no authority is gained outside, the answer stays
+    none-stays : (a : State) → NoGainOutside hidden s a → firstOutside start q a 0 ≡ Nowhere
+    none-stays a g = no-place start q a (λ p l h. of-apart q (capabilityIs a p) some (λ t. apart (capabilityIs a p) (held p l h t)))
+      where
+        held : (p : ℕ) → p < placesIn (length (a .mem)) → isHidden start q p ≡ false → capabilityIs a p .tag ≡ 1 → HeldOutside hidden a (capabilityIs a p)
+        held p l h t = record { stands = stands-at a p l h; is-tagged = t }
+
+        apart : (c : Capability) → HeldOutside hidden a c → Apart q c
+        apart c k =
+            let d = g .derived c k in
+            let inside = d .is-inside in
+            record {
+              is-sound = g .sound c k;
+              no-address = λ all x u v y z.
+                  held-apart (d .origin) (d .is-held) .no-address (λ j h. inside .no-right j (all j h)) x (omega (arith, inside .region .from))
+                  (omega (arith, inside .region .to)) y z;
+            }
+
   -- all that a pair of calls needs
   pub none-secret : InType s → q .rights ≡ 2 ^ LD → Secret hidden s start
   none-secret t loads =
@@ -138,6 +180,17 @@ module _ (start low length : ℕ) (s : State) (t : InType s) where
               claim i m .after-promises a r i tt (each-start range (λ k. k ≡ start) (Kept range s i) (kept i m) (callsOf r) e);
         }
 
+  -- and both answers stay, with any rights of which there is none: the search need not be made again
+  none-after : None start loading s → (r : ℕ) → None start (queryOf low length r) s → (calls : List Call) → EachStart (λ k. k ≡ start) calls
+      → firstOutside start (queryOf low length r) (left calls s) 0 ≡ Nowhere
+  none-after loads r asked calls e =
+      by-test (eqb length 0)
+      (λ z. no-place start (queryOf low length r) (left calls s) (λ p l h. empty-range (queryOf low length r) _ (eqb-true length 0 z)))
+      (λ z. let more = eqb-false length 0 z in
+      none-stays start (queryOf low length r) s asked more (left calls s)
+      (no-gain-claim range s (none-starts start loading s loads more t) .after-calls calls
+      (each-start range (λ k. k ≡ start) (Unread range s) (λ k f. rw f (none-unread start loading s loads more refl)) calls e)))
+
   -- where `reach_outside` answers none, from the first place on
   pub outside-secrecy-claim : outsideAnswer start loading 0 s ≡ Nowhere → (b : State) → Alike range s b → SecrecyClaim range (λ k. k ≡ start) s b
   outside-secrecy-claim e b alike = none-secrecy (nowhere-outside start loading 0 s e) b alike
@@ -145,6 +198,10 @@ module _ (start low length : ℕ) (s : State) (t : InType s) where
   pub outside-isolation-claim : outsideAnswer start loading 0 s ≡ Nowhere → outsideAnswer start storing 0 s ≡ Nowhere
       → IsolationClaim (InRange loading start) (λ i k. k ≡ start) s
   outside-isolation-claim e f = none-isolation (nowhere-outside start loading 0 s e) (nowhere-outside start storing 0 s f)
+
+  pub outside-stays : outsideAnswer start loading 0 s ≡ Nowhere → (r : ℕ) → outsideAnswer start (queryOf low length r) 0 s ≡ Nowhere
+      → (calls : List Call) → EachStart (λ k. k ≡ start) calls → firstOutside start (queryOf low length r) (left calls s) 0 ≡ Nowhere
+  outside-stays e r f calls k = none-after (nowhere-outside start loading 0 s e) r (nowhere-outside start (queryOf low length r) 0 s f) calls k
 
   -- and where `oddersnow_reach_outside` answers 0
   pub c-secrecy-claim : packedReach (outsideAnswer start loading 0 s) ≡ 0 → (b : State) → Alike range s b → SecrecyClaim range (λ k. k ≡ start) s b
