@@ -9,8 +9,8 @@
  *   `rt staticlib call_lists` oddersnow_calls (target/staticlib/libcall_lists.a), `rt staticlib bench_api`
  *   oddersnow_step, oddersnow_run, oddersnow_run_watched, oddersnow_run_quick and oddersnow_sweep (target/staticlib/libbench_api.a),
  *   `rt staticlib sheet_api` the functions about sheets (target/staticlib/libsheet_api.a), `rt staticlib listing_api` oddersnow_list and
- *   oddersnow_assemble (target/staticlib/liblisting_api.a), `rt staticlib reach` oddersnow_reach (target/staticlib/libreach.a). A program
- *   may link all of them.
+ *   oddersnow_assemble (target/staticlib/liblisting_api.a), `rt staticlib reach` oddersnow_reach and oddersnow_reach_outside
+ *   (target/staticlib/libreach.a). A program may link all of them.
  */
 #ifndef ODDERSNOW_H
 #define ODDERSNOW_H
@@ -155,6 +155,20 @@ uint64_t oddersnow_sweep(uint32_t start, const uint8_t *mem, size_t mem_len, uin
 uint64_t oddersnow_reach(const uint32_t *regs, size_t regs_len, uint32_t start,
                          const uint8_t *mem, size_t mem_len, const uint8_t *tags, size_t tags_len,
                          uint32_t low, uint32_t length, uint32_t rights, uint32_t from);
+
+/* The same search outside the range: the granules of mem that lie in [low, low + length) are passed over, whatever they hold; registers
+ * and all other granules count as above. The number is one of oddersnow_reach, or
+ *
+ *   22  low or low + length is no multiple of 8, so that the range cuts a granule
+ *
+ * and the lowest wins. Where the answer for rights 32, the right to load (LD), from place 0 on is 0, what stands in those granules makes
+ * no difference outside them: with other bytes and tags there, calls of steps, runs and sweeps one after another, with mem at that start and
+ * nothing else written, give the same answers and counts and leave the same registers, and the same bytes and tags outside. Where
+ * it is 0 for rights 4 (SD) too, no byte there ever changes either: what stands there is neither read nor written.
+ */
+uint64_t oddersnow_reach_outside(const uint32_t *regs, size_t regs_len, uint32_t start,
+                                 const uint8_t *mem, size_t mem_len, const uint8_t *tags, size_t tags_len,
+                                 uint32_t low, uint32_t length, uint32_t rights, uint32_t from);
 
 /* Map sheets. A sheet is text, a line a region:
  *

@@ -4,12 +4,13 @@ use mathlib.Core.Path.{_≡_, refl, sym, _∙_}
 use mathlib.Core.Logic.{_↔_, _⊎_, inl, inr}
 use mathlib.Core.Bool.{Bool, true, false, not, _&&_, _||_, true≢false}
 use mathlib.Core.List.{List}
-use Prim.Native.Nat.{ℕ, zero, suc, _+_, _-_, _*_, _/_, _^_, _≤_, _<_}
+use Prim.Native.Nat.{ℕ, suc, _+_, _-_, _*_, _/_, _^_, _≤_, _<_}
 use native.Mathlib.Nat.{div-eq-of-lt}
 use native.Mathlib.Omega.{arith}
 use lib.Dec.{eqb, leb, ltb}
 use lib.ListN.{getD, length}
-use lib.Pow.{pow-mono}
+use lib.Bits.{shifted-even}
+use lib.Pow.{pow-lt, pow-add, shl-shr}
 use borrow.Author.Tests.{eqb-true, eqb-false, leb-true, leb-false, ltb-true, ltb-false, eq-eqb, ne-eqb, lt-ltb}
 use Rattle.words.proofs.Word.{by-test}
 use Rattle.metadata.specs.Rights.{SD, Has}
@@ -78,7 +79,7 @@ module _ (q : Query) (c : Capability) where
 
   module _ (some : q .length ≡ 0 → ⊥) where
     -- a tagged one that does not count is apart
-    apart-of : c .tag ≡ 1 → reachesInto q c ≡ false → Apart q c
+    pub apart-of : c .tag ≡ 1 → reachesInto q c ≡ false → Apart q c
     unfolding reachesInto tagged
     apart-of t h = go (sound c) refl (rw (eq-eqb (c .tag) 1 t, ne-eqb (q .length) 0 some) at h)
       where
@@ -92,7 +93,7 @@ module _ (q : Query) (c : Capability) where
             }
 
     -- and one that is apart, if it is tagged, does not count
-    of-apart : (c .tag ≡ 1 → Apart q c) → reachesInto q c ≡ false
+    pub of-apart : (c .tag ≡ 1 → Apart q c) → reachesInto q c ≡ false
     unfolding reachesInto tagged
     of-apart f =
         by-test (eqb (c .tag) 1)
@@ -171,13 +172,23 @@ module _ (q : Query) where
 
 -- ---- the right to store
 
-only-SD : (j : ℕ) → Has (2 ^ SD) j → j ≡ SD
-only-SD zero h = absurd (omega (arith, h))
-only-SD (suc zero) h = absurd (omega (arith, h))
-only-SD (suc (suc zero)) h = refl
-only-SD (suc (suc (suc j))) h =
-    let z : 2 ^ SD / 2 ^ suc (suc (suc j)) ≡ 0 = div-eq-of-lt (omega (arith, pow-mono {i = 3} {j = suc (suc (suc j))} (omega arith))) in
-    absurd (omega (arith, rw z at h))
+-- a mask of one right has no other
+pub only-right : (k j : ℕ) → Has (2 ^ k) j → j ≡ k
+only-right k j h =
+    by-test (ltb j k)
+    (λ t.
+    let l = ltb-true j k t in
+    let e : suc (k - suc j) + j ≡ k = omega arith in
+    absurd (above (k - suc j) (rw (← e) at h)))
+    (λ t. by-test (ltb k j)
+    (λ u. let z : 2 ^ k / 2 ^ j ≡ 0 = div-eq-of-lt (pow-lt (ltb-true k j u)) in absurd (omega (arith, rw z at h)))
+    (λ u. omega (arith, ltb-false j k t, ltb-false k j u)))
+  where
+    above : (m : ℕ) → Has (2 ^ (suc m + j)) j → ⊥
+    above m h =
+        let d : 2 ^ (suc m + j) / 2 ^ j ≡ 2 ^ suc m = rw (pow-add 2 (suc m) j) (shl-shr (2 ^ suc m) j) in
+        let o : 1 * 2 ^ suc m ≡ 2 ^ suc m = omega arith in
+        omega (arith, rw o at (shifted-even 1 m), rw d at h)
 
 module _ (start : ℕ) (q : Query) (stores : q .rights ≡ 2 ^ SD) (s : State) where
   in-some : (i : ℕ) → InRange q start i → q .length ≡ 0 → ⊥
@@ -187,7 +198,7 @@ module _ (start : ℕ) (q : Query) (stores : q .rights ≡ 2 ^ SD) (s : State) w
     -- each byte of the range is shut
     pub nowhere-shut : (i : ℕ) → InRange q start i → ByteShut s start i
     nowhere-shut i r c k w =
-        nowhere-is q (in-some i r) s .0 none c k .no-address (λ j h. rw (only-SD j (rw stores at h)) (w .stores)) (start + i) (w .from) (w .to)
+        nowhere-is q (in-some i r) s .0 none c k .no-address (λ j h. rw (only-right SD j (rw stores at h)) (w .stores)) (start + i) (w .from) (w .to)
         (r .from) (r .to)
 
     -- and all that integrity asks is there

@@ -32,14 +32,28 @@ module _ (passes : ℕ → Bool) (to : ℕ) where
   later p f a (first-passes i l u t h) =
       first-passes i (omega arith) u t (λ k m v. by-test (eqb k p) (λ e. rw (eqb-true k p e) f) (λ e. h k (omega (arith, eqb-false k p e)) v))
 
-  first-of-is : (n p : ℕ) → p + n ≡ to → FirstPlace passes p to (firstOf n passes p)
+  pub first-of-is : (n p : ℕ) → p + n ≡ to → FirstPlace passes p to (firstOf n passes p)
   unfolding firstOf
   first-of-is zero p e = none-passes (λ k l u. absurd (omega (arith, e)))
   first-of-is (suc n) p e =
       by-test (passes p) (λ t. rw t (first-passes p (omega arith) (omega (arith, e)) t (λ k l u. absurd (omega arith))))
       (λ t. rw t (later p t _ (first-of-is n (p + 1) (omega (arith, e)))))
 
-abbrev isNowhere : ReachAnswer → Bool
+-- a search refuses nothing, and its place is 0 where there is none
+pub first-number : (n p : ℕ) (passes : ℕ → Bool) → reachNumber (firstOf n passes p) ≡ 0
+unfolding firstOf
+first-number zero p passes = refl
+first-number (suc n) p passes =
+    cond-holds (λ a. reachNumber a ≡ 0) (passes p) (Found p) (firstOf n passes (p + 1)) refl (first-number n (p + 1) passes)
+
+pub none-of : (n p : ℕ) (passes : ℕ → Bool) → reachPlace (firstOf n passes p) ≡ 0 → firstOf n passes p ≡ Nowhere
+none-of n p passes z = at (firstOf n passes p) (first-of-is passes (p + n) n p refl) z
+  where
+    at : (a : ReachAnswer) → FirstPlace passes p (p + n) a → reachPlace a ≡ 0 → a ≡ Nowhere
+    at a (none-passes h) z = refl
+    at a (first-passes i l u t h) z = absurd (omega arith)
+
+abbrev pub isNowhere : ReachAnswer → Bool
 isNowhere (Found p) = false
 isNowhere Nowhere = true
 isNowhere (Refused n) = false
@@ -187,12 +201,6 @@ module _ (start : ℕ) (q : Query) (from : ℕ) (s : State) where
       let f : eqb (reachRefusal start q from s) 0 ≡ false = rw (← e) (ne-eqb n 0 h) in
       record { answer-is = rw (f, e); number-is = e; place-is = rw f }
 
-  first-number : (n p : ℕ) (passes : ℕ → Bool) → reachNumber (firstOf n passes p) ≡ 0
-  unfolding firstOf
-  first-number zero p passes = refl
-  first-number (suc n) p passes =
-      cond-holds (λ a. reachNumber a ≡ 0) (passes p) (Found p) (firstOf n passes (p + 1)) refl (first-number n (p + 1) passes)
-
   pub reach-done : (answer : ReachAnswer) → 0 ≡ reachRefusal start q from s → answer ≡ firstReach q s from → ReachPromise start q from s answer
   unfolding reachAnswer firstReach
   reach-done answer e a =
@@ -221,13 +229,6 @@ module _ (start : ℕ) (q : Query) (from : ℕ) (s : State) where
   unfolding reachAnswer firstReach
   packed-none e = go (eqb (reachRefusal start q from s) 0) refl e
     where
-      none-of : (n p : ℕ) (passes : ℕ → Bool) → reachPlace (firstOf n passes p) ≡ 0 → firstOf n passes p ≡ Nowhere
-      none-of n p passes z = at (firstOf n passes p) (first-of-is passes (p + n) n p refl) z
-        where
-          at : (a : ReachAnswer) → FirstPlace passes p (p + n) a → reachPlace a ≡ 0 → a ≡ Nowhere
-          at a (none-passes h) z = refl
-          at a (first-passes i l u t h) z = absurd (omega arith)
-
       go : (b : Bool) → eqb (reachRefusal start q from s) 0 ≡ b → packedReach (cond b (firstReach q s from) (Refused (reachRefusal start q from s))) ≡ 0
           → firstReach q s from ≡ Nowhere
       go true f e = none-of _ from (passesIn q s) (omega (arith, e))

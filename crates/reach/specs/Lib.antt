@@ -1,4 +1,6 @@
--- What is searched for, and what the search answers: Reach. What the loop over memory goes by: Search. Searches worked out: Worked.
+-- What is searched for, and what the search answers: Reach; the same outside a range of granules: Outside. What the loop over memory goes by: Search. Searches
+-- worked out: Worked.
 pub mod Reach
+pub mod Outside
 pub mod Search
 pub mod Worked

@@ -10,6 +10,7 @@ use Rattle.state.specs.Layout.{registerWords}
 use Rattle.state.specs.Registers.{setCapability}
 use Rattle.state.specs.Lent.{state}
 use Rattle.reach.specs.Reach.{queryOf, reachAnswer, reachNumber, reachPlace}
+use Rattle.reach.specs.Outside.{outsideAnswer}
 use Rattle.reach.specs.declared.ReachAnswer.{ReachAnswer}
 use Rattle.reach.specs.declared.ReachAnswer.the-variants.{Found, Nowhere, Refused}
 
@@ -42,12 +43,16 @@ pub record Search : Type 0 where
 abbrev pub answerOf : Search → ReachAnswer
 answerOf x = reachAnswer 0x20000000 (queryOf (x .low) (x .length) (x .rights)) (x .from) (state registers memory (x .tags ∷ []))
 
+-- outside the range
+abbrev pub answerOutside : Search → ReachAnswer
+answerOutside x = outsideAnswer 0x20000000 (queryOf (x .low) (x .length) (x .rights)) (x .from) (state registers memory (x .tags ∷ []))
+
 abbrev same : (a b : ReachAnswer) → Bool
 same a b = eqb (reachNumber a) (reachNumber b) && eqb (reachPlace a) (reachPlace b)
 
-unfoldable pub told : List Search → Bool
-told [] = true
-told (x ∷ xs) = same (answerOf x) (x .answer) && told xs
+unfoldable pub told : (search : Search → ReachAnswer) → List Search → Bool
+told search [] = true
+told search (x ∷ xs) = same (search x) (x .answer) && told search xs
 
 abbrev searching : (tags low length rights from : ℕ) → ReachAnswer → Search
 searching tags low length rights from answer =
@@ -85,4 +90,29 @@ searches =
     ∷ searching four 0 1 0 29 (Refused 21)
     ∷ searching four 0 1 0x1000 0 (Refused 20)
     ∷ searching four 0 1 0x1000 29 (Refused 20)
+    ∷ []
+
+-- the same outside ranges
+unfoldable pub searchesOutside : List Search
+searchesOutside =
+    -- registers count, though they may reach into the range alone; from a place on
+    searching four 0x20000010 0x10 0x004 0 (Found 1)
+    ∷ searching four 0x20000010 0x20 0x004 2 (Found 2)
+    ∷ searching four 0x20000010 0x20 0x004 3 Nowhere
+    -- granule 4 reaches to the end of the space: outside the range, in it, and in it where the range ends past the space
+    ∷ searching four 0x20000028 0xDFFFFFD8 0x004 19 (Found 25)
+    ∷ searching four 0x20000020 0xDFFFFFE0 0x004 19 Nowhere
+    ∷ searching four 0x20000020 0xFFFFFFF8 0x004 19 Nowhere
+    -- granule 5, which is not sound: outside, before and behind the range, and in it
+    ∷ searching both 0x20000020 8 0xFFF 0 (Found 26)
+    ∷ searching both 0x20000030 8 0xFFF 0 (Found 26)
+    ∷ searching both 0x20000028 8 0xFFF 0 Nowhere
+    ∷ searching both 0x20000000 0x40 0xFFF 0 Nowhere
+    ∷ searching both 0x20000028 0 0xFFF 0 Nowhere
+    -- a range that cuts a granule, at its start or its end; a right too many, and no place, come first
+    ∷ searching four 0x20000014 0x0C 0x004 0 (Refused 22)
+    ∷ searching four 0x20000010 0x0C 0x004 0 (Refused 22)
+    ∷ searching four 0x20000014 0 0x004 0 (Refused 22)
+    ∷ searching four 0x20000014 8 0x1000 0 (Refused 20)
+    ∷ searching four 0x20000014 8 0x004 29 (Refused 21)
     ∷ []

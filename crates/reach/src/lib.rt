@@ -1,7 +1,11 @@
 // What the capabilities of a state reach: the first place that holds one with some rights and a byte of a range of addresses.
+mod outside;
+
 use bounds::Region;
 use capability::Capability;
 use metadata::ALL_RIGHTS;
+pub use outside::oddersnow_reach_outside;
+pub use outside::reach_outside;
 use state::Board;
 use state::CAPABILITY_COUNT;
 use state::GRANULE;
@@ -134,7 +138,7 @@ fn first_granule(mem: &[u8], tags: &[u8], q: Query, from: u32) -> ReachAnswer
 }
 
 // The first place from one on. Nothing is refused.
-fn first_place(regs: &[u32], mem: &[u8], tags: &[u8], q: Query, from: u32) -> ReachAnswer
+pub(crate) fn first_place(regs: &[u32], mem: &[u8], tags: &[u8], q: Query, from: u32) -> ReachAnswer
     requires { ⌜ length (now mem) ≤ mostMemory ⌝ }
     ensures { λ r. ⌜ r ≡ firstReach q (state (now (regs .entry)) (now (mem .entry)) (now (tags .entry))) from ⌝ }
 {
@@ -164,7 +168,7 @@ fn asked_refusal(q: Query, size: usize, from: u32) -> u32
 }
 
 // The number of the first refusal that applies, or 0: a step's own, of a call of no steps and with no window; then those of what is asked.
-fn refusal(regs: &[u32], start: u32, mem: &[u8], tags: &[u8], q: Query, from: u32) -> u32
+pub(crate) fn refusal(regs: &[u32], start: u32, mem: &[u8], tags: &[u8], q: Query, from: u32) -> u32
     ensures { λ r. ⌜ r ≡ reachRefusal start q from (state (now (regs .entry)) (now (mem .entry)) (now (tags .entry))) ⌝ }
 {
     let board = Board {
@@ -194,7 +198,7 @@ pub fn reach(regs: &[u32], start: u32, mem: &[u8], tags: &[u8], q: Query, from: 
 // ---- for C
 
 // number * 2^48 + place + 1, or + 0 where there is none.
-fn pack(a: ReachAnswer) -> u64
+pub(crate) fn pack(a: ReachAnswer) -> u64
     requires { ⌜ reachNumber a < 2 ^ 15 ⌝ }
     ensures { λ r. ⌜ r ≡ packedReach a ⌝ }
 {
