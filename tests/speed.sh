@@ -2,9 +2,9 @@
 # The speed programs: every step retires on both proved engines and on the second program. The plain engine needs no more of
 # the host's instructions for a step than the second program, and for one of the integer program by short words at most a
 # quarter more than by long ones; the quick engine needs at most half of the plain one's on integer, memory and bounded, at
-# most a quarter on integer and bounded, at most a third for calls, whatever their distance, at most a tenth more for code
-# that changes itself, and at most twice for a run of one step. The bounds lookup: the proved
-# routine needs no more than the second program's and than the tuned one. Map sheets: the proved reader and writer need no
+# most a quarter on integer and bounded, at most a third for calls, whatever their distance, at most a twentieth more on any
+# kind of code here (code that changes itself, long loops, each instruction that it has no turn for), and at most twice for a
+# run of one step. The bounds lookup: the proved routine needs no more than the second program's and than the tuned one. Map sheets: the proved reader and writer need no
 # more for a byte than the second program's. The lister and the assembler need few enough for 20 million bytes of
 # code or text a second. Callgrind counts them, so that what else the computer does changes nothing. By time,
 # sheets are read and written at 50 MB a second or more, and memory without tags is swept at 20 million granules
@@ -50,11 +50,12 @@ at_most() { # PERCENT COUNT COUNT: the first is at most so many hundredths of th
   local left right
   left=$(cat "$work/count$2") && right=$(cat "$work/count$3") && [ $((100 * left)) -le $(($1 * right)) ]
 }
-engines() { # PROGRAM NAME: every engine's, and a line of a table of them
-  local engine line="| $2 |"
-  for engine in plain quick second; do
-    check "every step of $2 retires ($engine)" steps "$engine" "$1" "$2"
-    line+=$(awk '{ printf " %.1f |", $1 / 100 }' "$work/count.$engine.$2")
+engines() { # PROGRAM NAME [ENGINE..]: every engine's, or those given, and a line of a table of them
+  local engine program=$1 name=$2 line="| $2 |"
+  shift 2
+  for engine in ${*:-plain quick second}; do
+    check "every step of $name retires ($engine)" steps "$engine" "$program" "$name"
+    line+=$(awk '{ printf " %.1f |", $1 / 100 }' "$work/count.$engine.$name")
   done
   echo "$line"
 }
@@ -76,6 +77,16 @@ check "routines of GCC's library are linked" routines rv32e && engines "$work/rv
 check "routines of GCC's library with compressed code are linked" routines rv32emac && engines "$work/rv32emac.bin" routines-short
 check "the demonstration's code" demonstration && engines "$work/demonstration.bin:600" demonstration
 engines integer:1 one-step
+# Kinds of code that short loops do not have, and loops of one instruction that the quick engine leaves to plain steps, by both proved engines.
+kinds="straight4 straight8 straight16 straight64 branchy8 branchy64 list authorities specials"
+for program in $kinds; do engines "$program" "$program" plain quick; done
+left="csetbounds cseal cunseal candperm ctestsubset csetequalexact csethigh csub"
+for name in $left; do engines "each $name 2 5 7" "$name" plain quick; done
+for name in cgetlen ccleartag crepresentablealignmentmask; do engines "each $name 2 5" "$name" plain quick; done
+engines "each cspecialrw 2 5 30" cspecialrw plain quick
+engines "each csrrsi 0 768 0" csrrsi plain quick
+engines "each wfi" wfi plain quick
+left+=" cgetlen ccleartag crepresentablealignmentmask cspecialrw csrrsi wfi"
 for program in integer short memory capability bounded multiply; do
   check "the plain engine takes no more instructions for $program than the second program" at_most 100 ".plain.$program" ".second.$program"
 done
@@ -89,7 +100,11 @@ done
 for program in calls far shared; do
   check "the quick engine takes at most a third for $program" at_most 33 ".quick.$program" ".plain.$program"
 done
-check "the quick engine takes at most a tenth more for code that changes itself" at_most 110 .quick.self .plain.self
+for program in self $kinds $left; do
+  check "the quick engine takes at most a twentieth more for $program" at_most 105 ".quick.$program" ".plain.$program"
+done
+check "the quick engine takes at most a third for a loop of 4 KiB" at_most 33 .quick.straight4 .plain.straight4
+check "the quick engine takes at most two thirds for a list of sealed capabilities" at_most 66 .quick.list .plain.list
 check "a run of one step takes at most twice by the quick engine" at_most 200 .quick.one-step .plain.one-step
 for kind in random whole exponent4 small; do
   for routine in proved second tuned; do

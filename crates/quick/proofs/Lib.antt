@@ -1,4 +1,4 @@
--- Entries: Look, Forget. Where PCC goes: Onward, Targets. Reach: Inside, Reach, Accesses. Turns and the loop: the others, up to Turning.
+-- Entries: Look, Forget. Where PCC goes: Onward, Targets. Reach: Inside, Reach, Accesses. Turns and the loop: the others, up to Turning; its rests: Resting.
 pub mod Look
 pub mod Onward
 pub mod Targets
@@ -11,4 +11,5 @@ pub mod Quiet
 pub mod Arms
 pub mod Standing
 pub mod Turning
+pub mod Resting
 pub mod Forget

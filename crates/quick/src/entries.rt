@@ -207,7 +207,14 @@ pub(crate) fn room_at(keys: &[u64; 2048], slot: usize, time: u32) -> usize
     slot + SLOTS
 }
 
-// No entry left after a step of which nothing is known, unless it trapped and so stored nothing.
+// What is told of some plain steps: that a single one trapped.
+pub(crate) fn trapped_alone(steps: u32, trapped: u32) -> u32
+    ensures { λ r. ⌜ ((r ≡ 0 → ⊥) → (steps ≡ 1) × (r ≡ trapped)) ⌝ }
+{
+    if steps == 1 { trapped } else { 0 }
+}
+
+// No entry left after steps of which nothing is known, unless it was one that trapped and so stored nothing.
 pub(crate) fn clear_unless(keys: &mut [u64; 2048], trapped: u32)
     ensures { λ _. ⌜ ClearedUnless trapped (now (keys .entry)) (now (keys .exit)) ⌝ }
 {

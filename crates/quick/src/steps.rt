@@ -61,6 +61,8 @@ pub(crate) fn take_quick(
     let mut high: u64 = 0;
     let mut base = pace::base_of(regs);
     let mut limit = pace::limit_from(regs, 0, n);
+    let mut luck = [0u32; 3];
+    pace::begin(&mut luck);
     let mut missed: u32 = 0;
     let mut watch = w;
     let mut trapped: u32 = 0;
@@ -88,10 +90,11 @@ pub(crate) fn take_quick(
             watch = p.watch;
             trapped += p.trapped;
             base = pace::base_of(regs);
-            limit = pace::limit_from(regs, k, n);
+            limit = pace::limit_while(pace::spend(&mut luck, k), regs, k, n);
             continue;
         }
-        let f = entries::look(missed, registers::read_pcc(regs), board.start, mem);
+        let tried = pace::is_tried(missed, pace::spend(&mut luck, k));
+        let f = entries::look(tried, registers::read_pcc(regs), board.start, mem);
         base = pace::base_of(regs);
         if f.bytes != 0 {
             let op = f.op;
@@ -105,14 +108,16 @@ pub(crate) fn take_quick(
             missed = 1;
             continue;
         }
-        let p = machine::take_watched(regs, board, mem, tags, revoked, 1, watch);
+        let m = pace::steps_now(&luck, n - k);
+        let p = machine::take_watched(regs, board, mem, tags, revoked, m, watch);
         watch = p.watch;
         trapped += p.trapped;
-        entries::clear_unless(&mut keys, p.trapped);
+        entries::clear_unless(&mut keys, entries::trapped_alone(m, p.trapped));
         base = pace::base_of(regs);
-        k += 1;
+        k += m;
         limit = pace::limit_from(regs, k, n);
         missed = 0;
+        pace::rested(&mut luck, k);
     }
     Tally {
         retired: n - trapped,

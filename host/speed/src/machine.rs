@@ -1,5 +1,6 @@
 //! Steps of the proved engines and of the second program, timed by turns in one process, or made for an instruction count.
 
+use crate::kinds;
 use crate::programs::{ready, NAMES};
 use lent::{Board, Run, State, Watch, MOST_STEPS};
 use std::time::Instant;
@@ -97,7 +98,7 @@ pub fn run(engine: Run, program: &str, steps: u32) -> Option<()> {
 /// Every program on each machine, files of raw code after those by name.
 pub fn compare_all(files: &[&str]) -> Option<()> {
     println!("program       plain   quick  second  quick/plain  plain/second   (millions of steps a second)");
-    for program in NAMES.iter().chain(files) {
+    for program in NAMES.iter().chain(&kinds::NAMES).chain(files) {
         let [plain, quick, second] = Program::of(program)?.best();
         println!(
             "{program:<11} {plain:>7.1} {quick:>7.1} {second:>7.1} {:>12.2} {:>13.2}",

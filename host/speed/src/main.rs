@@ -29,6 +29,7 @@
 //!                              so many queries and no times, and the granules of one; KIND is untagged, elsewhere or
 //!                              unable
 
+mod kinds;
 mod listing;
 mod lookup;
 mod machine;

@@ -2,6 +2,7 @@
 //! capability work, memory work through capabilities cut to memory, multiplying and dividing, calls of a
 //! routine at three distances, short stretches, and a loop that stores over its own code. And files of raw code.
 
+use crate::kinds;
 use lent::{Capability, State, EXECUTABLE_ROOT, MEMORY_ROOT, MTCC, PCC};
 use std::fs;
 
@@ -185,7 +186,7 @@ fn integers(name: &str) -> &'static [(usize, u32)] {
 /// A program ready to run from its first word.
 pub fn ready(name: &str) -> Option<State> {
     let Some(code) = code(name) else {
-        return of_file(&fs::read(name).ok()?);
+        return kinds::ready(name).or_else(|| of_file(&fs::read(name).ok()?));
     };
     let size = if name == "shared" { FILE_SIZE } else { SIZE };
     let mut state = State::new(START, vec![0; size]);

@@ -19,19 +19,20 @@ use Rattle.quick.specs.Running.{Running}
 use Rattle.quick.proofs.Forget.{entries-none}
 use Rattle.quick.proofs.Reach.{good-empty}
 use Rattle.quick.proofs.Turning as laws
+use Rattle.quick.proofs.Resting as resting
 use Rattle.quick.proofs.Turning.{zeros}
 use Rattle.quick.proofs.steps.take_quick.Statement.{statement}
 use Rattle.quick.proofs.steps.take_quick.Tie as tie
 
 abbrev Inv-loop : tie.InvT-loop
-Inv-loop regs₀ board mem₀ tags₀ revoked n code₀ keys₀ lens₀ rows₀ low₀ high₀ base₀ limit₀ missed₀ watch₀ trapped₀ k₀
-    regs mem tags code keys lens rows low high base limit missed watch trapped k =
+Inv-loop regs₀ board mem₀ tags₀ revoked n code₀ keys₀ lens₀ rows₀ low₀ high₀ base₀ limit₀ luck₀ missed₀ watch₀ trapped₀ k₀
+    regs mem tags code keys lens rows low high base limit luck missed watch trapped k =
     Running board revoked n (state regs₀ mem₀ tags₀) watch₀ (state regs mem tags) code keys lens rows low high base limit watch trapped k
     × (length regs ≡ length regs₀) × (length mem ≡ length mem₀) × (length tags ≡ length tags₀)
 
 abbrev μ-loop : tie.MeasureT-loop
-μ-loop regs₀ board mem₀ tags₀ revoked n code₀ keys₀ lens₀ rows₀ low₀ high₀ base₀ limit₀ missed₀ watch₀ trapped₀ k₀
-    regs mem tags code keys lens rows low high base limit missed watch trapped k =
+μ-loop regs₀ board mem₀ tags₀ revoked n code₀ keys₀ lens₀ rows₀ low₀ high₀ base₀ limit₀ luck₀ missed₀ watch₀ trapped₀ k₀
+    regs mem tags code keys lens rows low high base limit luck missed watch trapped k =
     2 * (n - k) + (1 - missed)
 
 base-of-requires : tie.Need-base-of-requires Inv-loop μ-loop
@@ -43,7 +44,7 @@ limit-from-requires c κs = (c .before .before .before .before .before .before .
 loop-holds : tie.Need-loop-holds Inv-loop μ-loop
 loop-holds c =
     let c8 = c .before .before .before .before .before .before .before .before in
-    let a = c8 .args in
+        let a = c8 .before .before .args in
     let n = a .n in
     let z : n - 0 ≡ n = omega arith in
     let none : List ℕ = replicate 2048 0 in
@@ -51,12 +52,12 @@ loop-holds c =
       record {
         in-run = omega arith;
         few-trapped = omega arith;
-        whole-file = c8 .pre .0;
+        whole-file = c8 .before .before .pre .0;
         lens-long = length-replicate {A = ℕ} 2048 0;
         code-long = length-replicate {A = Operation} 2048 Plain;
         entries-hold = entries-none (a .board .start) (a .mem .now) _ _ none none (replicate 2048 Plain) zs;
         reach-holds = good-empty (a .board .start) (length (a .mem .now)) (replicate 99 0) (length-replicate {A = ℕ} 99 0) (λ i. zeros 99 i);
-        calm-holds = (c .before .before .base-of .ensures, c .limit-from .ensures);
+        calm-holds = (c .before .before .before .before .base-of .ensures, c .before .before .limit-from .ensures);
         runs = rw z refl;
         watches = rw z refl;
       },
@@ -94,15 +95,15 @@ turn-requires : tie.Need-turn-requires Inv-loop μ-loop
 turn-requires c κs =
     let c8 = c .before .before .before .before .before .before .before .before in
     let c16 = c8 .before .before .before .before .before .before .before .before in
-    let r = c8 .before .before .before .before .loop .inv .0 in
+        let r = c8 .before .before .before .before .loop .inv .0 in
     let more = c8 .before .before .before .loop-test .taken in
     let y = c .before .before .before .before .before .before .entry-for .ensures (c .before .before .before .before .before .if1 .taken) in
     let key = c .before .before .before .before .before .before .before .key-of .ensures in
     let given = c8 .before .before .slice-known4 .given in (
       r .whole-file,
       laws.here _ _ _ _ _ _ _ _ _ _ _ _ _ _ _ _ _ r more
-          (omega (arith, c16 .before .before .before .before .before .fits))
-          (c16 .before .before .before .before .before .pre .1) _ _
+          (omega (arith, c16 .before .before .before .before .before .before .before .fits))
+          (c16 .before .before .before .before .before .before .before .pre .1) _ _
           (c .before .before .before .before .before .if1 .taken) refl (omega (arith, given 48)) (y .0, y .1 ∙ key) .placed,
       r .reach-holds,
     )
@@ -112,8 +113,8 @@ add-k c =
     let c8 = c .before .before .before .before .before .before .before .before in
     let c16 = c8 .before .before .before .before .before .before .before .before in
     let c24 = c16 .before .before .before .before .before .before .before .before in
-    let more = c16 .before .before .loop-test .taken in
-    omega (arith, more, c24 .before .before .before .before .fits)
+        let more = c16 .before .before .loop-test .taken in
+    omega (arith, more, c24 .before .before .before .before .before .before .fits)
 
 is-silent-requires : tie.Need-is-silent-requires Inv-loop μ-loop
 is-silent-requires c κs = search needs
@@ -122,14 +123,15 @@ loop-less : tie.Need-loop-less Inv-loop μ-loop
 loop-less c =
     let c8 = c .before .before .before .before .before .before .before .before in
     let c16 = c8 .before .before .before .before .before .before .before .before in
-    omega (arith, c16 .before .before .before .before .loop-test .taken)
+        omega (arith, c16 .before .before .before .before .loop-test .taken)
 
 loop-again : tie.Need-loop-again Inv-loop μ-loop
 loop-again c =
     let c8 = c .before .before .before .before .before .before .before .before in
     let c16 = c8 .before .before .before .before .before .before .before .before in
     let c24 = c16 .before .before .before .before .before .before .before .before in
-    let l = c16 .before .before .before .before .before .loop .inv in
+    let c32 = c24 .before .before .before .before .before .before .before .before in
+        let l = c16 .before .before .before .before .before .loop .inv in
     let more = c16 .before .before .before .before .loop-test .taken in
     let y = c8 .before .before .before .before .before .before .before .entry-for .ensures (c8 .before .before .before .before .before .before .if1 .taken) in
     let key = c16 .key-of .ensures in
@@ -137,8 +139,8 @@ loop-again c =
     let given = c16 .before .before .before .slice-known4 .given in
     let silent = c .before .is-silent .ensures (c .if2 .taken) in (
       laws.way-silent _ _ _ _ _ _ _ _ _ _ _ _ _ _ _ _ _ (l .0) more
-          (omega (arith, c24 .before .before .before .before .before .before .fits))
-          (c24 .before .before .before .before .before .before .pre .1) _ _
+          (omega (arith, c32 .fits))
+          (c32 .pre .1) _ _
           (c8 .before .before .before .before .before .before .if1 .taken) refl (omega (arith, given 48)) (y .0, y .1 ∙ key) _ _ (turned .1) _ (turned .0)
           silent (laws.compare-fits _ (omega (arith, given compareIndex)) (omega (arith, given (compareIndex + 1)))),
       omega (arith, l .1, c .before .before .before .before .before .before .before .regs .given),
@@ -157,7 +159,7 @@ loop-less-2 c =
     let c8 = c .before .before .before .before .before .before .before .before in
     let c16 = c8 .before .before .before .before .before .before .before .before in
     let c24 = c16 .before .before .before .before .before .before .before .before in
-    omega (arith, c24 .loop-test .taken)
+        omega (arith, c24 .loop-test .taken)
 
 loop-again-2 : tie.Need-loop-again-2 Inv-loop μ-loop
 loop-again-2 c =
@@ -165,15 +167,15 @@ loop-again-2 c =
     let c16 = c8 .before .before .before .before .before .before .before .before in
     let c24 = c16 .before .before .before .before .before .before .before .before in
     let c32 = c24 .before .before .before .before .before .before .before .before in
-    let l = c24 .before .loop .inv in
+        let l = c24 .before .loop .inv in
     let more = c24 .loop-test .taken in
     let y = c16 .before .before .before .entry-for .ensures (c16 .before .before .if1 .taken) in
     let key = c16 .before .before .before .before .key-of .ensures in
     let turned = c8 .before .before .before .before .turn .ensures in
     let given = c16 .before .before .before .before .before .before .before .slice-known4 .given in (
       laws.way-done _ _ _ _ _ _ _ _ _ _ _ _ _ _ _ _ _ (l .0) more
-          (omega (arith, c32 .before .before .fits))
-          (c32 .before .before .pre .1) _ _
+          (omega (arith, c32 .before .before .before .before .fits))
+          (c32 .before .before .before .before .pre .1) _ _
           (c16 .before .before .if1 .taken) refl (omega (arith, given 48)) (y .0, y .1 ∙ key) _ _ (turned .1) _ (turned .0)
           (c .before .if3 .taken) (laws.compare-fits _ (omega (arith, given compareIndex)) (omega (arith, given (compareIndex + 1))))
           _ (c .noted .ensures) _ (c .before .before .forget .ensures),
@@ -187,13 +189,13 @@ read-pcc-requires c κs =
     let c8 = c .before .before .before .before .before .before .before .before in
     let c16 = c8 .before .before .before .before .before .before .before .before in
     let c24 = c16 .before .before .before .before .before .before .before .before in
-    let long = c24 .before .before .loop .inv .0 .whole-file in
+        let long = c24 .before .before .loop .inv .0 .whole-file in
     omega (arith, long, c8 .before .before .before .before .regs .given)
 
 learn-requires : tie.Need-learn-requires Inv-loop μ-loop
 learn-requires c κs =
     let c8 = c .before .before .before .before .before .before .before .before in
-    rw (c8 .before .before .before .mem .given) (c8 .before .before .before .before .before .before .turn .ensures .0)
+        rw (c8 .before .before .before .mem .given) (c8 .before .before .before .before .before .before .turn .ensures .0)
 
 take-watched-requires : tie.Need-take-watched-requires Inv-loop μ-loop
 take-watched-requires c κs = search needs
@@ -206,14 +208,14 @@ add-trapped c =
     let c32 = c24 .before .before .before .before .before .before .before .before in
     let c40 = c32 .before .before .before .before .before .before .before .before in
     let c48 = c40 .before .before .before .before .before .before .before .before in
-    let r = c40 .loop .inv .0 in
+        let r = c40 .loop .inv .0 in
     let step = c8 .take-watched .ensures .0 in
     omega (
       arith,
       r .few-trapped,
       c32 .before .before .before .before .before .before .before .loop-test .taken,
       laws.at-most-one _ _ _ _ _ _ step,
-      c48 .before .fits,
+      c48 .before .before .before .fits,
     )
 
 base-of-requires-2 : tie.Need-base-of-requires-2 Inv-loop μ-loop
@@ -223,19 +225,19 @@ base-of-requires-2 c κs =
     let c24 = c16 .before .before .before .before .before .before .before .before in
     let c32 = c24 .before .before .before .before .before .before .before .before in
     let c40 = c32 .before .before .before .before .before .before .before .before in
-    let long = c40 .before .loop .inv .0 .whole-file in
+        let long = c40 .before .loop .inv .0 .whole-file in
     omega (arith, long, c24 .before .before .before .regs .given, c8 .regs2 .given)
 
-limit-from-requires-2 : tie.Need-limit-from-requires-2 Inv-loop μ-loop
-limit-from-requires-2 c κs =
+limit-while-requires : tie.Need-limit-while-requires Inv-loop μ-loop
+limit-while-requires c κs =
     let c8 = c .before .before .before .before .before .before .before .before in
     let c16 = c8 .before .before .before .before .before .before .before .before in
     let c24 = c16 .before .before .before .before .before .before .before .before in
     let c32 = c24 .before .before .before .before .before .before .before .before in
     let c40 = c32 .before .before .before .before .before .before .before .before in
-    let long = c40 .before .before .before .loop .inv .0 .whole-file in (
-      omega (arith, long, c24 .before .before .before .before .before .regs .given, c8 .before .before .regs2 .given),
-      omega (arith, c40 .before .before .loop-test .taken),
+        let long = c40 .before .before .before .before .before .loop .inv .0 .whole-file in (
+      omega (arith, long, c24 .before .before .before .before .before .before .before .regs .given, c8 .before .before .before .before .regs2 .given),
+      omega (arith, c40 .before .before .before .before .loop-test .taken),
     )
 
 loop-less-3 : tie.Need-loop-less-3 Inv-loop μ-loop
@@ -245,7 +247,7 @@ loop-less-3 c =
     let c24 = c16 .before .before .before .before .before .before .before .before in
     let c32 = c24 .before .before .before .before .before .before .before .before in
     let c40 = c32 .before .before .before .before .before .before .before .before in
-    omega (arith, c40 .before .before .before .loop-test .taken)
+        omega (arith, c40 .before .before .before .before .before .loop-test .taken)
 
 loop-again-3 : tie.Need-loop-again-3 Inv-loop μ-loop
 loop-again-3 c =
@@ -255,31 +257,32 @@ loop-again-3 c =
     let c32 = c24 .before .before .before .before .before .before .before .before in
     let c40 = c32 .before .before .before .before .before .before .before .before in
     let c48 = c40 .before .before .before .before .before .before .before .before in
-    let l = c40 .before .before .before .before .loop .inv in
-    let more = c40 .before .before .before .loop-test .taken in
-    let y = c32 .before .before .before .before .before .before .entry-for .ensures (c32 .before .before .before .before .before .if1 .taken) in
-    let key = c32 .before .before .before .before .before .before .before .key-of .ensures in
-    let turned = c24 .before .before .before .before .before .before .before .turn .ensures in
-    let given = c40 .before .before .slice-known4 .given in
-    let learnt = c16 .learn .ensures in
-    let step = c8 .before .before .before .before .take-watched .ensures in
-    let mem = c24 .before .before .before .before .mem .given in (
+    let c56 = c48 .before .before .before .before .before .before .before .before in
+        let l = c40 .before .before .before .before .before .before .loop .inv in
+    let more = c40 .before .before .before .before .before .loop-test .taken in
+    let y = c40 .entry-for .ensures (c32 .before .before .before .before .before .before .before .if1 .taken) in
+    let key = c40 .before .key-of .ensures in
+    let turned = c32 .before .turn .ensures in
+    let given = c40 .before .before .before .before .slice-known4 .given in
+    let learnt = c16 .before .before .learn .ensures in
+    let step = c8 .before .before .before .before .before .before .take-watched .ensures in
+    let mem = c24 .before .before .before .before .before .before .mem .given in (
       laws.way-left _ _ _ _ _ _ _ _ _ _ _ _ _ _ _ _ _ (l .0) more
-          (omega (arith, c48 .before .before .before .before .before .fits))
-          (c48 .before .before .before .before .before .pre .1) _ _
-          (c32 .before .before .before .before .before .if1 .taken) refl (omega (arith, given 48)) (y .0, y .1 ∙ key) _ _ (turned .1) _ (rw mem at learnt)
-          (c16 .before .before .before .before .if3 .left) _ _ _ _ _ _
-          (step .0) (step .1) (c .before .before .base-of2 .ensures, c .limit-from2 .ensures) _
-          (c16 .before .before .before .before .before .forget .ensures),
-      omega (arith, l .1, c24 .before .before .before .before .before .before .regs .given, c8 .before .before .before .regs2 .given),
-      omega (arith, l .2, mem, c8 .before .mem2 .given),
-      omega (arith, l .3, c24 .before .before .tags .given, c .before .before .before .before .before .before .before .tags2 .given),
+          (omega (arith, c56 .before .fits))
+          (c56 .before .pre .1) _ _
+          (c32 .before .before .before .before .before .before .before .if1 .taken) refl (omega (arith, given 48)) (y .0, y .1 ∙ key) _ _ (turned .1) _ (rw mem at learnt)
+          (c16 .before .before .before .before .before .before .if3 .left) _ _ _ _ _ _
+          (step .0) (step .1) (c .before .before .before .before .base-of2 .ensures, c .limit-while .ensures) _
+          (c16 .before .before .before .before .before .before .before .forget .ensures),
+      omega (arith, l .1, c32 .regs .given, c8 .before .before .before .before .before .regs2 .given),
+      omega (arith, l .2, mem, c8 .before .before .before .mem2 .given),
+      omega (arith, l .3, c24 .before .before .before .before .tags .given, c8 .before .tags2 .given),
     )
 
 read-pcc-requires-2 : tie.Need-read-pcc-requires-2 Inv-loop μ-loop
 read-pcc-requires-2 c κs =
     let c8 = c .before .before .before .before .before .before .before .before in
-    c8 .loop .inv .0 .whole-file
+        c8 .before .before .before .loop .inv .0 .whole-file
 
 look-requires : tie.Need-look-requires Inv-loop μ-loop
 look-requires c κs = search needs
@@ -287,7 +290,7 @@ look-requires c κs = search needs
 base-of-requires-3 : tie.Need-base-of-requires-3 Inv-loop μ-loop
 base-of-requires-3 c κs =
     let c8 = c .before .before .before .before .before .before .before .before in
-    c8 .before .before .before .before .loop .inv .0 .whole-file
+        c8 .before .before .before .before .before .before .before .loop .inv .0 .whole-file
 
 place-in-requires : tie.Need-place-in-requires Inv-loop μ-loop
 place-in-requires c κs = search needs
@@ -296,12 +299,13 @@ slice-read-room-at : tie.Need-slice-read-room-at Inv-loop μ-loop
 slice-read-room-at c =
     let c8 = c .before .before .before .before .before .before .before .before in
     let c16 = c8 .before .before .before .before .before .before .before .before in
-    omega (arith, c16 .before .before .loop .inv .0 .whole-file)
+        omega (arith, c16 .before .before .before .before .before .loop .inv .0 .whole-file)
 
 room-at-requires : tie.Need-room-at-requires Inv-loop μ-loop
 room-at-requires c κs =
     let c8 = c .before .before .before .before .before .before .before .before in
-    c8 .before .before .before .before .before .before .before .slot-of .ensures .1
+    let c16 = c8 .before .before .before .before .before .before .before .before in
+        c16 .before .before .slot-of .ensures .1
 
 mul-code : tie.Need-mul-code Inv-loop μ-loop
 mul-code c =
@@ -315,7 +319,7 @@ key-of-requires-2 : tie.Need-key-of-requires-2 Inv-loop μ-loop
 key-of-requires-2 c κs =
     let c8 = c .before .before .before .before .before .before .before .before in
     let c16 = c8 .before .before .before .before .before .before .before .before in
-    omega (arith, c .before .before .before .before .before .before .base-of3 .ensures, c16 .before .slice-known4 .given 49)
+        omega (arith, c .before .before .before .before .before .before .base-of3 .ensures, c16 .before .before .before .before .slice-known4 .given 49)
 
 mul-keys : tie.Need-mul-keys Inv-loop μ-loop
 mul-keys c =
@@ -340,7 +344,7 @@ add-larger : tie.Need-add-larger Inv-loop μ-loop
 add-larger c =
     let c8 = c .before .before .before .before .before .before .before .before in
     let c16 = c8 .before .before .before .before .before .before .before .before in
-    omega (arith, c .before .before .before .before .before .place-in .ensures, c16 .before .before .before .slice-known4 .given 48)
+        omega (arith, c .before .before .before .before .before .place-in .ensures, c16 .before .before .before .before .before .before .slice-known4 .given 48)
 
 larger-requires : tie.Need-larger-requires Inv-loop μ-loop
 larger-requires c κs = search needs
@@ -349,16 +353,18 @@ loop-less-4 : tie.Need-loop-less-4 Inv-loop μ-loop
 loop-less-4 c =
     let c8 = c .before .before .before .before .before .before .before .before in
     let c16 = c8 .before .before .before .before .before .before .before .before in
-    let first = c8 .before .before .before .look .ensures .1 (c .before .before .before .before .before .before .before .if4 .taken) in
-    omega (arith, c16 .before .before .before .before .before .loop-test .taken, first)
+    let c24 = c16 .before .before .before .before .before .before .before .before in
+        let first = c8 .before .before .before .before .before .before .before .is-tried .ensures (c8 .before .before .before .look .ensures .1 (c .before .before .before .before .before .before .before .if4 .taken)) in
+    omega (arith, c24 .loop-test .taken, first)
 
 loop-again-4 : tie.Need-loop-again-4 Inv-loop μ-loop
 loop-again-4 c =
     let c8 = c .before .before .before .before .before .before .before .before in
     let c16 = c8 .before .before .before .before .before .before .before .before in
-    let loop = c16 .before .before .before .before .before .before .loop in
-    let slice-known4 = c16 .before .before .before .before .slice-known4 in
-    let slot-of = c16 .before .before .before .slot-of in
+    let c24 = c16 .before .before .before .before .before .before .before .before in
+        let loop = c24 .before .loop in
+    let slice-known4 = c16 .before .before .before .before .before .before .before .slice-known4 in
+    let slot-of = c16 .before .before .before .before .before .before .slot-of in
     let room-at = c .before .before .before .room-at in
     let base-of3 = c8 .before .base-of3 in
     let place-in = c .before .before .before .before .before .before .place-in in
@@ -391,20 +397,27 @@ loop-again-4 c =
 take-watched-requires-2 : tie.Need-take-watched-requires-2 Inv-loop μ-loop
 take-watched-requires-2 c κs = search needs
 
+sub-steps-now : tie.Need-sub-steps-now Inv-loop μ-loop
+sub-steps-now c =
+    let c8 = c .before .before .before .before .before .before .before .before in
+    let c16 = c8 .before .before .before .before .before .before .before .before in
+    omega (arith, c16 .before .before .loop-test .taken)
+
 add-trapped-2 : tie.Need-add-trapped-2 Inv-loop μ-loop
 add-trapped-2 c =
     let c8 = c .before .before .before .before .before .before .before .before in
     let c16 = c8 .before .before .before .before .before .before .before .before in
     let c24 = c16 .before .before .before .before .before .before .before .before in
     let c32 = c24 .before .before .before .before .before .before .before .before in
-    let r = c24 .before .before .before .loop .inv .0 in
-    let step = c8 .take-watched2 .ensures .0 in
+    let c40 = c32 .before .before .before .before .before .before .before .before in
+        let r = c32 .loop .inv .0 in
     omega (
       arith,
       r .few-trapped,
-      c24 .before .before .loop-test .taken,
-      laws.at-most-one _ _ _ _ _ _ step,
-      c32 .before .before .before .before .fits,
+      c24 .before .before .before .before .before .before .before .loop-test .taken,
+      c8 .before .before .before .before .steps-now .ensures .0,
+      resting.at-most _ _ _ _ _ _ _ (c8 .take-watched2 .ensures .0),
+      c40 .before .before .before .fits,
     )
 
 clear-unless-requires : tie.Need-clear-unless-requires Inv-loop μ-loop
@@ -415,7 +428,8 @@ base-of-requires-4 c κs =
     let c8 = c .before .before .before .before .before .before .before .before in
     let c16 = c8 .before .before .before .before .before .before .before .before in
     let c24 = c16 .before .before .before .before .before .before .before .before in
-    omega (arith, c24 .before .before .before .before .before .before .loop .inv .0 .whole-file, c8 .before .before .regs3 .given)
+    let c32 = c24 .before .before .before .before .before .before .before .before in
+        omega (arith, c32 .before .before .before .before .loop .inv .0 .whole-file, c8 .before .before .before .regs3 .given)
 
 add-k-2 : tie.Need-add-k-2 Inv-loop μ-loop
 add-k-2 c =
@@ -424,20 +438,17 @@ add-k-2 c =
     let c24 = c16 .before .before .before .before .before .before .before .before in
     let c32 = c24 .before .before .before .before .before .before .before .before in
     let c40 = c32 .before .before .before .before .before .before .before .before in
-    let more = c24 .before .before .before .before .before .before .loop-test .taken in
-    omega (arith, more, c40 .fits)
+    let c48 = c40 .before .before .before .before .before .before .before .before in
+    omega (arith, c32 .before .before .before .before .loop-test .taken, c16 .before .steps-now .ensures .0, c48 .fits)
 
-limit-from-requires-3 : tie.Need-limit-from-requires-3 Inv-loop μ-loop
-limit-from-requires-3 c κs =
+limit-from-requires-2 : tie.Need-limit-from-requires-2 Inv-loop μ-loop
+limit-from-requires-2 c κs =
     let c8 = c .before .before .before .before .before .before .before .before in
     let c16 = c8 .before .before .before .before .before .before .before .before in
     let c24 = c16 .before .before .before .before .before .before .before .before in
     let c32 = c24 .before .before .before .before .before .before .before .before in
-    let loop = c32 .loop in
-    let regs3 = c8 .before .before .before .before .regs3 in
-    let loop-test = c24 .before .before .before .before .before .before .before .loop-test in
-    let long = loop .inv .0 .whole-file in
-    (omega (arith, long, regs3 .given), omega (arith, loop-test .taken))
+        let long = c32 .before .before .before .before .before .before .loop .inv .0 .whole-file in
+    (omega (arith, long, c8 .before .before .before .before .before .regs3 .given), omega (arith, c32 .before .before .before .before .before .loop-test .taken, c16 .before .before .steps-now .ensures .0))
 
 loop-less-5 : tie.Need-loop-less-5 Inv-loop μ-loop
 loop-less-5 c =
@@ -445,7 +456,10 @@ loop-less-5 c =
     let c16 = c8 .before .before .before .before .before .before .before .before in
     let c24 = c16 .before .before .before .before .before .before .before .before in
     let c32 = c24 .before .before .before .before .before .before .before .before in
-    omega (arith, c32 .loop-test .taken)
+    let c40 = c32 .before .before .before .before .before .before .before .before in
+        let more = c40 .loop-test .taken in
+    let some = c16 .before .before .before .before .before .steps-now .ensures .1 (omega (arith, more)) in
+    omega (arith, more, some)
 
 loop-again-5 : tie.Need-loop-again-5 Inv-loop μ-loop
 loop-again-5 c =
@@ -454,19 +468,21 @@ loop-again-5 c =
     let c24 = c16 .before .before .before .before .before .before .before .before in
     let c32 = c24 .before .before .before .before .before .before .before .before in
     let c40 = c32 .before .before .before .before .before .before .before .before in
-    let l = c32 .before .loop .inv in
-    let step = c8 .before .before .before .before .before .before .take-watched2 .ensures in (
-      laws.way-plain _ _ _ _ _ _ _ _ _ _ _ _ _ _ _ _ _ (l .0) (c32 .loop-test .taken)
-          (omega (arith, c40 .before .before .fits)) (c40 .before .before .pre .1) _ _ _ _ _ _ _
-          (step .0) (step .1) (c .before .before .before .before .clear-unless .ensures)
-          (c .before .before .base-of4 .ensures, c .limit-from3 .ensures),
-      omega (arith, l .1, c8 .before .before .before .before .before .regs3 .given),
-      omega (arith, l .2, c8 .before .before .before .mem3 .given),
-      omega (arith, l .3, c8 .before .tags3 .given),
+    let c48 = c40 .before .before .before .before .before .before .before .before in
+        let l = c40 .before .loop .inv in
+    let more = c40 .loop-test .taken in
+    let step = c16 .before .take-watched2 .ensures in
+    let steps = c16 .before .before .before .before .before .steps-now .ensures in (
+      resting.way-plainly _ _ _ _ _ _ _ _ _ _ _ _ _ _ _ _ _ (l .0) _ (steps .1 (omega (arith, more))) (steps .0) _ _ _ _ (step .0) (step .1)
+          (omega (arith, c16 .regs3 .given)) (omega (arith, c8 .before .before .before .before .before .before .mem3 .given)) (omega (arith, c48 .before .before .before .before .fits)) (c48 .before .before .before .before .pre .1) _ (c .before .before .before .before .before .before .before .trapped-alone .ensures) _ _ _
+          (c .before .before .before .before .before .before .clear-unless .ensures) (c .before .before .before .before .base-of4 .ensures, c .before .before .limit-from2 .ensures),
+      omega (arith, l .1, c16 .regs3 .given),
+      omega (arith, l .2, c8 .before .before .before .before .before .before .mem3 .given),
+      omega (arith, l .3, c8 .before .before .before .before .tags3 .given),
     )
 
-sub-t104 : tie.Need-sub-t104 Inv-loop μ-loop
-sub-t104 c =
+sub-t113 : tie.Need-sub-t113 Inv-loop μ-loop
+sub-t113 c =
     let r = c .before .loop .inv .0 in
     omega (arith, r .few-trapped, r .in-run)
 
@@ -483,8 +499,8 @@ returns : tie.Need-returns Inv-loop μ-loop
 unfolding iterate watchedBy
 returns c =
     let c8 = c .before .before .before .before .before .before .before .before in
-    let l = c .before .loop in
-    let n = c8 .before .before .args .n in
+        let l = c .before .loop in
+    let n = c8 .before .before .before .before .args .n in
     let r = l .inv .0 in
     let left = c .loop-test .left in
     let e : n - l .k ≡ 0 = omega (arith, left) in
@@ -499,6 +515,7 @@ take-quick-spec =
     μ-loop
     base-of-requires
     limit-from-requires
+    (λ c κs. search needs)
     loop-holds
     slice-read-pc
     slot-of-requires
@@ -522,9 +539,12 @@ take-quick-spec =
     take-watched-requires
     add-trapped
     base-of-requires-2
-    limit-from-requires-2
+    (λ c κs. search needs)
+    limit-while-requires
     loop-less-3
     loop-again-3
+    (λ c κs. search needs)
+    (λ c κs. search needs)
     read-pcc-requires-2
     look-requires
     base-of-requires-3
@@ -543,15 +563,19 @@ take-quick-spec =
     larger-requires
     loop-less-4
     loop-again-4
+    sub-steps-now
+    (λ c κs. search needs)
     take-watched-requires-2
     add-trapped-2
+    (λ c κs. search needs)
     clear-unless-requires
     base-of-requires-4
     add-k-2
-    limit-from-requires-3
+    limit-from-requires-2
+    (λ c κs. search needs)
     loop-less-5
     loop-again-5
-    sub-t104
+    sub-t113
     same-length
     same-length-2
     same-length-3
