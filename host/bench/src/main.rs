@@ -106,7 +106,6 @@ fn parsed() -> Result<Arguments, clap::Error> {
 }
 
 fn main() -> ExitCode {
-    stop::listen();
     let status = match parsed() {
         Ok(arguments) => {
             colour::ask(arguments.color);
