@@ -176,7 +176,7 @@ PYTHON
 # A second debugger shows why it is sent away; one that comes once the first was silent for ten seconds takes its place, which the first then shows.
 makes_way() {
   start doors.elf || return 1
-  printf '%s\n' 'set confirm off' "target remote $place" stepi 'shell touch held; until [ -e told ]; do sleep 0.1; done' 'stepi' >"$work/first"
+  printf '%s\n' 'set confirm off' "target remote $place" stepi 'shell touch held; until [ -e told ]; do sleep 0.1; done' 'print $x10' >"$work/first"
   (cd "$work" && timeout 60 gdb-multiarch -nx -batch -x first doors.elf) >"$work/first.out" 2>&1 &
   local first=$! tries
   for tries in $(seq 300); do [ ! -e "$work/held" ] || break; sleep 0.1; done

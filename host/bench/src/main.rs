@@ -125,7 +125,6 @@ fn told(usage: &clap::Error) -> Status {
 }
 
 fn main() -> ExitCode {
-    stop::listen();
     let status = match parsed() {
         Ok(arguments) => {
             colour::ask(arguments.color);

@@ -6,6 +6,8 @@ use signal_hook::consts::{SIGINT, SIGTERM};
 use signal_hook::iterator::Signals;
 use signal_hook::low_level::{emulate_default_handler, signal_name};
 use std::sync::atomic::{AtomicBool, AtomicI32, Ordering};
+use std::sync::mpsc::channel;
+use std::sync::Once;
 use std::thread;
 
 /// Stands for no signal.
@@ -18,10 +20,25 @@ static FIRST: AtomicI32 = AtomicI32::new(NONE);
 /// Whether the command looks for it.
 static HEEDED: AtomicBool = AtomicBool::new(false);
 
-/// Listens to signals from here on. Where that cannot be, they end the command as they end any.
+/// Listens to signals from here on, as every command does that makes a file or heeds them. Where that cannot be, and in any
+/// other command, they end it as they end any: a thread more would cost a short command more time than all it does.
 pub fn listen() {
-    if let Ok(mut signals) = Signals::new([SIGINT, SIGTERM]) {
-        thread::spawn(move || signals.forever().for_each(take));
+    static ONCE: Once = Once::new();
+    ONCE.call_once(start);
+}
+
+fn start() {
+    let (ready, is_ready) = channel();
+    let listener = move || {
+        let signals = Signals::new([SIGINT, SIGTERM]);
+        let _ = ready.send(());
+        if let Ok(mut signals) = signals {
+            signals.forever().for_each(take);
+        }
+    };
+    // A signal is only taken once there is a thread that answers it.
+    if thread::Builder::new().spawn(listener).is_ok() {
+        let _ = is_ready.recv();
     }
 }
 
@@ -34,6 +51,7 @@ fn take(signal: i32) {
 
 /// The command looks from here on whether it is asked to stop.
 pub fn heed() {
+    listen();
     HEEDED.store(true, Ordering::SeqCst);
 }
 

@@ -2,6 +2,7 @@
 //! signal too.
 
 use super::spot::folder_of;
+use crate::stop;
 use std::collections::BTreeSet;
 use std::fs::{self, File, Permissions};
 use std::io::Error;
@@ -54,6 +55,7 @@ pub struct Making {
 impl Making {
     /// A fresh file in the folder of a place, which permits what the one at the place does.
     pub fn beside(place: &Path) -> Result<Making, Error> {
+        stop::listen();
         let mut made = made();
         let file = Builder::new()
             .prefix(PREFIX)
