@@ -407,7 +407,7 @@ fn trap_shapes(trap: &Trap) -> Vec<Shape> {
 
 fn trapped(trap: &Trap, account: &Account, subject: &Subject) -> Value {
     let state = account.state;
-    let names = short_names(account.names, trap);
+    let names = first_names(account.names, trap);
     let memory = trap.asked.map(|asked| report::memory_there(asked, state));
     let memory = memory.unwrap_or_default();
     let memory: Vec<&str> = memory.lines().skip(2).collect();
@@ -420,8 +420,8 @@ fn trapped(trap: &Trap, account: &Account, subject: &Subject) -> Value {
     })
 }
 
-/// The first names of a trap's places, with what is too long of each left out.
-fn short_names(names: &Names, trap: &Trap) -> Names {
+/// The first names of a trap's places.
+fn first_names(names: &Names, trap: &Trap) -> Names {
     let asked = trap.asked.map(|asked| asked.address);
     let told = |name: &&Name| {
         let holds = |address: u32| {
@@ -430,12 +430,8 @@ fn short_names(names: &Names, trap: &Trap) -> Names {
         };
         holds(trap.pcc.address) || asked.is_some_and(holds)
     };
-    let short = names.0.iter().filter(told).take(MOST_NAMES);
-    let short = short.map(|name| Name {
-        name: shortened(&name.name),
-        ..name.clone()
-    });
-    Names(short.collect())
+    let first = names.0.iter().filter(told).take(MOST_NAMES);
+    Names(first.cloned().collect())
 }
 
 /// The bytes around the request, where there is one and an authority.

@@ -25,9 +25,7 @@ pub fn bar(all: u64, what: &str) -> ProgressBar {
 /// Whether the locale has letters that a byte has no room for: by the first of its variables that is set.
 fn has_letters(variable: impl Fn(&str) -> Option<String>) -> bool {
     let set = |name: &&str| variable(name).filter(|value| !value.is_empty());
-    let locale = ["LC_ALL", "LC_CTYPE", "LANG"]
-        .iter()
-        .find_map(|name| set(&name));
+    let locale = ["LC_ALL", "LC_CTYPE", "LANG"].iter().find_map(set);
     let locale = locale.unwrap_or_default().to_lowercase();
     locale.contains("utf-8") || locale.contains("utf8")
 }
