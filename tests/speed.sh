@@ -4,11 +4,11 @@
 # quarter more than by long ones; the quick engine needs at most half of the plain one's on integer, memory and bounded, at
 # most a quarter on integer and bounded, at most a third for calls, whatever their distance, at most a twentieth more on any
 # kind of code here (code that changes itself, long loops, each instruction that it has no turn for), and at most twice for a
-# run of one step. The bounds lookup: the proved routine needs no more than the second program's and than the tuned one. Map sheets: the proved reader and writer need no
-# more for a byte than the second program's. The lister and the assembler need few enough for 20 million bytes of
-# code or text a second. Callgrind counts them, so that what else the computer does changes nothing. By time,
-# sheets are read and written at 50 MB a second or more, and memory without tags is swept at 20 million granules
-# a second or more. The proved libraries are built by rt, or lie in the directory that ODDERSNOW_STATICLIB names.
+# run of one step. The bounds lookup: the proved routine needs no more than the second program's and than the tuned one. Map
+# sheets: the proved reader and writer need no more for a byte than the second program's. The lister and the assembler need
+# few enough for 20 million bytes of code or text a second. Callgrind counts them, so that what else the computer does changes
+# nothing. By time, sheets are read and written at 50 MB a second or more, and memory without tags is swept at 20 million
+# granules a second or more. The proved libraries are built by rt, or lie in the directory that ODDERSNOW_STATICLIB names.
 set -u
 source "$(dirname "$0")/lib/check.sh"
 each=1000000

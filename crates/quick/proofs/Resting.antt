@@ -94,8 +94,8 @@ module _ (board : Board) (revoked : List ℕ) where
         }
 
     -- one that trapped leaves them
-    pub way-plainly : n < 2 ^ 32 → board .start % granuleBytes ≡ 0 → (alone : ℕ) → ((alone ≡ 0 → ⊥) → (m ≡ 1) × (alone ≡ b)) → (keys' : List ℕ) (base' limit' : ℕ)
-        → ClearedUnless alone keys keys' → Calm base' (k + m) limit' (last .regs)
+    pub way-plainly : n < 2 ^ 32 → board .start % granuleBytes ≡ 0 → (alone : ℕ) → ((alone ≡ 0 → ⊥) → (m ≡ 1) × (alone ≡ b))
+        → (keys' : List ℕ) (base' limit' : ℕ) → ClearedUnless alone keys keys' → Calm base' (k + m) limit' (last .regs)
         → Running board revoked n s₀ w₀ last code keys' lens rows low high base' limit' watch' (trapped + b) (k + m)
     way-plainly fits aligned alone told keys' base' limit' (inr (z, none)) c = way-rest keys' base' limit' none c
     way-plainly fits aligned alone told keys' base' limit' (inl (some-trapped, same)) c =

@@ -44,7 +44,7 @@ limit-from-requires c κs = (c .before .before .before .before .before .before .
 loop-holds : tie.Need-loop-holds Inv-loop μ-loop
 loop-holds c =
     let c8 = c .before .before .before .before .before .before .before .before in
-        let a = c8 .before .before .args in
+    let a = c8 .before .before .args in
     let n = a .n in
     let z : n - 0 ≡ n = omega arith in
     let none : List ℕ = replicate 2048 0 in
@@ -95,7 +95,7 @@ turn-requires : tie.Need-turn-requires Inv-loop μ-loop
 turn-requires c κs =
     let c8 = c .before .before .before .before .before .before .before .before in
     let c16 = c8 .before .before .before .before .before .before .before .before in
-        let r = c8 .before .before .before .before .loop .inv .0 in
+    let r = c8 .before .before .before .before .loop .inv .0 in
     let more = c8 .before .before .before .loop-test .taken in
     let y = c .before .before .before .before .before .before .entry-for .ensures (c .before .before .before .before .before .if1 .taken) in
     let key = c .before .before .before .before .before .before .before .key-of .ensures in
@@ -113,7 +113,7 @@ add-k c =
     let c8 = c .before .before .before .before .before .before .before .before in
     let c16 = c8 .before .before .before .before .before .before .before .before in
     let c24 = c16 .before .before .before .before .before .before .before .before in
-        let more = c16 .before .before .loop-test .taken in
+    let more = c16 .before .before .loop-test .taken in
     omega (arith, more, c24 .before .before .before .before .before .before .fits)
 
 is-silent-requires : tie.Need-is-silent-requires Inv-loop μ-loop
@@ -123,7 +123,7 @@ loop-less : tie.Need-loop-less Inv-loop μ-loop
 loop-less c =
     let c8 = c .before .before .before .before .before .before .before .before in
     let c16 = c8 .before .before .before .before .before .before .before .before in
-        omega (arith, c16 .before .before .before .before .loop-test .taken)
+    omega (arith, c16 .before .before .before .before .loop-test .taken)
 
 loop-again : tie.Need-loop-again Inv-loop μ-loop
 loop-again c =
@@ -131,7 +131,7 @@ loop-again c =
     let c16 = c8 .before .before .before .before .before .before .before .before in
     let c24 = c16 .before .before .before .before .before .before .before .before in
     let c32 = c24 .before .before .before .before .before .before .before .before in
-        let l = c16 .before .before .before .before .before .loop .inv in
+    let l = c16 .before .before .before .before .before .loop .inv in
     let more = c16 .before .before .before .before .loop-test .taken in
     let y = c8 .before .before .before .before .before .before .before .entry-for .ensures (c8 .before .before .before .before .before .before .if1 .taken) in
     let key = c16 .key-of .ensures in
@@ -159,7 +159,7 @@ loop-less-2 c =
     let c8 = c .before .before .before .before .before .before .before .before in
     let c16 = c8 .before .before .before .before .before .before .before .before in
     let c24 = c16 .before .before .before .before .before .before .before .before in
-        omega (arith, c24 .loop-test .taken)
+    omega (arith, c24 .loop-test .taken)
 
 loop-again-2 : tie.Need-loop-again-2 Inv-loop μ-loop
 loop-again-2 c =
@@ -167,7 +167,7 @@ loop-again-2 c =
     let c16 = c8 .before .before .before .before .before .before .before .before in
     let c24 = c16 .before .before .before .before .before .before .before .before in
     let c32 = c24 .before .before .before .before .before .before .before .before in
-        let l = c24 .before .loop .inv in
+    let l = c24 .before .loop .inv in
     let more = c24 .loop-test .taken in
     let y = c16 .before .before .before .entry-for .ensures (c16 .before .before .if1 .taken) in
     let key = c16 .before .before .before .before .key-of .ensures in
@@ -189,13 +189,13 @@ read-pcc-requires c κs =
     let c8 = c .before .before .before .before .before .before .before .before in
     let c16 = c8 .before .before .before .before .before .before .before .before in
     let c24 = c16 .before .before .before .before .before .before .before .before in
-        let long = c24 .before .before .loop .inv .0 .whole-file in
+    let long = c24 .before .before .loop .inv .0 .whole-file in
     omega (arith, long, c8 .before .before .before .before .regs .given)
 
 learn-requires : tie.Need-learn-requires Inv-loop μ-loop
 learn-requires c κs =
     let c8 = c .before .before .before .before .before .before .before .before in
-        rw (c8 .before .before .before .mem .given) (c8 .before .before .before .before .before .before .turn .ensures .0)
+    rw (c8 .before .before .before .mem .given) (c8 .before .before .before .before .before .before .turn .ensures .0)
 
 take-watched-requires : tie.Need-take-watched-requires Inv-loop μ-loop
 take-watched-requires c κs = search needs
@@ -208,7 +208,7 @@ add-trapped c =
     let c32 = c24 .before .before .before .before .before .before .before .before in
     let c40 = c32 .before .before .before .before .before .before .before .before in
     let c48 = c40 .before .before .before .before .before .before .before .before in
-        let r = c40 .loop .inv .0 in
+    let r = c40 .loop .inv .0 in
     let step = c8 .take-watched .ensures .0 in
     omega (
       arith,
@@ -225,7 +225,7 @@ base-of-requires-2 c κs =
     let c24 = c16 .before .before .before .before .before .before .before .before in
     let c32 = c24 .before .before .before .before .before .before .before .before in
     let c40 = c32 .before .before .before .before .before .before .before .before in
-        let long = c40 .before .loop .inv .0 .whole-file in
+    let long = c40 .before .loop .inv .0 .whole-file in
     omega (arith, long, c24 .before .before .before .regs .given, c8 .regs2 .given)
 
 limit-while-requires : tie.Need-limit-while-requires Inv-loop μ-loop
@@ -235,7 +235,7 @@ limit-while-requires c κs =
     let c24 = c16 .before .before .before .before .before .before .before .before in
     let c32 = c24 .before .before .before .before .before .before .before .before in
     let c40 = c32 .before .before .before .before .before .before .before .before in
-        let long = c40 .before .before .before .before .before .loop .inv .0 .whole-file in (
+    let long = c40 .before .before .before .before .before .loop .inv .0 .whole-file in (
       omega (arith, long, c24 .before .before .before .before .before .before .before .regs .given, c8 .before .before .before .before .regs2 .given),
       omega (arith, c40 .before .before .before .before .loop-test .taken),
     )
@@ -247,7 +247,7 @@ loop-less-3 c =
     let c24 = c16 .before .before .before .before .before .before .before .before in
     let c32 = c24 .before .before .before .before .before .before .before .before in
     let c40 = c32 .before .before .before .before .before .before .before .before in
-        omega (arith, c40 .before .before .before .before .before .loop-test .taken)
+    omega (arith, c40 .before .before .before .before .before .loop-test .taken)
 
 loop-again-3 : tie.Need-loop-again-3 Inv-loop μ-loop
 loop-again-3 c =
@@ -258,7 +258,7 @@ loop-again-3 c =
     let c40 = c32 .before .before .before .before .before .before .before .before in
     let c48 = c40 .before .before .before .before .before .before .before .before in
     let c56 = c48 .before .before .before .before .before .before .before .before in
-        let l = c40 .before .before .before .before .before .before .loop .inv in
+    let l = c40 .before .before .before .before .before .before .loop .inv in
     let more = c40 .before .before .before .before .before .loop-test .taken in
     let y = c40 .entry-for .ensures (c32 .before .before .before .before .before .before .before .if1 .taken) in
     let key = c40 .before .key-of .ensures in
@@ -270,7 +270,8 @@ loop-again-3 c =
       laws.way-left _ _ _ _ _ _ _ _ _ _ _ _ _ _ _ _ _ (l .0) more
           (omega (arith, c56 .before .fits))
           (c56 .before .pre .1) _ _
-          (c32 .before .before .before .before .before .before .before .if1 .taken) refl (omega (arith, given 48)) (y .0, y .1 ∙ key) _ _ (turned .1) _ (rw mem at learnt)
+          (c32 .before .before .before .before .before .before .before .if1 .taken) refl (omega (arith, given 48)) (y .0, y .1 ∙ key)
+          _ _ (turned .1) _ (rw mem at learnt)
           (c16 .before .before .before .before .before .before .if3 .left) _ _ _ _ _ _
           (step .0) (step .1) (c .before .before .before .before .base-of2 .ensures, c .limit-while .ensures) _
           (c16 .before .before .before .before .before .before .before .forget .ensures),
@@ -282,7 +283,7 @@ loop-again-3 c =
 read-pcc-requires-2 : tie.Need-read-pcc-requires-2 Inv-loop μ-loop
 read-pcc-requires-2 c κs =
     let c8 = c .before .before .before .before .before .before .before .before in
-        c8 .before .before .before .loop .inv .0 .whole-file
+    c8 .before .before .before .loop .inv .0 .whole-file
 
 look-requires : tie.Need-look-requires Inv-loop μ-loop
 look-requires c κs = search needs
@@ -290,7 +291,7 @@ look-requires c κs = search needs
 base-of-requires-3 : tie.Need-base-of-requires-3 Inv-loop μ-loop
 base-of-requires-3 c κs =
     let c8 = c .before .before .before .before .before .before .before .before in
-        c8 .before .before .before .before .before .before .before .loop .inv .0 .whole-file
+    c8 .before .before .before .before .before .before .before .loop .inv .0 .whole-file
 
 place-in-requires : tie.Need-place-in-requires Inv-loop μ-loop
 place-in-requires c κs = search needs
@@ -299,13 +300,13 @@ slice-read-room-at : tie.Need-slice-read-room-at Inv-loop μ-loop
 slice-read-room-at c =
     let c8 = c .before .before .before .before .before .before .before .before in
     let c16 = c8 .before .before .before .before .before .before .before .before in
-        omega (arith, c16 .before .before .before .before .before .loop .inv .0 .whole-file)
+    omega (arith, c16 .before .before .before .before .before .loop .inv .0 .whole-file)
 
 room-at-requires : tie.Need-room-at-requires Inv-loop μ-loop
 room-at-requires c κs =
     let c8 = c .before .before .before .before .before .before .before .before in
     let c16 = c8 .before .before .before .before .before .before .before .before in
-        c16 .before .before .slot-of .ensures .1
+    c16 .before .before .slot-of .ensures .1
 
 mul-code : tie.Need-mul-code Inv-loop μ-loop
 mul-code c =
@@ -319,7 +320,7 @@ key-of-requires-2 : tie.Need-key-of-requires-2 Inv-loop μ-loop
 key-of-requires-2 c κs =
     let c8 = c .before .before .before .before .before .before .before .before in
     let c16 = c8 .before .before .before .before .before .before .before .before in
-        omega (arith, c .before .before .before .before .before .before .base-of3 .ensures, c16 .before .before .before .before .slice-known4 .given 49)
+    omega (arith, c .before .before .before .before .before .before .base-of3 .ensures, c16 .before .before .before .before .slice-known4 .given 49)
 
 mul-keys : tie.Need-mul-keys Inv-loop μ-loop
 mul-keys c =
@@ -344,7 +345,7 @@ add-larger : tie.Need-add-larger Inv-loop μ-loop
 add-larger c =
     let c8 = c .before .before .before .before .before .before .before .before in
     let c16 = c8 .before .before .before .before .before .before .before .before in
-        omega (arith, c .before .before .before .before .before .place-in .ensures, c16 .before .before .before .before .before .before .slice-known4 .given 48)
+    omega (arith, c .before .before .before .before .before .place-in .ensures, c16 .before .before .before .before .before .before .slice-known4 .given 48)
 
 larger-requires : tie.Need-larger-requires Inv-loop μ-loop
 larger-requires c κs = search needs
@@ -354,7 +355,8 @@ loop-less-4 c =
     let c8 = c .before .before .before .before .before .before .before .before in
     let c16 = c8 .before .before .before .before .before .before .before .before in
     let c24 = c16 .before .before .before .before .before .before .before .before in
-        let first = c8 .before .before .before .before .before .before .before .is-tried .ensures (c8 .before .before .before .look .ensures .1 (c .before .before .before .before .before .before .before .if4 .taken)) in
+    let first = c8 .before .before .before .before .before .before .before .is-tried .ensures
+    (c8 .before .before .before .look .ensures .1 (c .before .before .before .before .before .before .before .if4 .taken)) in
     omega (arith, c24 .loop-test .taken, first)
 
 loop-again-4 : tie.Need-loop-again-4 Inv-loop μ-loop
@@ -362,7 +364,7 @@ loop-again-4 c =
     let c8 = c .before .before .before .before .before .before .before .before in
     let c16 = c8 .before .before .before .before .before .before .before .before in
     let c24 = c16 .before .before .before .before .before .before .before .before in
-        let loop = c24 .before .loop in
+    let loop = c24 .before .loop in
     let slice-known4 = c16 .before .before .before .before .before .before .before .slice-known4 in
     let slot-of = c16 .before .before .before .before .before .before .slot-of in
     let room-at = c .before .before .before .room-at in
@@ -410,7 +412,7 @@ add-trapped-2 c =
     let c24 = c16 .before .before .before .before .before .before .before .before in
     let c32 = c24 .before .before .before .before .before .before .before .before in
     let c40 = c32 .before .before .before .before .before .before .before .before in
-        let r = c32 .loop .inv .0 in
+    let r = c32 .loop .inv .0 in
     omega (
       arith,
       r .few-trapped,
@@ -429,7 +431,7 @@ base-of-requires-4 c κs =
     let c16 = c8 .before .before .before .before .before .before .before .before in
     let c24 = c16 .before .before .before .before .before .before .before .before in
     let c32 = c24 .before .before .before .before .before .before .before .before in
-        omega (arith, c32 .before .before .before .before .loop .inv .0 .whole-file, c8 .before .before .before .regs3 .given)
+    omega (arith, c32 .before .before .before .before .loop .inv .0 .whole-file, c8 .before .before .before .regs3 .given)
 
 add-k-2 : tie.Need-add-k-2 Inv-loop μ-loop
 add-k-2 c =
@@ -447,8 +449,10 @@ limit-from-requires-2 c κs =
     let c16 = c8 .before .before .before .before .before .before .before .before in
     let c24 = c16 .before .before .before .before .before .before .before .before in
     let c32 = c24 .before .before .before .before .before .before .before .before in
-        let long = c32 .before .before .before .before .before .before .loop .inv .0 .whole-file in
-    (omega (arith, long, c8 .before .before .before .before .before .regs3 .given), omega (arith, c32 .before .before .before .before .before .loop-test .taken, c16 .before .before .steps-now .ensures .0))
+    let long = c32 .before .before .before .before .before .before .loop .inv .0 .whole-file in (
+      omega (arith, long, c8 .before .before .before .before .before .regs3 .given),
+      omega (arith, c32 .before .before .before .before .before .loop-test .taken, c16 .before .before .steps-now .ensures .0),
+    )
 
 loop-less-5 : tie.Need-loop-less-5 Inv-loop μ-loop
 loop-less-5 c =
@@ -457,7 +461,7 @@ loop-less-5 c =
     let c24 = c16 .before .before .before .before .before .before .before .before in
     let c32 = c24 .before .before .before .before .before .before .before .before in
     let c40 = c32 .before .before .before .before .before .before .before .before in
-        let more = c40 .loop-test .taken in
+    let more = c40 .loop-test .taken in
     let some = c16 .before .before .before .before .before .steps-now .ensures .1 (omega (arith, more)) in
     omega (arith, more, some)
 
@@ -469,13 +473,16 @@ loop-again-5 c =
     let c32 = c24 .before .before .before .before .before .before .before .before in
     let c40 = c32 .before .before .before .before .before .before .before .before in
     let c48 = c40 .before .before .before .before .before .before .before .before in
-        let l = c40 .before .loop .inv in
+    let l = c40 .before .loop .inv in
     let more = c40 .loop-test .taken in
     let step = c16 .before .take-watched2 .ensures in
     let steps = c16 .before .before .before .before .before .steps-now .ensures in (
       resting.way-plainly _ _ _ _ _ _ _ _ _ _ _ _ _ _ _ _ _ (l .0) _ (steps .1 (omega (arith, more))) (steps .0) _ _ _ _ (step .0) (step .1)
-          (omega (arith, c16 .regs3 .given)) (omega (arith, c8 .before .before .before .before .before .before .mem3 .given)) (omega (arith, c48 .before .before .before .before .fits)) (c48 .before .before .before .before .pre .1) _ (c .before .before .before .before .before .before .before .trapped-alone .ensures) _ _ _
-          (c .before .before .before .before .before .before .clear-unless .ensures) (c .before .before .before .before .base-of4 .ensures, c .before .before .limit-from2 .ensures),
+          (omega (arith, c16 .regs3 .given)) (omega (arith, c8 .before .before .before .before .before .before .mem3 .given))
+          (omega (arith, c48 .before .before .before .before .fits)) (c48 .before .before .before .before .pre .1) _
+          (c .before .before .before .before .before .before .before .trapped-alone .ensures) _ _ _
+          (c .before .before .before .before .before .before .clear-unless .ensures)
+          (c .before .before .before .before .base-of4 .ensures, c .before .before .limit-from2 .ensures),
       omega (arith, l .1, c16 .regs3 .given),
       omega (arith, l .2, c8 .before .before .before .before .before .before .mem3 .given),
       omega (arith, l .3, c8 .before .before .before .before .tags3 .given),
@@ -499,7 +506,7 @@ returns : tie.Need-returns Inv-loop μ-loop
 unfolding iterate watchedBy
 returns c =
     let c8 = c .before .before .before .before .before .before .before .before in
-        let l = c .before .loop in
+    let l = c .before .loop in
     let n = c8 .before .before .before .before .args .n in
     let r = l .inv .0 in
     let left = c .loop-test .left in
