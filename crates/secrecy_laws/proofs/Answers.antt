@@ -28,11 +28,11 @@ use Rattle.integrity_laws.specs.Reach.{Apart, InRange}
 use Rattle.integrity_laws.proofs.Reach.{apart-of, of-apart, only-right}
 use Rattle.secrecy_laws.specs.Outside.{StandsOutside, in-register, in-granule, HeldOutside, StartOutside, Unread, NoGainOutside, Alike}
 use Rattle.secrecy_laws.specs.Secrecy.{SecrecyClaim}
-use Rattle.secrecy_laws.specs.Isolation.{ShutOutside, IsolationClaim}
+use Rattle.secrecy_laws.specs.Isolation.{ShutOutside, Untouched, IsolationClaim, Isolated}
 use Rattle.secrecy_laws.specs.Calls.{Call, left, EachStart, callsOf}
 use Rattle.secrecy_laws.proofs.Calls.{Secret, none, unread, each-start}
 use Rattle.secrecy_laws.proofs.Promises.{secret-claim, no-gain-claim}
-use Rattle.secrecy_laws.proofs.Isolation.{Kept, isolation-claim}
+use Rattle.secrecy_laws.proofs.Isolation.{stays-claim}
 
 -- not refused, and none found from the first place on
 abbrev None : (start : ℕ) → Query → State → Type 0
@@ -160,25 +160,29 @@ module _ (start low length : ℕ) (s : State) (t : InType s) where
     some : (i : ℕ) → InRange loading start i → length ≡ 0 → ⊥
     some i m z = omega (arith, m .from, m .to, z)
 
-    claim : (i : ℕ) → InRange loading start i → IsolationClaim (λ i. Unit {0}) (Kept range s) s
-    claim i m = isolation-claim range s (none-starts start loading s loads (some i m) t)
+    claim : (i : ℕ) → InRange loading start i → IsolationClaim (λ i. Unit {0}) (Untouched range s) s
+    claim i m = stays-claim range s (none-starts start loading s loads (some i m) t)
 
-    kept : (i : ℕ) → InRange loading start i → (k : ℕ) → k ≡ start → Kept range s i k
+    kept : (i : ℕ) → InRange loading start i → (k : ℕ) → k ≡ start → Untouched range s i k
     kept i m k e =
         rw e (none-unread start loading s loads (some i m) refl, none-shut start storing s stores (some i m) refl i (record { from = m .from; to = m .to }))
 
-    none-isolation : IsolationClaim (InRange loading start) (λ i k. k ≡ start) s
-    none-isolation =
+    none-changed : IsolationClaim (InRange loading start) (λ i k. k ≡ start) s
+    none-changed =
         record {
           after-steps = λ n board revoked z i m e. claim i m .after-steps n board revoked z i tt (kept i m (board .start) e);
           tags-after-steps = λ n board revoked z g p.
               claim (g * granuleBytes + 0) (p 0 (omega arith) .0) .tags-after-steps n board revoked z g
               (λ k l. (tt, kept (g * granuleBytes + k) (p k l .0) (board .start) (p k l .1)));
           after-calls = λ calls i m e.
-              claim i m .after-calls calls i tt (each-start range (λ k. k ≡ start) (Kept range s i) (kept i m) calls e);
+              claim i m .after-calls calls i tt (each-start range (λ k. k ≡ start) (Untouched range s i) (kept i m) calls e);
           after-promises = λ a r i m e.
-              claim i m .after-promises a r i tt (each-start range (λ k. k ≡ start) (Kept range s i) (kept i m) (callsOf r) e);
+              claim i m .after-promises a r i tt (each-start range (λ k. k ≡ start) (Untouched range s i) (kept i m) (callsOf r) e);
         }
+
+    -- and makes no difference outside
+    none-isolation : Isolated range (InRange loading start) (λ i k. k ≡ start) (λ k. k ≡ start) s
+    none-isolation = record { stays = none-changed; unknown = none-secrecy loads }
 
   -- and both answers stay, with any rights of which there is none: the search need not be made again
   none-after : None start loading s → (r : ℕ) → None start (queryOf low length r) s → (calls : List Call) → EachStart (λ k. k ≡ start) calls
@@ -196,7 +200,7 @@ module _ (start low length : ℕ) (s : State) (t : InType s) where
   outside-secrecy-claim e b alike = none-secrecy (nowhere-outside start loading 0 s e) b alike
 
   pub outside-isolation-claim : outsideAnswer start loading 0 s ≡ Nowhere → outsideAnswer start storing 0 s ≡ Nowhere
-      → IsolationClaim (InRange loading start) (λ i k. k ≡ start) s
+      → Isolated range (InRange loading start) (λ i k. k ≡ start) (λ k. k ≡ start) s
   outside-isolation-claim e f = none-isolation (nowhere-outside start loading 0 s e) (nowhere-outside start storing 0 s f)
 
   pub outside-stays : outsideAnswer start loading 0 s ≡ Nowhere → (r : ℕ) → outsideAnswer start (queryOf low length r) 0 s ≡ Nowhere
@@ -208,5 +212,5 @@ module _ (start low length : ℕ) (s : State) (t : InType s) where
   c-secrecy-claim e b alike = none-secrecy (packed-outside start loading 0 s e) b alike
 
   pub c-isolation-claim : packedReach (outsideAnswer start loading 0 s) ≡ 0 → packedReach (outsideAnswer start storing 0 s) ≡ 0
-      → IsolationClaim (InRange loading start) (λ i k. k ≡ start) s
+      → Isolated range (InRange loading start) (λ i k. k ≡ start) (λ k. k ≡ start) s
   c-isolation-claim e f = none-isolation (packed-outside start loading 0 s e) (packed-outside start storing 0 s f)

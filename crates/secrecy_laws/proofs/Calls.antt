@@ -31,7 +31,7 @@ use Rattle.machine_laws.specs.Lent.{GoodState}
 use Rattle.machine_laws.proofs.Refusals.{good-for}
 use Rattle.machine_laws.proofs.Fits.{step-in-type, run-in-type}
 use Rattle.secrecy_laws.specs.Outside.{StandsOutside, in-register, in-granule, HeldOutside, SoundOutside, StartOutside, Unread, NoGainOutside}
-use Rattle.secrecy_laws.specs.Outside.{SameGranule, Alike, WhereDiffered}
+use Rattle.secrecy_laws.specs.Outside.{SameGranule, Settled, both-clear, all-same, Alike, WhereDiffered}
 use Rattle.secrecy_laws.specs.Calls.{Call, step, run, watched, visit, answerOf, leftBy, answers, left, Answer, to-step, to-run, to-watched, to-visit}
 use Rattle.secrecy_laws.specs.Calls.{AtStart, EachStart, StoredIn, Stores}
 use Rattle.secrecy_laws.specs.Secrecy.{AlikeRuns, AlikeCalls, SameStored}
@@ -137,7 +137,7 @@ module _ (hidden : ℕ → Bool) where
     unread : StartOutside hidden a → Unread hidden a start → Secret a start
 
   pub secret-clear : (board : Board) (revoked : List ℕ) (a : State) → GoodState board revoked a → Secret a (board .start) → Clear hidden board revoked a
-  secret-clear board revoked a good (none f) = none-hidden f
+  secret-clear board revoked a good (none f) = none-hidden (good .memory .start-aligned) f
   secret-clear board revoked a good (unread h u) = unread-clear hidden board revoked a good h u
 
   -- it stays
@@ -273,6 +273,18 @@ module _ (hidden : ℕ → Bool) where
           at true = swept-same k same
           at false = same .tag
 
+      -- what is clear stays so
+      fallen : (s : State) (k : ℕ) → bitAt (s .tags) k ≡ 0 → bitAt (swept s .tags) k ≡ 0
+      fallen s k z = at (tag-falls board revoked (s .mem) (s .tags) g _ refl k)
+        where
+          at : (bitAt (swept s .tags) k ≡ bitAt (s .tags) k) ⊎ (bitAt (swept s .tags) k ≡ 0) → bitAt (swept s .tags) k ≡ 0
+          at (inl e) = e ∙ z
+          at (inr e) = e
+
+      settled-swept : (k : ℕ) → Settled k a b → Settled k (swept a) (swept b)
+      settled-swept k (both-clear x y) = both-clear (fallen a k x) (fallen b k y)
+      settled-swept k (all-same s) = all-same (record { bytes = s .bytes; tag = tag-same k s })
+
       tags-long : length (swept a .tags) ≡ length (swept b .tags)
       unfolding tagsAfter
       tags-long = rw visit-refused-alike (at (eqb (visitRefusal board revoked (b .mem) (b .tags) g) 0))
@@ -296,6 +308,7 @@ module _ (hidden : ℕ → Bool) where
             where-differed = record {
               byte = λ i e. e;
               granule = λ k same. record { bytes = same .bytes; tag = tag-same k same };
+              settled = settled-swept;
             };
           }
 

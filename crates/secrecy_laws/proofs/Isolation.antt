@@ -24,10 +24,10 @@ use Rattle.integrity_laws.proofs.Steps.{RegistersShut, byte-stays, tag-stays}
 use Rattle.integrity_laws.proofs.Runs.{writes-origin, stays-itself, stays-both}
 use Rattle.secrecy_laws.specs.Outside.{in-register, StartOutside, Unread, NoGainOutside}
 use Rattle.secrecy_laws.specs.Calls.{Call, step, run, watched, visit, leftBy, left, AtStart, EachStart, callsOf}
-use Rattle.secrecy_laws.specs.Isolation.{ShutOutside, IsolationClaim}
+use Rattle.secrecy_laws.specs.Isolation.{ShutOutside, Untouched, IsolationClaim, Isolated}
 use Rattle.secrecy_laws.proofs.Runs.{steps-gain-none-outside}
 use Rattle.secrecy_laws.proofs.Calls.{unread-stays, at-start, each-start, call-gains-none, call-starts}
-use Rattle.secrecy_laws.proofs.Promises.{reached-kept}
+use Rattle.secrecy_laws.proofs.Promises.{reached-kept, secrecy-claim}
 
 module _ (hidden : ℕ → Bool) where
   -- ---- steps
@@ -81,10 +81,6 @@ module _ (hidden : ℕ → Bool) where
 
   -- ---- calls
 
-  -- what is asked of byte i: nothing outside may read what is hidden, nor write this byte
-  abbrev pub Kept : State → (i start : ℕ) → Type 0
-  Kept s i start = Unread hidden s start × ShutOutside hidden s i start
-
   module _ (i : ℕ) where
     called : (s x : State) (r : ℕ) → (r ≡ 0 → Stays i s x) → Stays i s (cond (eqb r 0) x s)
     called s x r f = go (eqb r 0) refl
@@ -94,13 +90,13 @@ module _ (hidden : ℕ → Bool) where
         go false q = stays-itself i s
 
     module _ (s : State) (h : StartOutside hidden s) where
-      run-stays : (n : ℕ) (board : Board) (revoked : List ℕ) → Kept s i (board .start) → Stays i s (runAfter n board revoked s)
+      run-stays : (n : ℕ) (board : Board) (revoked : List ℕ) → Untouched hidden s i (board .start) → Stays i s (runAfter n board revoked s)
       unfolding runAfter
       run-stays n board revoked p =
           called s _ (refusalOf n board revoked s)
           (λ z. steps-stay board revoked i n (ran s 0 0) (record { good = good-for board revoked s n z; starts = h; unread = p .0 }) (p .1))
 
-      call-stays : (c : Call) → AtStart (Kept s i) c → Stays i s (leftBy c s)
+      call-stays : (c : Call) → AtStart (Untouched hidden s i) c → Stays i s (leftBy c s)
       unfolding leftBy stepAfter
       call-stays (step board revoked) p =
           called s _ (stepRefusal board revoked s)
@@ -110,20 +106,20 @@ module _ (hidden : ℕ → Bool) where
       call-stays (visit g board revoked) p =
           record { same-byte = refl; falls = tag-falls board revoked (s .mem) (s .tags) g _ refl (i / granuleBytes) }
 
-    calls-stay : (calls : List Call) (s : State) → StartOutside hidden s → EachStart (Kept s i) calls → Stays i s (left calls s)
+    calls-stay : (calls : List Call) (s : State) → StartOutside hidden s → EachStart (Untouched hidden s i) calls → Stays i s (left calls s)
     unfolding left EachStart
     calls-stay [] s h e = stays-itself i s
     calls-stay (c ∷ cs) s h e =
         let x = leftBy c s in
-        let u = at-start hidden (Kept s i) (Unread hidden s) (λ k p. p .0) c (e .0) in
+        let u = at-start hidden (Untouched hidden s i) (Unread hidden s) (λ k p. p .0) c (e .0) in
         let g = call-gains-none hidden s h c u in
         stays-both i (call-stays s h c (e .0))
         (calls-stay cs x (call-starts hidden s h c u)
-        (each-start hidden (Kept s i) (Kept x i) (λ start p. (unread-stays hidden s x start g (p .0), shut-stays i s x start g (p .1))) cs (e .1)))
+        (each-start hidden (Untouched hidden s i) (Untouched hidden x i) (λ start p. (unread-stays hidden s x start g (p .0), shut-stays i s x start g (p .1))) cs (e .1)))
 
 -- what nothing held outside may write stays, where it may not read what is hidden
-pub isolation-claim : (hidden : ℕ → Bool) (s : State) → StartOutside hidden s → IsolationClaim (λ i. Unit {0}) (Kept hidden s) s
-isolation-claim hidden s h =
+pub stays-claim : (hidden : ℕ → Bool) (s : State) → StartOutside hidden s → IsolationClaim (λ i. Unit {0}) (Untouched hidden s) s
+stays-claim hidden s h =
     record {
       after-steps = λ n board revoked z i here p.
           steps-stay hidden board revoked i n (ran s 0 0) (record { good = good-of board revoked s z; starts = h; unread = p .0 }) (p .1);
@@ -133,3 +129,8 @@ isolation-claim hidden s h =
       after-calls = λ calls i here e. calls-stay hidden i calls s h e;
       after-promises = λ a r i here e. rw (reached-kept r .is-left) (calls-stay hidden i (callsOf r) s h e);
     }
+
+-- and makes no difference outside
+pub isolation-claim : (hidden : ℕ → Bool) (s : State) → StartOutside hidden s
+    → Isolated hidden (λ i. Unit {0}) (Untouched hidden s) (Unread hidden s) s
+isolation-claim hidden s h = record { stays = stays-claim hidden s h; unknown = λ b alike. secrecy-claim hidden s b h alike }

@@ -2,7 +2,7 @@
 use mathlib.Core.Path.{_≡_, refl, sym, _∙_}
 use mathlib.Core.Bool.{Bool, true, false, true≢false}
 use mathlib.Core.List.{List}
-use Prim.Native.Nat.{ℕ, zero, suc, _+_, _*_, _/_, _≤_}
+use Prim.Native.Nat.{ℕ, zero, suc, _+_, _*_, _/_, _%_, _≤_}
 use native.Mathlib.Omega.{arith}
 use lib.ListN.{length}
 use Rattle.metadata.specs.Rights.{LD}
@@ -26,7 +26,7 @@ use Rattle.authority_laws.specs.Gain as Whole
 use Rattle.authority_laws.specs.Gain.{Held, Start, NoGain}
 use Rattle.authority_laws.proofs.Runs.{steps-gain-none}
 use Rattle.secrecy_laws.specs.Outside.{Reads, StandsOutside, in-register, in-granule, HeldOutside, StartOutside, Unread, NoGainOutside}
-use Rattle.secrecy_laws.specs.Outside.{SameTag, Alike, WhereDiffered}
+use Rattle.secrecy_laws.specs.Outside.{TagAlike, Alike, WhereDiffered}
 use Rattle.secrecy_laws.specs.Secrecy.{AlikeRuns, SameStored}
 use Rattle.secrecy_laws.proofs.Steps.{RegistersUnread, next-alike, step-tag, step-where-differed, step-alike, step-stored}
 use Rattle.secrecy_laws.proofs.Blank.{alike-itself, alike-turned, alike-both, held-alike, good-alike}
@@ -35,15 +35,20 @@ use Rattle.secrecy_laws.proofs.Blank.{blanked, blanked-alike, blanked-h
 -- ---- where what differs lies
 
 pub where-itself : (a b : State) → WhereDiffered a b a b
-where-itself a b = record { byte = λ i h. h; granule = λ g h. h }
+where-itself a b = record { byte = λ i h. h; granule = λ g h. h; settled = λ g h. h }
 
 pub where-both : (a b x y u v : State) → WhereDiffered a b x y → WhereDiffered x y u v → WhereDiffered a b u v
-where-both a b x y u v p q = record { byte = λ i h. q .byte i (p .byte i h); granule = λ g h. q .granule g (p .granule g h) }
+where-both a b x y u v p q =
+    record {
+      byte = λ i h. q .byte i (p .byte i h);
+      granule = λ g h. q .granule g (p .granule g h);
+      settled = λ g h. q .settled g (p .settled g h);
+    }
 
 -- what was stored stays the same
 pub stored-stays : (a b x y : State) → WhereDiffered a b x y → (v : Stored) → SameStored v a b → SameStored v x y
 stored-stays a b x y w nothing h = tt
-stored-stays a b x y w (bytes width j value) h = λ i l u. w .byte i (h i l u)
+stored-stays a b x y w (bytes width j value) h = (λ i l u. w .byte i (h .0 i l u), w .settled (j / granuleBytes) (h .1))
 stored-stays a b x y w (whole j value) h = w .granule (j / granuleBytes) h
 
 -- ---- a state of which nothing held at all may read what is hidden
@@ -88,22 +93,26 @@ module _ (hidden : ℕ → Bool) (board : Board) (revoked : List ℕ) where
 
   -- ---- a state whose registers, from here on, may read nothing hidden
 
-  -- nothing is hidden at all; or the state is alike one that is shut
+  -- nothing is hidden at all; or the state is alike one that is shut. Memory starts at a granule either way
   pub data Clear (s : State) : Type 0 where
-    none-hidden : ((g : ℕ) → hidden g ≡ false) → Clear s
+    none-hidden : board .start % granuleBytes ≡ 0 → ((g : ℕ) → hidden g ≡ false) → Clear s
     beside : (t : State) → Shut t → Alike hidden s t → Clear s
 
+  clear-aligned : (s : State) → Clear s → board .start % granuleBytes ≡ 0
+  clear-aligned s (none-hidden aligned f) = aligned
+  clear-aligned s (beside t h alike) = h .good .memory .start-aligned
+
   clear-registers : (s : State) → Clear s → RegistersUnread hidden s (board .start)
-  clear-registers s (none-hidden f) = λ k l t i h r. true≢false (sym h ∙ f (i / granuleBytes))
+  clear-registers s (none-hidden aligned f) = λ k l t i h r. true≢false (sym h ∙ f (i / granuleBytes))
   clear-registers s (beside t h alike) = rw (alike .same-registers) (shut-registers t h)
 
   clear-after : (s : State) → Clear s → Clear (stepOf board revoked s)
-  clear-after s (none-hidden f) = none-hidden f
+  clear-after s (none-hidden aligned f) = none-hidden aligned f
   clear-after s (beside t h alike) =
       beside (stepOf board revoked t) (shut-after t h) (step-alike hidden board revoked s t alike (shut-registers t h))
 
   pub clear-alike : (a b : State) → Alike hidden a b → Clear a → Clear b
-  clear-alike a b alike (none-hidden f) = none-hidden f
+  clear-alike a b alike (none-hidden aligned f) = none-hidden aligned f
   clear-alike a b alike (beside t h k) = beside t h (alike-both hidden (alike-turned hidden alike) k)
 
   clear-through : (n : ℕ) (r : Ran) → Clear (r .at) → Clear (iterate n board revoked r .at)
@@ -121,9 +130,11 @@ module _ (hidden : ℕ → Bool) (board : Board) (revoked : List ℕ) where
     step-clear = step-alike hidden board revoked a b alike (clear-registers b clear)
 
     where-clear : WhereDiffered a b (stepOf board revoked a) (stepOf board revoked b)
-    where-clear = step-where-differed hidden board revoked a b alike (clear-registers b clear)
+    where-clear =
+        step-where-differed hidden board revoked a b alike (clear-registers b clear)
+        (rw next-clear at (next-within board revoked a (clear-aligned b clear)))
 
-    tag-clear : (g : ℕ) → SameTag g a b → SameTag g (stepOf board revoked a) (stepOf board revoked b)
+    tag-clear : (g : ℕ) → TagAlike g a b → TagAlike g (stepOf board revoked a) (stepOf board revoked b)
     tag-clear = step-tag hidden board revoked a b alike (clear-registers b clear)
 
     stored-clear : GoodState board revoked a → SameStored (storedBy (effectAt board revoked a)) (stepOf board revoked a) (stepOf board revoked b)

@@ -1,30 +1,31 @@
 -- What is written equally to two states of one size leaves the same what was the same; so two states that are alike outside hidden granules take the same step,
 -- and stay alike, where their registers may read nothing hidden. Assumes nothing.
 use mathlib.Core.Path.{_≡_, refl, sym, _∙_}
-use mathlib.Core.Bool.{Bool, true, false, cond}
+use mathlib.Core.Bool.{Bool, true, false, cond, _&&_, true≢false}
 use mathlib.Core.List.{List}
 use Prim.Native.Nat.{ℕ, zero, suc, _+_, _-_, _*_, _/_, _≤_, _<_}
 use native.Mathlib.Omega.{arith}
 use lib.Dec.{eqb, leb, ltb}
 use lib.ListN.{getD, set, length}
 use lib.Seq.{getD-set-same, getD-set-other, set-out}
-use borrow.Author.Tests.{eqb-true, eqb-false, ltb-true, ltb-false, le-leb}
+use borrow.Author.Tests.{eqb-true, eqb-false, eq-eqb, ltb-true, ltb-false, lt-ltb, le-leb}
 use Rattle.words.specs.Words.{setBytes, bitAt, putBit}
 use Rattle.words.proofs.Word.{by-test}
 use Rattle.words.proofs.Bytes.{length-setBytes, getD-setBytes-same}
 use Rattle.words.proofs.Bits.{bitAt-putBit-same, bitAt-putBit-other}
 use Rattle.capability.specs.declared.Capability.{Capability}
+use Rattle.capability_laws.proofs.Tests.{both-true}
 use Rattle.state.specs.Layout.{capabilityCount}
 use Rattle.state.specs.Registers.{capabilityAt}
 use Rattle.state.specs.Lent.{State}
 use Rattle.state.specs.Memory.{granuleBytes}
-use Rattle.state.specs.Effects.{Stored, nothing, bytes, whole, storedBy, Within}
+use Rattle.state.specs.Effects.{Stored, nothing, bytes, whole, storedBy, OneGranule, Within}
 use Rattle.state.specs.declared.Board.{Board}
 use Rattle.state.specs.declared.Effect.{Effect}
 use Rattle.commit.specs.Commit.{stored, storedCapability, retagged, memoryAfter, tagsAfter, applyEffect}
 use Rattle.execution.specs.Step.{lengthIn, fetchedIn, effectAt, stepOf}
 use Rattle.machine_laws.proofs.Kept.{lengths-stay}
-use Rattle.secrecy_laws.specs.Outside.{Reads, SameByte, SameTag, SameGranule, Alike, WhereDiffered}
+use Rattle.secrecy_laws.specs.Outside.{Reads, SameByte, TagAlike, SameGranule, Settled, both-clear, all-same, Alike, WhereDiffered}
 use Rattle.secrecy_laws.specs.Secrecy.{SameStored}
 use Rattle.secrecy_laws.proofs.Effects.{SameIn, met-same, next-same}
 
@@ -64,6 +65,42 @@ putBit-same a b g v k l e =
     (λ h. let out = ltb-false (g / 8) (length a) h in rw (set-out a (g / 8) _ out, set-out b (g / 8) _ (omega arith)) e))
     (λ s. let d = eqb-false k g s in bitAt-putBit-other a g v k d ∙ e ∙ sym (bitAt-putBit-other b g v k d))
 
+-- a bit that is clear, after another is put, or this one clear, or one that is not there
+put-clear : (l : List ℕ) (k v g : ℕ) → bitAt l g ≡ 0 → (g ≡ k → g < 8 * length l → v ≡ 0) → bitAt (putBit l k v) g ≡ 0
+unfolding putBit
+put-clear l k v g z f =
+    by-test (eqb g k)
+    (λ s. let e = eqb-true g k s in
+    by-test (ltb (k / 8) (length l))
+    (λ h. let in-l = ltb-true (k / 8) (length l) h in rw e (bitAt-putBit-same l k v (omega arith) ∙ omega (arith, f e (omega (arith, e)))))
+    (λ h. rw (set-out l (k / 8) _ (ltb-false (k / 8) (length l) h)) z))
+    (λ s. bitAt-putBit-other l k v g (eqb-false g k s) ∙ z)
+
+-- ---- what is settled
+
+pub settled-tag : (g : ℕ) (a b : State) → Settled g a b → TagAlike g a b
+settled-tag g a b (both-clear x y) = x ∙ sym y
+settled-tag g a b (all-same k) = k .tag
+
+retagged-clear : (mem tags : List ℕ) (n i tag g : ℕ) → bitAt tags g ≡ 0 → (g ≡ i / granuleBytes → g < 8 * length tags → tag ≡ 0)
+    → bitAt (retagged mem tags n i tag) g ≡ 0
+unfolding retagged
+retagged-clear mem tags n i tag g z f = go (leb (i + n) (length mem))
+  where
+    go : (t : Bool) → bitAt (cond t (putBit tags (i / granuleBytes) tag) tags) g ≡ 0
+    go true = put-clear tags (i / granuleBytes) tag g z f
+    go false = z
+
+-- where bytes are stored
+retagged-zero : (mem tags : List ℕ) (n i : ℕ) → i + n ≤ length mem → i / granuleBytes < 8 * length tags → bitAt (retagged mem tags n i 0) (i / granuleBytes) ≡ 0
+unfolding retagged
+retagged-zero mem tags n i m l = rw (le-leb (i + n) (length mem) m) (bitAt-putBit-same tags (i / granuleBytes) 0 l)
+
+-- u is s with x stored
+record After (x : Stored) (s u : State) : Type 0 where
+  memory : u .mem ≡ memoryAfter x (s .mem)
+  its-tags : u .tags ≡ tagsAfter x (s .mem) (s .tags)
+
 -- ---- the same effect
 
 module _ (a b : State) (size : length (a .mem) ≡ length (b .mem)) (tag-size : length (a .tags) ≡ length (b .tags)) where
@@ -87,7 +124,7 @@ module _ (a b : State) (size : length (a .mem) ≡ length (b .mem)) (tag-size : 
       (setBytes-same 4 (setBytes 4 (a .mem) i v) (setBytes 4 (b .mem) i v) (i + 4) (value .metadata) j (first-long i v)
       (setBytes-same 4 (a .mem) (b .mem) i v j size e)) e)
 
-  retagged-same : (n i tag g : ℕ) → SameTag g a b → bitAt (retagged (a .mem) (a .tags) n i tag) g ≡ bitAt (retagged (b .mem) (b .tags) n i tag) g
+  retagged-same : (n i tag g : ℕ) → TagAlike g a b → bitAt (retagged (a .mem) (a .tags) n i tag) g ≡ bitAt (retagged (b .mem) (b .tags) n i tag) g
   unfolding retagged
   retagged-same n i tag g e = rw size (go (leb (i + n) (length (b .mem))))
     where
@@ -97,7 +134,7 @@ module _ (a b : State) (size : length (a .mem) ≡ length (b .mem)) (tag-size : 
       go false = e
 
   -- a tag that was the same
-  tag-after : (x : Stored) (g : ℕ) → SameTag g a b → bitAt (tagsAfter x (a .mem) (a .tags)) g ≡ bitAt (tagsAfter x (b .mem) (b .tags)) g
+  tag-after : (x : Stored) (g : ℕ) → TagAlike g a b → bitAt (tagsAfter x (a .mem) (a .tags)) g ≡ bitAt (tagsAfter x (b .mem) (b .tags)) g
   tag-after nothing g e = e
   tag-after (bytes n i value) g e = retagged-same n i 0 g e
   tag-after (whole i value) g e = retagged-same granuleBytes i (value .tag) g e
@@ -107,9 +144,13 @@ module _ (a b : State) (size : length (a .mem) ≡ length (b .mem)) (tag-size : 
     unfolding applyEffect
     applied-byte i h = byte-after (storedBy e) i h
 
-    pub applied-tag : (g : ℕ) → SameTag g a b → SameTag g (applyEffect start n e a) (applyEffect start n e b)
+    pub applied-tag : (g : ℕ) → TagAlike g a b → TagAlike g (applyEffect start n e a) (applyEffect start n e b)
     unfolding applyEffect
     applied-tag g h = tag-after (storedBy e) g h
+
+    applied : (s : State) → After (storedBy e) s (applyEffect start n e s)
+    unfolding applyEffect
+    applied s = record { memory = refl; its-tags = refl }
 
   -- what is stored, whatever was there
   over-bytes : (n i value j : ℕ) → i + n ≤ length (a .mem) → i ≤ j → j < i + n
@@ -141,21 +182,55 @@ module _ (a b : State) (size : length (a .mem) ≡ length (b .mem)) (tag-size : 
       (bitAt-putBit-same (a .tags) (i / granuleBytes) tag l
       ∙ sym (bitAt-putBit-same (b .tags) (i / granuleBytes) tag (omega (arith, tag-size))))
 
+  over-granule : (i : ℕ) (value : Capability) → OneGranule i granuleBytes (length (a .mem)) → i / granuleBytes < 8 * length (a .tags) → (u v : State)
+      → After (whole i value) a u → After (whole i value) b v → SameGranule (i / granuleBytes) u v
+  over-granule i value w l u v p q =
+      record {
+        bytes = λ j k.
+            rw (p .memory, q .memory) (over-whole i j value (w .inside) (omega (arith, k, w .together)) (omega (arith, k, w .together)));
+        tag = rw (p .its-tags, q .its-tags) (over-tag granuleBytes i (value .tag) (w .inside) l);
+      }
+
   -- in a memory whose tags are as many as its granules
   pub over-stored : (start n : ℕ) (e : Effect) → length (a .mem) ≤ granuleBytes * (8 * length (a .tags)) → Within (length (a .mem)) (storedBy e)
       → SameStored (storedBy e) (applyEffect start n e a) (applyEffect start n e b)
-  unfolding applyEffect
-  over-stored start n e long w = go (storedBy e) w (applyEffect start n e a) (applyEffect start n e b) refl refl refl refl
+  over-stored start n e long w = go (storedBy e) w (applyEffect start n e a) (applyEffect start n e b) (applied start n e a) (applied start n e b)
     where
-      go : (x : Stored) → Within (length (a .mem)) x → (u v : State) → u .mem ≡ memoryAfter x (a .mem) → u .tags ≡ tagsAfter x (a .mem) (a .tags)
-          → v .mem ≡ memoryAfter x (b .mem) → v .tags ≡ tagsAfter x (b .mem) (b .tags) → SameStored x u v
-      go nothing w u v p q r t = tt
-      go (bytes width i value) w u v p q r t = λ j l k. rw (p, r) (over-bytes width i value j (w .inside) l k)
-      go (whole i value) w u v p q r t =
-          record {
-            bytes = λ j k. rw (p, r) (over-whole i j value (w .inside) (omega (arith, k, w .together)) (omega (arith, k, w .together)));
-            tag = rw (q, t) (over-tag granuleBytes i (value .tag) (w .inside) (omega (arith, w .inside, long)));
-          }
+      go : (x : Stored) → Within (length (a .mem)) x → (u v : State) → After x a u → After x b v → SameStored x u v
+      go nothing w u v p q = tt
+      go (bytes width i value) w u v p q = (
+        λ j l k. rw (p .memory, q .memory) (over-bytes width i value j (w .inside) l k),
+        both-clear
+        (rw (p .its-tags) (retagged-zero (a .mem) (a .tags) width i (w .inside) (omega (arith, w .some, w .inside, long))))
+        (rw (q .its-tags)
+        (retagged-zero (b .mem) (b .tags) width i (omega (arith, w .inside, size)) (omega (arith, w .some, w .inside, long, tag-size)))),
+      )
+      go (whole i value) w u v p q = over-granule i value w (omega (arith, w .inside, long)) u v p q
+
+  -- what was settled is
+  clear-after : (x : Stored) → Within (length (a .mem)) x → (g : ℕ) (u v : State) → After x a u → After x b v → bitAt (a .tags) g ≡ 0 → bitAt (b .tags) g ≡ 0
+      → Settled g u v
+  clear-after nothing w g u v p q y z = both-clear (rw (p .its-tags) y) (rw (q .its-tags) z)
+  clear-after (bytes n i value) w g u v p q y z =
+      both-clear (rw (p .its-tags) (retagged-clear (a .mem) (a .tags) n i 0 g y (λ e l. refl)))
+      (rw (q .its-tags) (retagged-clear (b .mem) (b .tags) n i 0 g z (λ e l. refl)))
+  clear-after (whole i value) w g u v p q y z =
+      by-test (eqb g (i / granuleBytes) && ltb g (8 * length (a .tags)))
+      (λ t. let k = both-true (eqb g (i / granuleBytes)) (ltb g (8 * length (a .tags))) .0 t in
+      let e = eqb-true g (i / granuleBytes) (k .0) in
+      let l = ltb-true g (8 * length (a .tags)) (k .1) in
+      all-same (rw e (over-granule i value w (omega (arith, e, l)) u v p q)))
+      (λ t. both-clear (rw (p .its-tags) (retagged-clear (a .mem) (a .tags) granuleBytes i (value .tag) g y (λ e l. absurd (not-both t e l))))
+      (rw (q .its-tags) (retagged-clear (b .mem) (b .tags) granuleBytes i (value .tag) g z (λ e l. absurd (not-both t e (omega (arith, l, tag-size)))))))
+    where
+      not-both : eqb g (i / granuleBytes) && ltb g (8 * length (a .tags)) ≡ false → g ≡ i / granuleBytes → g < 8 * length (a .tags) → ⊥
+      not-both t e l = true≢false (sym (rw (eq-eqb g (i / granuleBytes) e, lt-ltb g (8 * length (a .tags)) l) refl) ∙ t)
+
+  pub applied-settled : (start n : ℕ) (e : Effect) → Within (length (a .mem)) (storedBy e) → (g : ℕ) → Settled g a b
+      → Settled g (applyEffect start n e a) (applyEffect start n e b)
+  applied-settled start n e w g (both-clear y z) = clear-after (storedBy e) w g _ _ (applied start n e a) (applied start n e b) y z
+  applied-settled start n e w g (all-same k) =
+      all-same (record { bytes = λ i h. applied-byte start n e i (k .bytes i h); tag = applied-tag start n e g (k .tag) })
 
 -- ---- a step
 
@@ -190,15 +265,21 @@ module _ (hidden : ℕ → Bool) (board : Board) (revoked : List ℕ) (a b : Sta
   unfolding stepOf
   step-byte i h = rw (next-alike, met-alike) (applied-byte a b (alike .same-size) (alike .same-tag-size) (board .start) moved effect i h)
 
-  pub step-tag : (g : ℕ) → SameTag g a b → SameTag g (stepOf board revoked a) (stepOf board revoked b)
+  pub step-tag : (g : ℕ) → TagAlike g a b → TagAlike g (stepOf board revoked a) (stepOf board revoked b)
   unfolding stepOf
   step-tag g h = rw (next-alike, met-alike) (applied-tag a b (alike .same-size) (alike .same-tag-size) (board .start) moved effect g h)
 
-  pub step-where-differed : WhereDiffered a b (stepOf board revoked a) (stepOf board revoked b)
-  step-where-differed =
+  step-settled : Within (length (a .mem)) (storedBy (effectAt board revoked b)) → (g : ℕ) → Settled g a b
+      → Settled g (stepOf board revoked a) (stepOf board revoked b)
+  unfolding stepOf
+  step-settled w g h = rw (next-alike, met-alike) (applied-settled a b (alike .same-size) (alike .same-tag-size) (board .start) moved effect w g h)
+
+  pub step-where-differed : Within (length (a .mem)) (storedBy (effectAt board revoked b)) → WhereDiffered a b (stepOf board revoked a) (stepOf board revoked b)
+  step-where-differed w =
       record {
         byte = step-byte;
         granule = λ g same. record { bytes = λ i e. step-byte i (same .bytes i e); tag = step-tag g (same .tag) };
+        settled = step-settled w;
       }
 
   step-registers : stepOf board revoked a .regs ≡ stepOf board revoked b .regs

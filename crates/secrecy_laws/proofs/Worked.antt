@@ -1,6 +1,6 @@
 -- The worked machines run alike, by the answer of the search; with a capability that may load what is hidden they do not; a compartment that has authority over
 -- itself stays; a machine that loads past bounds is shut out. Assumes nothing.
-use mathlib.Core.Path.{_≡_, refl, sym, ap}
+use mathlib.Core.Path.{_≡_, refl, sym, ap, _∙_}
 use mathlib.Core.List.{List}
 use Prim.Native.Nat.{ℕ, _+_, _*_, _/_, _^_, _≤_, _<_}
 use native.Mathlib.Omega.{arith}
@@ -26,7 +26,7 @@ use Rattle.state.specs.Addresses.{legalized}
 use Rattle.state.specs.Status.{trapStatus}
 use Rattle.state.specs.Marks.{cleared, belowMark, marked}
 use Rattle.state.specs.Timer.{timeOf, compareOf, interrupted, ticked}
-use Rattle.state.specs.Lent.{State}
+use Rattle.state.specs.Lent.{State, state}
 use Rattle.state.specs.declared.Effect.the-variants.{Write}
 use Rattle.memory_instructions.specs.Access.{loadedValue, loadAt, loadEffect, storeAt, storeEffect, loadCapabilityEffect, memoryEffect}
 use Rattle.commit.specs.Commit.{advanced, trapped, retagged, stored, applyEffect, retires}
@@ -82,16 +82,20 @@ apart i h l =
     absurd (true≢false (rw (x, y) at h)))
     (λ t. ltb-false i 52 t)
 
-pub one-other : Alike hidden one other
-unfolding one other
-one-other =
+-- so a state is alike one with that word and no tag in granule 4
+changed-alike : (s : State) → Alike hidden s (state (s .regs) (setBytes 4 (s .mem) 48 7) (putBit (s .tags) 4 0))
+changed-alike s =
     record {
       same-registers = refl;
-      same-size = sym (length-setBytes 4 (one .mem) 48 7);
-      same-tag-size = sym (length-putBit (one .tags) 4 0);
-      same-byte = λ i h. sym (getD-setBytes-other 4 (one .mem) 48 7 i (λ l. apart i h l));
-      same-tag = λ g h. sym (bitAt-putBit-other (one .tags) 4 0 g (λ e. true≢false (rw e at h)));
+      same-size = sym (length-setBytes 4 (s .mem) 48 7);
+      same-tag-size = sym (length-putBit (s .tags) 4 0);
+      same-byte = λ i h. sym (getD-setBytes-other 4 (s .mem) 48 7 i (λ l. apart i h l));
+      same-tag = λ g h. sym (bitAt-putBit-other (s .tags) 4 0 g (λ e. true≢false (rw e at h)));
     }
+
+pub one-other : Alike hidden one other
+unfolding one other
+one-other = changed-alike one
 
 -- ---- the run
 
@@ -143,12 +147,33 @@ alone-counted = refl
 -- so it stays
 pub alone-stays : (n i : ℕ) → 32 ≤ i → i < 64 → Stays i alone (ranFrom n board revoked alone .at)
 alone-stays n i l u =
-    outside-isolation-claim 0x20000000 0x20000020 0x20 alone alone-types alone-unread alone-unwritten .after-steps n board revoked alone-runs i
+    outside-isolation-claim 0x20000000 0x20000020 0x20 alone alone-types alone-unread alone-unwritten .stays .after-steps n board revoked alone-runs i
     (record { from = omega arith; to = omega arith }) refl
+
+-- the program tries: its store to the first hidden byte traps, and what stood there stands there, with its tag
+pub alone-told : (ranFrom 2 board revoked alone .retired ≡ 1) × (ranFrom 2 board revoked alone .trapped ≡ 1)
+    × (getD (alone .mem) 32 0 ≡ 0x30) × (getD (ranFrom 2 board revoked alone .at .mem) 32 0 ≡ 0x30)
+    × (bitAt (ranFrom 2 board revoked alone .at .tags) 4 ≡ 1)
+unfolding alone iterate oneMore stepOf metOf interrupted timeOf compareOf ticked cleared belowMark marked effectIn trapOr lengthIn
+    instructionIn wordIn fetchOf fetchedAt standsOf secondOf effectOf applyEffect retires setCapability writeRegister advanced trapped retagged
+    stored loadedValue loadAt loadEffect storeAt storeEffect memoryEffect checked accessCause placeOf capabilityIn capabilityAt integerAt
+    loadOf storeOf decodeOf immediateI immediateS low high rights sealed tagged covers sameBounds moveOf legalized trapStatus exponentOf lowOf
+    highOf lowAt highAt rightsOf permissionsOf typeOf scaleOf topOf baseOf signExtend leBytes setBytes bitAt withBit putBit
+alone-told = (refl, refl, refl, refl, refl)
 
 -- ---- that the hypothesis is needed
 
--- with c1 for all of memory the search finds it, and c2 tells one from the other after one step
+-- with c1 for all of memory two states run that are alike
+pub open-runs : stepRefusal board revoked oneOpen ≡ 0
+unfolding oneOpen setCapability setBytes refusalOf goodMemory goodTags goodZero goodWords goodWindow goodBits goodEdition sound soundIfTagged
+    goodBounds capabilityAt tagged low high lowAt highAt lowOf highOf exponentOf scaleOf topOf baseOf
+open-runs = refl
+
+pub open-other : Alike hidden oneOpen otherOpen
+unfolding oneOpen otherOpen
+open-other = changed-alike oneOpen
+
+-- the search finds it, and c2 tells one from the other after one step: they do not run alike
 pub open-found : outsideAnswer 0x20000000 (queryOf 0x20000020 0x20 (2 ^ LD)) 0 oneOpen ≡ Found 1
 unfolding oneOpen outsideAnswer outsideRefusal reachRefusal askedRefusal firstOutside passesOutside firstOf capabilityIs reachesInto goodMemory goodBits
     goodTags goodZero goodWords setCapability setBytes leBytes bitAt capabilityAt capabilityIn tagged sound low high rights lowAt highAt lowOf highOf
@@ -162,6 +187,13 @@ unfolding oneOpen otherOpen stepOf metOf interrupted timeOf compareOf ticked cle
     immediateI low high rights sealed tagged covers sameBounds moveOf exponentOf lowOf highOf lowAt highAt rightsOf permissionsOf typeOf
     scaleOf topOf baseOf signExtend leBytes setBytes withBit putBit
 open-tells = (refl, refl)
+
+pub open-shut-out : AlikeRuns hidden board revoked oneOpen otherOpen (ranFrom 1 board revoked oneOpen) (ranFrom 1 board revoked otherOpen) → ⊥
+unfolding iterate oneMore
+open-shut-out k =
+    let e : integerAt (stepOf board revoked oneOpen .regs) 2 ≡ integerAt (stepOf board revoked otherOpen .regs) 2
+        = ap (λ (r : List ℕ). integerAt r 2) (k .alike .same-registers) in
+    omega (arith, sym (open-tells .0) ∙ e ∙ open-tells .1)
 
 -- ---- a wrong machine
 

@@ -44,7 +44,7 @@ pub record StartOutside (hidden : ℕ → Bool) (s : State) : Type 0 where
   pub in-type : InType s
   pub sound : SoundOutside hidden s
 
--- nothing held outside may read a byte of a hidden granule of a memory from start on
+-- Nothing held outside may read a byte of a hidden granule of a memory from start on. A granule past memory's end counts where the test is true of it.
 abbrev pub Unread : (hidden : ℕ → Bool) → State → (start : ℕ) → Type 0
 Unread hidden s start = (c : Capability) → HeldOutside hidden s c → (i : ℕ) → hidden (i / granuleBytes) ≡ true → Reads c (start + i) → ⊥
 
@@ -60,16 +60,16 @@ pub record NoGainOutside (hidden : ℕ → Bool) (before after : State) : Type 0
 
 -- ---- two states
 
--- byte i is the same in both; the tag of granule g is; all of granule g is
+-- byte i is the same in both; the tag of granule g is, of states beside one another (`SameTag` of integrity: one after the other); all of granule g is
 abbrev pub SameByte : (i : ℕ) → (a b : State) → Type 0
 SameByte i a b = getD (a .mem) i 0 ≡ getD (b .mem) i 0
 
-abbrev pub SameTag : (g : ℕ) → (a b : State) → Type 0
-SameTag g a b = bitAt (a .tags) g ≡ bitAt (b .tags) g
+abbrev pub TagAlike : (g : ℕ) → (a b : State) → Type 0
+TagAlike g a b = bitAt (a .tags) g ≡ bitAt (b .tags) g
 
 pub record SameGranule (g : ℕ) (a b : State) : Type 0 where
   pub bytes : (i : ℕ) → i / granuleBytes ≡ g → SameByte i a b
-  pub tag : SameTag g a b
+  pub tag : TagAlike g a b
 
 -- the registers are the same, and each byte and each tag of a granule that is not hidden
 pub record Alike (hidden : ℕ → Bool) (a b : State) : Type 0 where
@@ -77,10 +77,16 @@ pub record Alike (hidden : ℕ → Bool) (a b : State) : Type 0 where
   pub same-size : length (a .mem) ≡ length (b .mem)
   pub same-tag-size : length (a .tags) ≡ length (b .tags)
   pub same-byte : (i : ℕ) → hidden (i / granuleBytes) ≡ false → SameByte i a b
-  pub same-tag : (g : ℕ) → hidden g ≡ false → SameTag g a b
+  pub same-tag : (g : ℕ) → hidden g ≡ false → TagAlike g a b
+
+-- the tag of granule g is clear in both, or all of the granule is the same: either way its tag is (law `settled-tag`), and a sweep takes it of both or of none
+pub data Settled (g : ℕ) (a b : State) : Type 0 where
+  both-clear : bitAt (a .tags) g ≡ 0 → bitAt (b .tags) g ≡ 0 → Settled g a b
+  all-same : SameGranule g a b → Settled g a b
 
 -- What differs in x and y, which came of a and b, lies where a and b differed, hidden or not: a byte that was the same is, and so is a granule with its tag.
--- A tag is told of with its whole granule, since a sweep takes it by the bytes beside it.
+-- A tag is told of with its whole granule, or where it is clear, since a sweep takes it by the bytes beside it.
 pub record WhereDiffered (a b x y : State) : Type 0 where
   pub byte : (i : ℕ) → SameByte i a b → SameByte i x y
   pub granule : (g : ℕ) → SameGranule g a b → SameGranule g x y
+  pub settled : (g : ℕ) → Settled g a b → Settled g x y

@@ -13,7 +13,7 @@ use Rattle.execution.specs.Step.{effectAt}
 use Rattle.machine.specs.Run.{stepRefusal, Ran, ranFrom}
 use Rattle.machine.specs.Watching.{watchLeft}
 use Rattle.authority_laws.specs.Gain.{Reached}
-use Rattle.secrecy_laws.specs.Outside.{SameByte, SameTag, SameGranule, Alike, WhereDiffered, NoGainOutside}
+use Rattle.secrecy_laws.specs.Outside.{SameByte, TagAlike, SameGranule, Settled, Alike, WhereDiffered, NoGainOutside}
 use Rattle.secrecy_laws.specs.Calls.{Call, Stores, answers, left, EachStart, callsOf, toldBy}
 
 -- As many retired and trapped; what is left is alike; and the next effect is the same, so that both retire or both trap and store the same. What differs lies
@@ -24,7 +24,7 @@ pub record AlikeRuns (hidden : ℕ → Bool) (board : Board) (revoked : List ℕ
   pub alike : Alike hidden (r .at) (q .at)
   pub same-next : effectAt board revoked (r .at) ≡ effectAt board revoked (q .at)
   pub where-differed : WhereDiffered a b (r .at) (q .at)
-  pub tags-where-differed : (g : ℕ) → SameTag g a b → SameTag g (r .at) (q .at)
+  pub tags-where-differed : (g : ℕ) → TagAlike g a b → TagAlike g (r .at) (q .at)
 
 -- the same answers; what is left is alike, and differs where the starts did
 pub record AlikeCalls (hidden : ℕ → Bool) (a b : State) (calls : List Call) : Type 0 where
@@ -32,10 +32,10 @@ pub record AlikeCalls (hidden : ℕ → Bool) (a b : State) (calls : List Call) 
   pub alike : Alike hidden (left calls a) (left calls b)
   pub where-differed : WhereDiffered a b (left calls a) (left calls b)
 
--- what was stored is the same in both: its bytes, and with a capability the whole granule
+-- what was stored is the same in both: its bytes, and the tag of their granule, which bytes clear; with a capability the whole granule
 abbrev pub SameStored : Stored → (a b : State) → Type 0
 SameStored nothing a b = Unit {0}
-SameStored (bytes width j value) a b = (i : ℕ) → j ≤ i → i < j + width → SameByte i a b
+SameStored (bytes width j value) a b = ((i : ℕ) → j ≤ i → i < j + width → SameByte i a b) × Settled (j / granuleBytes) a b
 SameStored (whole j value) a b = SameGranule (j / granuleBytes) a b
 
 -- Secrecy of two states that are alike, where the start of memory has a property with each step and run: that nothing held outside may read what is hidden

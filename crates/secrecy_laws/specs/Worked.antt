@@ -27,6 +27,10 @@ shown = capability 0x20000010 0x7E004010 1
 abbrev dropbox : Capability
 dropbox = capability 0x20000020 0x62008020 1
 
+-- as c1, at its last granule: eight bytes on is the second half
+abbrev edge : Capability
+edge = capability 0x20000018 0x7E004010 1
+
 -- all of memory, to load and store: in hidden granule 4, tagged
 abbrev all : Capability
 all = capability 0x20000030 0x7E008000 1
@@ -55,6 +59,6 @@ oneOpen = with all dropbox
 unfoldable pub otherOpen : State
 otherOpen = changed (with all dropbox)
 
--- c3 may neither load nor store in the second half: what stands there alone has authority over it
+-- c3 may neither load nor store in the second half, though the program tries: what stands there alone has authority over it
 unfoldable pub alone : State
-alone = with shown shown
+alone = with shown edge
