@@ -164,7 +164,7 @@ uint64_t oddersnow_reach(const uint32_t *regs, size_t regs_len, uint32_t start,
  * and the lowest wins. Where the answer for rights 32, the right to load (LD), from place 0 on is 0, what stands in those granules makes
  * no difference outside them: with other bytes and tags there, calls of steps, runs and sweeps one after another, with mem at that start and
  * nothing else written, give the same answers and counts and leave the same registers, and the same bytes and tags outside. Where
- * it is 0 for rights 4 (SD) too, no byte there ever changes either: what stands there is neither read nor written.
+ * it is 0 for rights 4 (SD) too, no such call ever changes a byte there or sets a tag there that was clear; a sweep may clear one.
  */
 uint64_t oddersnow_reach_outside(const uint32_t *regs, size_t regs_len, uint32_t start,
                                  const uint8_t *mem, size_t mem_len, const uint8_t *tags, size_t tags_len,

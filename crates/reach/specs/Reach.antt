@@ -36,7 +36,7 @@ abbrev pub overlaps : Query → Capability → Bool
 overlaps q c = ltb (low c) (high c) && (ltb (low c) (end q) && ltb (q .low) (high c))
 
 -- Whether it counts: tagged, sealed or not, since what is sealed may be unsealed later. One that is not sound counts for every range but an empty one,
--- whatever its rights: the theorems on authority and integrity do not speak of a state that holds it.
+-- whatever its rights: the theorems on authority and integrity do not speak of a state that holds it, nor that on secrecy where it stands outside.
 unfoldable pub reachesInto : Query → Capability → Bool
 reachesInto q c = tagged c && (not (eqb (q .length) 0) && (not (sound c) || (grantsAll (q .rights) c && overlaps q c)))
 

@@ -115,7 +115,8 @@ module _ (hidden : ℕ → Bool) where
         let g = call-gains-none hidden s h c u in
         stays-both i (call-stays s h c (e .0))
         (calls-stay cs x (call-starts hidden s h c u)
-        (each-start hidden (Untouched hidden s i) (Untouched hidden x i) (λ start p. (unread-stays hidden s x start g (p .0), shut-stays i s x start g (p .1))) cs (e .1)))
+        (each-start hidden (Untouched hidden s i) (Untouched hidden x i)
+        (λ start p. (unread-stays hidden s x start g (p .0), shut-stays i s x start g (p .1))) cs (e .1)))
 
 -- what nothing held outside may write stays, where it may not read what is hidden
 pub stays-claim : (hidden : ℕ → Bool) (s : State) → StartOutside hidden s → IsolationClaim (λ i. Unit {0}) (Untouched hidden s) s
