@@ -201,9 +201,9 @@ module _ (a b : State) (size : length (a .mem) ≡ length (b .mem)) (tag-size : 
       go (bytes width i value) w u v p q = (
         λ j l k. rw (p .memory, q .memory) (over-bytes width i value j (w .inside) l k),
         both-clear
-        (rw (p .its-tags) (retagged-zero (a .mem) (a .tags) width i (w .inside) (omega (arith, w .some, w .inside, long))))
-        (rw (q .its-tags)
-        (retagged-zero (b .mem) (b .tags) width i (omega (arith, w .inside, size)) (omega (arith, w .some, w .inside, long, tag-size)))),
+            (rw (p .its-tags) (retagged-zero (a .mem) (a .tags) width i (w .inside) (omega (arith, w .some, w .inside, long))))
+            (rw (q .its-tags)
+            (retagged-zero (b .mem) (b .tags) width i (omega (arith, w .inside, size)) (omega (arith, w .some, w .inside, long, tag-size)))),
       )
       go (whole i value) w u v p q = over-granule i value w (omega (arith, w .inside, long)) u v p q
 

@@ -192,7 +192,7 @@ pub open-shut-out : AlikeRuns hidden board revoked oneOpen otherOpen (ranFrom 1 
 unfolding iterate oneMore
 open-shut-out k =
     let e : integerAt (stepOf board revoked oneOpen .regs) 2 ≡ integerAt (stepOf board revoked otherOpen .regs) 2
-        = ap (λ (r : List ℕ). integerAt r 2) (k .alike .same-registers) in
+    = ap (λ (r : List ℕ). integerAt r 2) (k .alike .same-registers) in
     omega (arith, sym (open-tells .0) ∙ e ∙ open-tells .1)
 
 -- ---- a wrong machine
