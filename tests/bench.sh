@@ -6,9 +6,9 @@ set -u
 source "$(dirname "$0")/lib/check.sh"
 in_bench() { (cd host/bench && "$@"); }
 
-# Each test of cargo's as a check of its own.
+# Each test of cargo's as a check of its own; what hangs is ended, and counts as failed.
 tests() {
-  in_bench cargo test --release --no-fail-fast >"$work/log" 2>&1
+  in_bench timeout 1200 cargo test --release --no-fail-fast >"$work/log" 2>&1
   local status=$?
   sed -n 's/^test \(.*\) \.\.\. ok$/ok bench \1/p; s/^test \(.*\) \.\.\. FAILED$/FAIL bench \1/p' "$work/log"
   if [ "$status" -ne 0 ]; then

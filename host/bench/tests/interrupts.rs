@@ -308,6 +308,7 @@ fn a_kept_result_of_an_image_that_was_not_come_to_is_not_in_the_table() {
     assert!(!out.contains("\nz "), "{out}");
 }
 
+/// By SIGTERM: a shell has what it starts in the background ignore SIGINT, and a command that makes no file yet leaves that so.
 #[test]
 fn a_command_that_waits_for_its_input_ends_at_once() {
     let folder = directory("stopped_input");
@@ -319,7 +320,7 @@ fn a_command_that_waits_for_its_input_ends_at_once() {
     ] {
         let going = Going::start(&folder, words);
         wait(300);
-        assert_eq!(going.stopped(SIGINT), (String::new(), String::new()));
+        assert_eq!(going.stopped(SIGTERM), (String::new(), String::new()));
     }
     assert_eq!(names_in(&folder), ["pipe"]);
 }
