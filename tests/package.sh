@@ -55,7 +55,7 @@ without_kit() { # COMMAND..
   local tool
   if [ ! -d "$work/tools" ]; then
     mkdir "$work/tools"
-    for tool in bash env cat sed head dirname tr fmt grep mkdir gcc as ld pkg-config; do ln -s "$(command -v "$tool")" "$work/tools"; done
+    for tool in bash env cat cmp diff sed head dirname tr fmt grep mkdir gcc as ld pkg-config; do ln -s "$(command -v "$tool")" "$work/tools"; done
   fi
   env -i HOME="$work" LC_ALL=C.UTF-8 PATH="$work/there/usr/bin:$work/tools" PKG_CONFIG_SYSROOT_DIR="$work/there" \
     PKG_CONFIG_PATH="$work/there/usr/lib/$triplet/pkgconfig" "$@"
