@@ -385,14 +385,25 @@ fn dashes(command: clap::Command) -> clap::Command {
 
 /// A number: decimal, with commas before each three digits or without, or hexadecimal after 0x.
 fn number(text: &str) -> Result<u64, String> {
+    let Some((digits, radix)) = digits(text) else {
+        return Err("not a decimal number, nor a hexadecimal one after 0x".into());
+    };
+    u64::from_str_radix(&digits, radix).map_err(|_| "not below 2^64".into())
+}
+
+/// The digits of what is written as a number, and its base.
+fn digits(text: &str) -> Option<(String, u32)> {
     let (digits, radix) = match text.strip_prefix("0x") {
         Some(digits) => (digits.into(), 16),
         None => (ungrouped(text), 10),
     };
-    if digits.is_empty() || !digits.chars().all(|digit| digit.is_digit(radix)) {
-        return Err("not a decimal number, nor a hexadecimal one after 0x".into());
-    }
-    u64::from_str_radix(&digits, radix).map_err(|_| "not below 2^64".into())
+    let all = digits.chars().all(|digit| digit.is_digit(radix));
+    (all && !digits.is_empty()).then_some((digits, radix))
+}
+
+/// Whether a text is written as a number, of whatever size.
+pub fn is_number(text: &str) -> bool {
+    digits(text).is_some()
 }
 
 /// A number without the commas that reports write it with; one with others stays as it is.

@@ -55,11 +55,16 @@ fn range(low: u64, high: u64) -> Range {
 #[derive(Clone, Default, PartialEq, Eq, Debug)]
 pub struct Forbidden {
     parts: Vec<Part>,
+    /// Whether the run goes on from a saved state.
+    resumed: bool,
 }
 
+/// What is said of the stores before a saved state.
+const UNJUDGED: &str = "stores before the saved state were not judged by the map";
+
 impl Forbidden {
-    /// What of a memory is no region's with w.
-    pub fn of(map: &Sheet, (low, high): (u64, u64)) -> Forbidden {
+    /// What of a memory is no region's with w, for a run from reset or one that goes on.
+    pub fn of(map: &Sheet, (low, high): (u64, u64), resumed: bool) -> Forbidden {
         let mut regions: Vec<&Record> = map.regions.iter().collect();
         regions.sort_by_key(|region| region.start);
         let (mut parts, mut at) = (Vec::new(), low);
@@ -85,7 +90,13 @@ impl Forbidden {
         if at < high {
             parts.push(part(at, high, None));
         }
-        Forbidden { parts }
+        Forbidden { parts, resumed }
+    }
+
+    /// What is said where a run goes on: its saved state has no record of stores.
+    pub fn unjudged(&self) -> Option<&'static str> {
+        let said = self.resumed && !self.parts.is_empty();
+        said.then_some(UNJUDGED)
     }
 
     /// The parts, those that follow one another as one.
@@ -118,7 +129,12 @@ impl Forbidden {
         let first = again.first(&broken)?;
         let first = first.map(|at| First::of(at.made + 1, at.course.state(), &parts));
         let all = counts.iter().map(|count| u64::from(*count)).sum();
-        Ok(Stores { parts, all, first })
+        Ok(Stores {
+            parts,
+            all,
+            first,
+            resumed: self.resumed,
+        })
     }
 }
 
@@ -169,6 +185,8 @@ pub struct Stores {
     /// others, so that no store is counted twice unless it reaches over a stretch that may be written of at most 6 bytes.
     pub all: u64,
     pub first: Option<First>,
+    /// Whether they are those since a saved state.
+    resumed: bool,
 }
 
 /// How many stores, as far as they are counted.
@@ -202,14 +220,19 @@ impl Stores {
 
     /// For a person.
     pub fn text(&self, names: &Names) -> String {
+        let since = match self.resumed {
+            true => " since the saved state",
+            false => "",
+        };
         let Some(first) = &self.first else {
             let said = match self.parts.is_empty() {
-                true => "every byte of memory may be written, so that no store was judged",
-                false => "no store went into a hole or into a region without w",
+                true => "every byte of memory may be written, so that no store was judged".into(),
+                false => format!("no store went into a hole or into a region without w{since}"),
             };
             return format!("Map: {said}. Loads are not counted.\n");
         };
-        let mut text = format!("Breaks the map: {}.\n", self.by_part().join("; "));
+        let broken = self.by_part().join("; ");
+        let mut text = format!("Breaks the map{since}: {broken}.\n");
         let word = first.word.map(|word| {
             let (digits, instruction) = (digits(word), instruction(word));
             format!(", word {digits}, {instruction}")
@@ -269,7 +292,7 @@ mod tests {
     }
 
     fn ranges(text: &str, memory: (u64, u64)) -> Vec<(u32, u32)> {
-        let forbidden = Forbidden::of(&sheet(text), memory);
+        let forbidden = Forbidden::of(&sheet(text), memory, false);
         let ranges = forbidden.ranges();
         ranges
             .iter()

@@ -33,7 +33,8 @@ impl<'a> Trial<'a> {
     pub fn of(terms: &'a Terms, ready: &Ready, map: Option<&Sheet>) -> Result<Trial<'a>, String> {
         let judges = terms.map_stores == MapStores::On;
         let memory = (ready.state.start.into(), ready.state.end());
-        let forbidden = map.filter(|_| judges).map(|map| Forbidden::of(map, memory));
+        let forbidden = map.filter(|_| judges);
+        let forbidden = forbidden.map(|map| Forbidden::of(map, memory, ready.resumed));
         let mut ranges = watched(&terms.watch)?;
         ranges.extend(forbidden.iter().flat_map(Forbidden::ranges));
         let exit = terms.exit_at.as_ref();
@@ -52,6 +53,12 @@ impl<'a> Trial<'a> {
             map_off: map.is_some() && !judges,
             ranges,
         })
+    }
+
+    /// What is said where stores went before the run that its map does not judge.
+    pub fn unjudged(&self) -> Option<&'static str> {
+        let forbidden = self.forbidden.as_ref();
+        forbidden.and_then(Forbidden::unjudged)
     }
 
     /// The ranges of the run's own record: the console alone, or the first two of all.

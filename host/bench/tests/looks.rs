@@ -121,6 +121,32 @@ fn a_breakpoint_stands_at_a_symbol() {
     assert_eq!((refused.status, refused.out.as_str()), (3, ""));
 }
 
+/// An image has whatever symbols it likes, and none of them moves an address that is written as a number.
+#[test]
+fn a_number_is_an_address_whatever_symbols_are_called() {
+    let folder = directory("numbers_as_symbols");
+    let count = addi(10, 10, 1);
+    let named = ["0x20000004", "536870916", "536,870,916"];
+    let refused = ["0x20000005", "0x100000000"];
+    let symbols = named.iter().chain(&refused);
+    let symbols: Vec<Symbol> = symbols.map(|name| symbol(name, 8, 0)).collect();
+    let image = elf::program(START, &[count, count, count, EBREAK], &symbols);
+    std::fs::write(folder.join("image"), image).expect("an image");
+    for option in ["--break", "--exit-at"] {
+        for name in named {
+            let answer = bench_in(&folder, &["run", "image", option, name]);
+            let told = answer.out.starts_with("1 step retired, 0 trapped.");
+            assert!(told, "{option} {name}: {}", answer.out);
+        }
+        for name in refused {
+            let answer = bench_in(&folder, &["run", "image", option, name]);
+            assert_eq!((answer.status, answer.out.as_str()), (3, ""));
+            let said = format!("{option} {name}: as a number it is ");
+            assert!(answer.err.contains(&said), "{}", answer.err);
+        }
+    }
+}
+
 /// Addresses are walked as far as there is memory: symbols that say they are longer cost no more.
 #[test]
 fn symbols_of_4_gigabytes_are_covered_at_once() {

@@ -165,8 +165,12 @@ fn a_file_without_a_label_is_held_to_the_board() {
 }
 
 fn one_segment(code: &[u8]) -> Vec<u8> {
+    segment_at(0x2000_0000, code)
+}
+
+fn segment_at(address: u32, code: &[u8]) -> Vec<u8> {
     let header = Header {
-        address: 0x2000_0000,
+        address,
         offset: 84,
         in_file: code.len() as u32,
         in_memory: code.len() as u32,
@@ -409,6 +413,67 @@ fn that_stores_were_not_judged_is_said_in_every_form() {
     assert_eq!(none["map_stores"], json!(null));
 }
 
+#[test]
+fn a_shelf_says_that_stores_were_not_judged() {
+    let directory = board("shelf_stores_off");
+    write(&directory, "image", &storing(&directory, HOLE));
+    let said = "Stores were not judged by the map (--map-stores off).";
+    let shelf = ["shelf", "shelf", "--board", "board", "--report", "pages"];
+    for (setting, status) in [("on", 1), ("off", 0)] {
+        let words = [&shelf[..], &["--map-stores", setting]].concat();
+        let answer = bench_in(&directory, &words);
+        assert_eq!(answer.status, status, "{}", answer.err);
+        let page = std::fs::read_to_string(directory.join("pages/index.html")).unwrap();
+        let off = setting == "off";
+        assert_eq!(
+            (
+                answer.out.ends_with(&format!("{said}\n")),
+                page.contains(said)
+            ),
+            (off, off),
+            "{}",
+            answer.out
+        );
+    }
+}
+
+#[test]
+fn a_run_from_a_saved_state_says_what_was_not_judged() {
+    let directory = board("stores_resumed");
+    let note = "stores before the saved state were not judged by the map";
+    let saved = ["run", "--map", "board", "image", "--save", "state"];
+    let resumed = ["run", "--map", "board", "--state", "state"];
+    // The store is the fifth step.
+    for (steps, map) in [
+        (
+            "5",
+            "Map: no store went into a hole or into a region without w since the saved state. ",
+        ),
+        (
+            "4",
+            "Breaks the map since the saved state: 1 store into the hole ",
+        ),
+    ] {
+        write(&directory, "image", &storing(&directory, HOLE));
+        bench_in(&directory, &[&saved[..], &["--steps", steps]].concat());
+        let answer = bench_in(&directory, &resumed);
+        assert!(answer.out.contains(map), "{}", answer.out);
+        assert!(answer.err.contains(note), "{}", answer.err);
+        let json = ["--json", "--report", "page.html"];
+        let value = bench_in(&directory, &[&resumed[..], &json].concat()).json();
+        assert_eq!(value["notes"], json!([note]));
+        let page = std::fs::read_to_string(directory.join("page.html")).unwrap();
+        assert!(page.contains(note), "{page}");
+    }
+    // Where nothing is judged, or all from reset on, there is nothing to say.
+    let off = [&resumed[..], &["--map-stores", "off"]].concat();
+    for words in [&off[..], &saved, &["run", "--state", "state"]] {
+        let answer = bench_in(&directory, words);
+        let said = answer.out + &answer.err;
+        assert!(!said.contains("saved state"), "{said}");
+    }
+}
+
 // A note of the label's own payload.
 #[test]
 fn a_fit_tells_of_another_core() {
@@ -603,5 +668,30 @@ fn a_payload_whose_parts_overlap_does_not_fit() {
             told.count(),
             statuses.iter().filter(|status| **status > 0).count()
         );
+    }
+}
+
+/// A board's file that names no start has the program begin at memory's start, and no image after it decides otherwise.
+#[test]
+fn an_image_after_another_file_never_is_the_start() {
+    let directory = board("start_of_the_first");
+    let code = assembled(&directory, "addi 10 0 42; cjal 0 0");
+    let image = segment_at(0x2000_0040, &code);
+    write(&directory, "image", &image);
+    let run = ["run", "--map", "board", "own", "image"];
+    let shelf = ["shelf", "shelf", "--board", "board", "--with", "own"];
+    for own in [code.clone(), hex(0, &code)] {
+        std::fs::write(directory.join("own"), own).unwrap();
+        for (more, end) in [
+            (&[][..], "20000004"),
+            (&["--entry", "0x20000040"], "20000044"),
+        ] {
+            let answer = bench_in(&directory, &[&run[..], more].concat());
+            let said = format!("it jumps to itself at {end}.");
+            assert!(answer.out.contains(&said), "{}", answer.out);
+            let ends = ["--exit-at", &format!("0x{end}"), "--json"];
+            let answer = bench_in(&directory, &[&shelf[..], more, &ends].concat());
+            assert_eq!(answer.json()["rows"][0]["run"], "ended", "{}", answer.out);
+        }
     }
 }

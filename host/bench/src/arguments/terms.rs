@@ -1,7 +1,7 @@
 //! The options that `run` and `shelf` have in common, once for both: what a machine starts with, and how far a run goes
 //! and by what it is judged.
 
-use super::{even, not_zero, number, size, word};
+use super::{even, is_number, not_zero, number, size, word};
 use crate::digits::pairs;
 use crate::edition::Edition;
 use crate::image::Format;
@@ -45,7 +45,7 @@ pub struct Setting {
     /// The engine that makes the steps; both give the same answers
     #[arg(long, value_enum, default_value_t)]
     pub engine: Engine,
-    /// The address of the first instruction, even [default: the image's, else memory's start]
+    /// The address of the first instruction, even [default: the first image's, else memory's start]
     #[arg(long, value_parser = even)]
     pub entry: Option<u32>,
 }
@@ -99,7 +99,7 @@ impl Terms {
 
     /// What of them is the same for any image: without the places that may be symbols or lines of it.
     pub fn of_any_image(&self) -> Terms {
-        let is_number = |place: &String| number(place).is_ok();
+        let is_number = |place: &String| is_number(place);
         let mut terms = self.clone();
         terms.exit_at = terms.exit_at.filter(is_number);
         terms.console = terms.console.filter(is_number);

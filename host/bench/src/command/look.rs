@@ -56,7 +56,8 @@ impl Look {
     }
 }
 
-/// The address of a place that an option names: an image's symbol, a line of its source, or a number.
+/// The address of a place that an option names: a number, else an image's symbol or a line of its source. What is written as
+/// a number is one, whatever an image calls its symbols.
 pub fn place(option: &str, place: &str, ready: &Ready) -> Result<u32, String> {
     address(option, place, ready, arguments::word)
 }
@@ -72,13 +73,19 @@ fn address(
     ready: &Ready,
     number: impl Fn(&str) -> Result<u32, String>,
 ) -> Result<u32, String> {
-    let label = ready.labels.iter().find(|(name, _)| name == place);
-    let label = label.map(|(_, address)| *address);
-    match label.or_else(|| ready.lines.address(place)) {
-        Some(address) => Ok(address),
-        None => number(place).map_err(|reason| {
-            let place = visible::quoted(place);
-            format!("{option} {place}: no symbol or line of an image has that name, and as a number it is {reason}")
-        }),
-    }
+    let named = || {
+        let label = ready.labels.iter().find(|(name, _)| name == place);
+        let label = label.map(|(_, address)| *address);
+        label.or_else(|| ready.lines.address(place))
+    };
+    let is_number = arguments::is_number(place);
+    let found = if is_number { None } else { named() };
+    let nameless = match is_number {
+        true => "",
+        false => "no symbol or line of an image has that name, and ",
+    };
+    found.map_or_else(|| number(place), Ok).map_err(|reason| {
+        let place = visible::quoted(place);
+        format!("{option} {place}: {nameless}as a number it is {reason}")
+    })
 }

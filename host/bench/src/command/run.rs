@@ -41,7 +41,7 @@ const MOST_SIZE: u64 = 1 << 24;
 
 pub fn run(asked: Run) -> Result<Status, String> {
     with_files(&asked, |task, labelled| {
-        let ready = match task.ready() {
+        let mut ready = match task.ready() {
             Err(Halt::Refused(refusal, state)) => {
                 return refused_state(refusal, &state, asked.json)
             }
@@ -53,6 +53,10 @@ pub fn run(asked: Run) -> Result<Status, String> {
         let look = Look::of(&asked, &ready)?;
         let map = task.board.map(|board| &board.sheet);
         let trial = Trial::of(&asked.terms, &ready, map)?;
+        if let Some(note) = trial.unjudged() {
+            complain(note);
+            ready.notes.push(note.into());
+        }
         let signature = signature::Asked::of(&asked, &ready)?;
         let place = asked.save.as_deref().map(|path| place(path, &asked));
         let place = place.transpose()?;
@@ -225,6 +229,8 @@ impl From<String> for Halt {
 /// What is there before the first step.
 pub struct Ready {
     pub state: State,
+    /// Whether it was saved, so that steps went before.
+    pub resumed: bool,
     pub segments: Vec<Segment>,
     pub names: Names,
     pub stack: Option<Stack>,
@@ -248,6 +254,7 @@ pub fn ready(asked: &Run, files: &[&[u8]], map: Option<&Sheet>) -> Result<Ready,
     names.extend(images.names);
     Ok(Ready {
         state,
+        resumed: asked.state.is_some(),
         segments: images.segments,
         names: Names(names),
         stack,
@@ -371,7 +378,8 @@ pub fn refused_outside(outside: &Outside, as_json: bool) -> Result<Status, Strin
     Ok(Status::Refused)
 }
 
-/// The state to start from, a saved one or reset, and the images that go into its memory.
+/// The state to start from, a saved one or reset, and the images that go into its memory. No image has itself started in the
+/// place of a file before it, also of one that names no start.
 fn start(asked: &Run, files: &[&[u8]], map: Option<&Sheet>) -> Result<(State, Image), Halt> {
     let saved = asked.state.as_deref().map(read_state).transpose()?;
     let span = map.and_then(Sheet::span);
@@ -379,11 +387,12 @@ fn start(asked: &Run, files: &[&[u8]], map: Option<&Sheet>) -> Result<(State, Im
     let start = asked.start.unwrap_or(map_start);
     let start = saved.as_ref().map_or(start, |state| state.start);
     let mut images = Image::default();
+    let mut first = None;
     for (path, bytes) in asked.images.iter().zip(files) {
         let image = image::read(path, bytes, asked.format, start)?;
         let outside = map.and_then(|map| payload::outside(&image, &map.regions));
         outside.map_or(Ok(()), |outside| Err(Halt::Outside(outside)))?;
-        images.entry = images.entry.or(image.entry);
+        first.get_or_insert(image.entry);
         images.segments.extend(image.segments);
         images.names.extend(image.names);
         images.labels.extend(image.labels);
@@ -393,7 +402,7 @@ fn start(asked: &Run, files: &[&[u8]], map: Option<&Sheet>) -> Result<(State, Im
     if let Some(state) = saved {
         return Ok((state, images));
     }
-    let entry = asked.entry.or(images.entry).unwrap_or(start);
+    let entry = asked.entry.or(first.flatten()).unwrap_or(start);
     if !fetch::is_place(entry) {
         let odd = "odd, and an instruction's address is even";
         return Err(format!("the image's start, {entry:08x}, is {odd}").into());

@@ -171,7 +171,7 @@ fn conclude(
     let said = match (asked.csv, asked.json) {
         (true, _) => table::csv(&mut out, results),
         (_, true) => table::json(&mut out, results),
-        _ => text(&mut out, results),
+        _ => text(&mut out, results, shelf),
     };
     unless_closed(said.and_then(|()| out.flush()))?;
     let counted = Counted::of(results);
@@ -188,9 +188,9 @@ fn stopped(counted: &Counted) -> String {
     format!("{signal} came after {judged} of {all}; the table has these")
 }
 
-fn text(out: &mut impl Write, results: &Results) -> Result<(), Error> {
+fn text(out: &mut impl Write, results: &Results, shelf: &Shelf) -> Result<(), Error> {
     let mut painter = Painter::new(out);
-    table::text(&mut painter, results)?;
+    table::text(&mut painter, results, &shelf.terms)?;
     painter.flush()
 }
 

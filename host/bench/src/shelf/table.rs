@@ -2,6 +2,7 @@
 
 use super::row::{Kept, Kind, Label, Ran, Row};
 use super::{page_name, Results, Shelf};
+use crate::arguments::{MapStores, Terms};
 use crate::capability_text::{count, grouped};
 use crate::page::{filled, Source};
 use crate::verdict::Verdict;
@@ -192,7 +193,7 @@ fn why(row: &Row) -> String {
 }
 
 /// The table for people.
-pub fn text(out: &mut impl Write, results: &Results) -> Result<(), Error> {
+pub fn text(out: &mut impl Write, results: &Results, terms: &Terms) -> Result<(), Error> {
     let letters = results.rows().map(|row| quoted(&row.file).chars().count());
     let width = letters.max().unwrap_or(0).clamp(5, MOST_LETTERS);
     let counted = Counted::of(results);
@@ -226,7 +227,17 @@ pub fn text(out: &mut impl Write, results: &Results) -> Result<(), Error> {
         );
         writeln!(out, "{}", line.trim_end())?;
     }
-    writeln!(out, "\n{}", counted.said())
+    writeln!(out, "\n{}", counted.said())?;
+    match unjudged(terms) {
+        Some(said) => writeln!(out, "{said}"),
+        None => Ok(()),
+    }
+}
+
+/// What is said where no store was judged.
+fn unjudged(terms: &Terms) -> Option<&'static str> {
+    let off = terms.map_stores == MapStores::Off;
+    off.then_some("Stores were not judged by the map (--map-stores off).")
 }
 
 /// The rows as CSV, under the names that JSON has.
@@ -288,7 +299,7 @@ pub fn page(out: &mut impl Write, results: &Results, shelf: &Shelf) -> Result<()
     let title = format!("{folder} on {board}");
     let head = json!({
         "title": title, "kind": kind, "head": said, "summary": counted.said(),
-        "judged": judged.then_some(MAY_WRITE),
+        "judged": judged.then_some(MAY_WRITE), "unjudged": unjudged(&shelf.terms),
     });
     fill(out, "shelf_head.html", &head)?;
     for row in results.rows() {
