@@ -26,8 +26,8 @@ const MOST_LAST: u64 = 1_000_000;
 /// is good; 2 if the machine, the cutter, the lister or the assembler refused, an image does not fit the board that it is to
 /// run on, or a sheet that was to be judged is bad; 3 for bad usage, a bad file or, of reach, a handover that is not reached
 /// or a state that is refused; and 5 if a program did not come to its end, where --exit-at, --exit-value or --expect names
-/// one, or on a shelf where nothing else is amiss. SIGINT and SIGTERM end a run or a shelf with what it has, and then by the
-/// signal.
+/// one, or on a shelf where nothing else is amiss. SIGINT, SIGTERM and SIGHUP end a run or a shelf with what it has, and then
+/// by the signal.
 #[derive(Parser)]
 #[command(name = "bench", version, disable_help_subcommand = true)]
 pub struct Arguments {

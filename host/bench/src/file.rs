@@ -47,6 +47,7 @@ pub fn why(error: &Error) -> String {
         ErrorKind::IsADirectory => "it is a folder, and a file is asked for",
         ErrorKind::NotADirectory => "it is a file, and a folder is asked for",
         ErrorKind::AlreadyExists => "it is a file, and a folder is asked for",
+        ErrorKind::InvalidFilename => "the name is too long",
         ErrorKind::PermissionDenied => "the system does not permit it",
         ErrorKind::StorageFull | ErrorKind::QuotaExceeded => "no room is left there",
         ErrorKind::FileTooLarge => "no larger file is possible there",

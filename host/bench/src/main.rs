@@ -30,6 +30,7 @@ mod names;
 mod page;
 mod payload;
 mod probe;
+mod process;
 mod progress;
 mod proved;
 mod reach;

@@ -14,6 +14,7 @@ use crate::capability_text::{right, ALL_RIGHTS};
 use crate::proved::{self, Refusal};
 use crate::sheet::Sheet;
 use crate::sweep;
+use crate::visible::quoted;
 use lent::{place_name, Capability, Query, State, CAPABILITIES, GRANULE};
 
 /// Something that may be done to memory.
@@ -289,7 +290,7 @@ impl Never {
             true => Ok(()),
             false => Err(format!(
                 "--never {}: the map sheet has no region of that name",
-                self.text()
+                quoted(&self.text())
             )),
         }
     }

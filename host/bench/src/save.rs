@@ -6,9 +6,9 @@ mod spot;
 
 pub use making::clear;
 
-use crate::file;
+use crate::{file, visible};
 use making::Making;
-use spot::{is_same, led_to};
+use spot::{is_read, is_same, led_to};
 use std::fs::{self, File, OpenOptions};
 use std::io::{BufWriter, Error, ErrorKind, Write};
 use std::path::{Path, PathBuf};
@@ -18,7 +18,7 @@ const OWN: [&str; 2] = ["/dev/stdout", "/dev/stderr"];
 
 /// A place that a file can be saved to.
 pub struct Place {
-    /// The name as it was given, for messages.
+    /// The name as messages have it.
     name: String,
     /// The file that it leads to: a link stays, and that file is replaced.
     path: PathBuf,
@@ -29,8 +29,8 @@ pub struct Place {
 impl Place {
     /// The place of a name, but of no file that is read, nor of one that is written otherwise.
     pub fn apart(path: &Path, read: &[&Path], written: &[&Path]) -> Result<Place, String> {
-        let name = path.display();
-        if read.iter().any(|other| is_same(path, other)) {
+        let name = visible::output(path);
+        if read.iter().any(|other| is_read(path, other)) {
             return Err(format!("{name}: it is read, and not written over"));
         }
         if written.iter().any(|other| is_same(path, other)) {
@@ -68,9 +68,10 @@ impl Place {
 
     /// The place of a name, if what it replaces is a file that may be written.
     fn of(path: &Path) -> Result<Place, String> {
+        let name = visible::output(path);
         let place = Place {
-            name: path.display().to_string(),
-            path: led_to(path).map_err(|why| format!("{}: {why}", path.display()))?,
+            path: led_to(path).map_err(|why| format!("{name}: {why}"))?,
+            name,
             lasting: true,
         };
         let name = &place.name;
@@ -86,6 +87,7 @@ impl Place {
                 let opened = OpenOptions::new().write(true).open(&place.path);
                 opened.map_err(|error| place.told(error))?;
             }
+            Err(error) if error.kind() != ErrorKind::NotFound => return Err(place.told(error)),
             Err(_) => {}
         }
         Ok(place)

@@ -90,8 +90,13 @@ impl Shelf {
     /// Where an image's page lies.
     fn page(&self, name: &OsStr) -> Option<PathBuf> {
         let folder = self.pages.as_ref()?;
-        Some(folder.join(page_name(&name_text(name))))
+        Some(folder.join(page_name(name)))
     }
+}
+
+/// The sum of a file's name by its bytes: two names can have one text.
+fn name_sum(name: &OsStr) -> String {
+    digest(name.as_encoded_bytes())
 }
 
 /// A file's name as text; one that is none, with its odd bytes written out.
@@ -106,14 +111,15 @@ fn name_text(name: &OsStr) -> String {
 const MOST_LETTERS: usize = 60;
 
 /// The name of an image's page, of letters that mean nothing to a link or a file system, told apart by a sum.
-pub fn page_name(file: &str) -> String {
+pub fn page_name(file: &OsStr) -> String {
     let plain = |letter: char| match letter {
         letter if letter.is_ascii_alphanumeric() || matches!(letter, '.' | '-' | '_') => letter,
         _ => '_',
     };
-    let letters: String = file.chars().take(MOST_LETTERS).map(plain).collect();
+    let text = name_text(file);
+    let letters: String = text.chars().take(MOST_LETTERS).map(plain).collect();
     let letters = letters.trim_start_matches('.');
-    format!("{letters}-{}.html", &digest(file.as_bytes())[..12])
+    format!("{letters}-{}.html", &name_sum(file)[..12])
 }
 
 /// Writes an image's page.
@@ -127,11 +133,14 @@ mod tests {
     use super::*;
 
     #[test]
-    fn names_that_are_no_text_are_told_apart() {
+    fn names_that_are_no_text_are_written_out_and_told_apart() {
         use std::os::unix::ffi::OsStrExt;
         let text = |bytes| name_text(OsStr::from_bytes(bytes));
         assert_eq!(text(b"a b\xc3\xa9"), "a b\u{e9}");
         assert_eq!([text(b"a\xff"), text(b"a\xfe\n")], ["a\\xff", "a\\xfe\\n"]);
+        assert_eq!(text(b"a\\xff"), text(b"a\xff"));
+        let page = |bytes| page_name(OsStr::from_bytes(bytes));
+        assert_ne!(page(b"a\\xff"), page(b"a\xff"));
     }
 
     #[test]
@@ -144,7 +153,7 @@ mod tests {
             "..",
             &"y".repeat(300),
         ]
-        .map(page_name);
+        .map(|name| page_name(OsStr::new(name)));
         assert!(names[0].starts_with("a.img-") && names[0].ends_with(".html"));
         for name in &names {
             assert!(!name.starts_with('.') && name.len() < 90, "{name}");

@@ -1,13 +1,14 @@
-//! SIGINT and SIGTERM. A command that heeds them looks on its way whether it is asked to stop, and then ends with what it
-//! has; any other is ended, and so is one that is asked twice. No file that was being made is left.
+//! SIGINT, SIGTERM and SIGHUP. A command that heeds them looks on its way whether it is asked to stop, and then ends with
+//! what it has; any other is ended, and so is one that is asked twice. No file that was being made is left.
 
-use crate::save;
-use signal_hook::consts::{SIGINT, SIGTERM};
+use crate::{process, save};
+use signal_hook::consts::{SIGHUP, SIGINT, SIGTERM, SIGXFSZ};
+use signal_hook::flag;
 use signal_hook::iterator::Signals;
 use signal_hook::low_level::{emulate_default_handler, signal_name};
 use std::sync::atomic::{AtomicBool, AtomicI32, Ordering};
 use std::sync::mpsc::channel;
-use std::sync::Once;
+use std::sync::{Arc, Once};
 use std::thread;
 
 /// Stands for no signal.
@@ -28,9 +29,12 @@ pub fn listen() {
 }
 
 fn start() {
+    // By itself it would end the command in the middle of a file; taken, it lets the write fail and be told.
+    let _ = flag::register(SIGXFSZ, Arc::default());
+    let hangup = (!is_ignored(SIGHUP)).then_some(SIGHUP);
     let (ready, is_ready) = channel();
     let listener = move || {
-        let signals = Signals::new([SIGINT, SIGTERM]);
+        let signals = Signals::new([SIGINT, SIGTERM].into_iter().chain(hangup));
         let _ = ready.send(());
         if let Ok(mut signals) = signals {
             signals.forever().for_each(take);
@@ -40,6 +44,11 @@ fn start() {
     if thread::Builder::new().spawn(listener).is_ok() {
         let _ = is_ready.recv();
     }
+}
+
+/// Whether whoever started the command has it ignore a signal, as nohup does.
+fn is_ignored(signal: i32) -> bool {
+    process::number("SigIgn:", 16).is_some_and(|ignored| ignored >> (signal - 1) & 1 == 1)
 }
 
 fn take(signal: i32) {

@@ -80,12 +80,17 @@ fn parted(text: &str, most: usize) -> (&str, String) {
     }
 }
 
-/// A file's name as a message has it.
+/// The name of a file that is read, as a message has it.
 pub fn name(path: &Path) -> String {
     quoted(&plain_name(path))
 }
 
-/// The same whole, for what writes it out itself.
+/// The name of a file that is written, of which - is one like any other.
+pub fn output(path: &Path) -> String {
+    quoted(&path.display().to_string())
+}
+
+/// The name of a file that is read, whole, for what writes it out itself.
 pub fn plain_name(path: &Path) -> String {
     match path == Path::new(INPUT) {
         true => "standard input".into(),
@@ -163,6 +168,8 @@ mod tests {
         assert_eq!(name(Path::new("a\u{9b}b")), "a\\u{9b}b");
         assert_eq!(name(Path::new("-")), "standard input");
         assert_eq!(name(Path::new("./-")), "./-");
+        assert_eq!(output(Path::new("-")), "-");
+        assert_eq!(output(Path::new("a\nb")), "a\\nb");
     }
 
     #[test]

@@ -1,4 +1,4 @@
-//! SIGINT and SIGTERM: a run and a shelf end with what they have, and say so; no file that was being made is left.
+//! SIGINT, SIGTERM and SIGHUP: a run and a shelf end with what they have, and say so; no file that was being made is left.
 
 mod common;
 
@@ -13,6 +13,7 @@ use std::path::Path;
 use std::process::{Child, Command, Stdio};
 use std::time::{Duration, Instant};
 
+const SIGHUP: i32 = 1;
 const SIGINT: i32 = 2;
 const SIGTERM: i32 = 15;
 /// bne c10, c11, -4: the counting loop before it goes on until c10 is c11.
@@ -38,8 +39,14 @@ struct Going(Child);
 
 impl Going {
     fn start(folder: &Path, words: &[&str]) -> Going {
-        let child = Command::new(env!("CARGO_BIN_EXE_bench"))
-            .args(words)
+        Going::start_by(&[], folder, words)
+    }
+
+    /// The same by another command, which becomes it.
+    fn start_by(other: &[&str], folder: &Path, words: &[&str]) -> Going {
+        let line = [other, &[env!("CARGO_BIN_EXE_bench")], words].concat();
+        let child = Command::new(line[0])
+            .args(&line[1..])
             .current_dir(folder)
             .stdout(Stdio::piped())
             .stderr(Stdio::piped())
@@ -354,4 +361,25 @@ fn a_file_that_is_being_made_is_gone_with_the_command() {
     let answer = shell_in(&folder, MAKING);
     assert_eq!(answer.status, 0, "{}{}", answer.out, answer.err);
     assert_eq!(names_in(&folder), ["end", "state"]);
+}
+
+#[test]
+fn a_run_whose_terminal_goes_saves_what_it_has() {
+    let folder = directory("stopped_hangup");
+    fs::write(folder.join("image"), endless()).unwrap();
+    let words = [&["run", "image", "--save", "end\nof it"], &ENDLESS[..]].concat();
+    // Also where the tests themselves are run by nohup.
+    let going = Going::start_by(&["env", "--default-signal=HUP"], &folder, &words);
+    wait(600);
+    let (_, err) = going.stopped(SIGHUP);
+    assert_has(&err, "SIGHUP came after ");
+    assert_has(&err, "; saved up to there: end\\nof it\n");
+    assert_eq!(names_in(&folder), ["end\nof it", "image"]);
+    // By nohup it goes on without one.
+    let going = Going::start_by(&["nohup"], &folder, &words);
+    wait(600);
+    going.send(SIGHUP);
+    wait(300);
+    let (_, err) = going.stopped(SIGTERM);
+    assert_has(&err, "SIGTERM came after ");
 }

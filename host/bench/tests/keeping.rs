@@ -308,7 +308,7 @@ fn what_the_system_does_not_permit_is_said_and_left() {
 }
 
 /// Files can have 1,024 bytes here, as on a disk that is full.
-const FULL: &str = "ulimit -f 1; trap '' XFSZ; exec $BENCH";
+const FULL: &str = "ulimit -f 1; exec $BENCH";
 
 #[test]
 fn a_full_disk_leaves_what_was_there() {
@@ -404,4 +404,42 @@ fn a_name_may_be_as_long_as_the_system_lets_it_be() {
         holds(&folder, &[&name]);
     }
     all_refused(&folder, "new/", "it is a folder, and a file is asked for");
+    // One letter more is told before anything is run.
+    for words in outputs(&"n".repeat(256)) {
+        let answer = bench_in(&folder, &words);
+        assert_eq!((answer.status, answer.out.as_str()), (3, ""), "{words:?}");
+        assert!(
+            answer.err.ends_with(": the name is too long\n"),
+            "{}",
+            answer.err
+        );
+    }
+}
+
+#[test]
+fn what_is_read_from_standard_input_is_not_written_over() {
+    let folder = with_inputs("keep_input");
+    fs::hard_link(folder.join("image"), folder.join("other")).unwrap();
+    for (line, place) in [
+        ("run - --save image <image", "image"),
+        ("run - --save other <image", "other"),
+        ("run - --report image <image", "image"),
+        ("run image --map - --report board <board", "board"),
+        ("run --state - --report state <state", "state"),
+        ("assemble - -o text <text", "text"),
+    ] {
+        let input = fs::read(folder.join(place)).unwrap();
+        let answer = shell_in(&folder, &format!("exec $BENCH {line}"));
+        assert_eq!((answer.status, answer.out.as_str()), (3, ""), "{line}");
+        let reason = format!("bench: {place}: it is read, and not written over\n");
+        assert_eq!(answer.err, reason);
+        assert_eq!(fs::read(folder.join(place)).unwrap(), input, "{line}");
+    }
+    holds(&folder, &["other"]);
+    // A file of that name is not what the name stands for.
+    for round in ["new", "old"] {
+        let answer = shell_in(&folder, "exec $BENCH run - --save ./- <image");
+        assert_eq!((answer.status, answer.err.as_str()), (1, ""), "{round}");
+    }
+    holds(&folder, &["-", "other"]);
 }

@@ -5,7 +5,10 @@ mod common;
 
 use common::elf::{program, Symbol};
 use common::words::EBREAK;
-use common::{bench_in, directory, shell_in, Answer};
+use common::{bench_in, directory, names_in, shell_in, Answer};
+use std::ffi::OsStr;
+use std::os::unix::ffi::OsStrExt;
+use std::path::PathBuf;
 
 /// The most bytes of a message.
 const MOST: usize = 3_000;
@@ -167,6 +170,100 @@ fn json_has_no_raw_order_either() {
     let fit = bench_in(&directory, &["fit", "board", &one, "--json"]);
     is_plain(&fit, MOST);
     assert_eq!(fit.json()["images"][0]["file"], one);
+}
+
+/// A folder with a board and a shelf, where files of these bytes have such names.
+fn with_shelf(name: &str, bytes: &[u8], names: &[&OsStr]) -> PathBuf {
+    let directory = directory(name);
+    let sheet = "region\tall\t20000000\t00001000\trwx\n";
+    std::fs::write(directory.join("board"), sheet).unwrap();
+    std::fs::create_dir(directory.join("shelf")).unwrap();
+    for name in names {
+        std::fs::write(directory.join("shelf").join(name), bytes).unwrap();
+    }
+    directory
+}
+
+#[test]
+fn csv_has_no_raw_order_and_no_line_of_a_name() {
+    let names = NAMES.map(OsStr::new);
+    let more = [names[0], names[1], names[2], OsStr::new("a\nb")];
+    let directory = with_shelf("text_csv", b"region\tx\x1b\n", &more);
+    let answer = bench_in(&directory, &["shelf", "shelf", "--board", "board", "--csv"]);
+    is_plain(&answer, 10_000);
+    assert_eq!(answer.out.lines().count(), 1 + more.len(), "{}", answer.out);
+    assert!(answer.out.contains("\na\\nb,"), "{}", answer.out);
+}
+
+#[test]
+fn a_line_of_a_name_is_no_line_of_a_message() {
+    let directory = with_shelf("text_lines", b"", &[]);
+    std::fs::write(directory.join("image"), EBREAK.to_le_bytes()).unwrap();
+    let name = format!("nodir/{}\nbench: all is good", "x".repeat(100_000));
+    let never = format!("{name}:w");
+    for command in [
+        &["run", "image", "--save", &name][..],
+        &["run", "image", "--report", &name],
+        &["run", "image", "--save", "end", "--report", &name],
+        &["run", "image", "--save", "nodir/\nbench: all is good"],
+        &["run", "image", "--save", "image\n/"],
+        &[
+            "reach",
+            "image",
+            "--map",
+            "board",
+            "--at",
+            "0x20000000",
+            "--never",
+            &never,
+        ],
+        &[
+            "reach",
+            "image",
+            "--map",
+            "board",
+            "--at",
+            "0x20000000",
+            "--never",
+            "x\n:w",
+        ],
+    ] {
+        let answer = bench_in(&directory, command);
+        assert_eq!((answer.status, answer.out.as_str()), (3, ""));
+        assert_eq!(answer.err.lines().count(), 1, "{}", answer.err);
+        is_plain(&answer, MOST);
+    }
+}
+
+// Of one the last letter is a byte that is no text, and the other's is that byte written out.
+#[test]
+fn two_names_that_look_alike_are_two_images() {
+    let names = [OsStr::new("a\\xff"), OsStr::from_bytes(b"a\xff")];
+    let directory = with_shelf("text_alike", b"", &names);
+    for (name, bytes) in names.iter().zip([&[0; 4][..], &[1; 6]]) {
+        std::fs::write(directory.join("shelf").join(name), bytes).unwrap();
+    }
+    let shelf = || {
+        let words = [
+            "shelf", "shelf", "--board", "board", "--report", "pages", "--json",
+        ];
+        bench_in(&directory, &words)
+    };
+    let first = shelf();
+    let pages = names_in(&directory.join("pages"));
+    assert_eq!(pages.len(), names.len() + 2, "{pages:?}");
+    let index = std::fs::read_to_string(directory.join("pages/index.html")).unwrap();
+    let rows = first.json()["rows"].as_array().unwrap().clone();
+    let links = index.split("<td><a href=\"").skip(1);
+    let links: Vec<&str> = links.filter_map(|rest| rest.split('"').next()).collect();
+    assert_eq!(links.len(), rows.len());
+    for (row, link) in rows.iter().zip(links) {
+        let page = std::fs::read_to_string(directory.join("pages").join(link)).unwrap();
+        assert!(page.contains(row["sha256"].as_str().unwrap()), "{page}");
+    }
+    let again = shelf();
+    assert_eq!(again.err, "bench: 2 of 2 results were at hand\n");
+    assert_eq!(again.out, first.out);
 }
 
 // A register dump on a terminal is what a person pastes: white space and all.

@@ -99,12 +99,15 @@ fn a_place_that_is_not_there_is_said_before_the_run() {
 fn a_state_that_does_not_fit_leaves_the_old_one_and_the_run_is_told() {
     let directory = with_start("saved_full");
     std::fs::write(directory.join("end"), "old").unwrap();
-    let line = "ulimit -f 1; trap '' XFSZ; exec $BENCH run --state start --save end";
-    let Answer { status, out, err } = shell_in(&directory, line);
-    assert_eq!(status, 3, "{err}");
-    assert!(err.starts_with("bench: end: "), "{err}");
-    assert!(out.starts_with("1 step retired, 1 trapped."), "{out}");
-    let kept = std::fs::read_to_string(directory.join("end")).unwrap();
-    assert_eq!(kept, "old");
-    assert_eq!(names_in(&directory), ["end", "start"]);
+    // Whether the signal that the system sends then is ignored or not.
+    for before in ["", "trap '' XFSZ;"] {
+        let line = format!("ulimit -f 1; {before} exec $BENCH run --state start --save end");
+        let Answer { status, out, err } = shell_in(&directory, &line);
+        assert_eq!(status, 3, "{err}");
+        assert_eq!(err, "bench: end: no larger file is possible there\n");
+        assert!(out.starts_with("1 step retired, 1 trapped."), "{out}");
+        let kept = std::fs::read_to_string(directory.join("end")).unwrap();
+        assert_eq!(kept, "old");
+        assert_eq!(names_in(&directory), ["end", "start"]);
+    }
 }

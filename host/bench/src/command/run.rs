@@ -296,8 +296,7 @@ pub fn place_apart(path: &Path, asked: &Run, written: &[&Path]) -> Result<Place,
 /// What is said of a run that a signal stopped: after which steps, and what is saved of them.
 fn stopped(asked: &Run, made: Counts) -> String {
     let (signal, steps) = (stop::name(), count(made.steps(), "step"));
-    let files = outputs(asked).map(|path| path.display().to_string());
-    let files: Vec<String> = files.collect();
+    let files: Vec<String> = outputs(asked).map(visible::output).collect();
     match files.is_empty() {
         true => format!("{signal} came after {steps}; nothing was to be saved"),
         false => format!(

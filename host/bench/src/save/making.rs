@@ -2,7 +2,7 @@
 //! signal too.
 
 use super::spot::folder_of;
-use crate::stop;
+use crate::{process, stop};
 use std::collections::BTreeSet;
 use std::fs::{self, File, Permissions};
 use std::io::Error;
@@ -103,10 +103,7 @@ fn permit(file: &File, place: &Path) -> Result<(), Error> {
 fn mask() -> u32 {
     static MASK: OnceLock<u32> = OnceLock::new();
     *MASK.get_or_init(|| {
-        let status = fs::read_to_string("/proc/self/status").unwrap_or_default();
-        let mut lines = status.lines();
-        let digits = lines.find_map(|line| line.strip_prefix("Umask:"));
-        let mask = digits.and_then(|digits| u32::from_str_radix(digits.trim(), 8).ok());
-        mask.unwrap_or(STRICT)
+        let mask = process::number("Umask:", 8);
+        mask.and_then(|mask| mask.try_into().ok()).unwrap_or(STRICT)
     })
 }

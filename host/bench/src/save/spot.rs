@@ -1,7 +1,10 @@
 //! Which file a name leads to, whether it is there or not, and whether two names lead to one.
 
+use crate::visible::INPUT;
 use std::ffi::OsString;
-use std::fs;
+use std::fs::{self, File, Metadata};
+use std::io::{self, Error};
+use std::os::fd::AsFd;
 use std::os::unix::fs::MetadataExt;
 use std::path::{Path, PathBuf};
 
@@ -31,6 +34,20 @@ pub fn folder_of(path: &Path) -> &Path {
     }
 }
 
+/// Whether a name leads to the file that is read by another, of which - is standard input.
+pub fn is_read(path: &Path, read: &Path) -> bool {
+    match read == Path::new(INPUT) {
+        true => {
+            number(path).is_some_and(|file| input().is_ok_and(|input| numbered(&input) == file))
+        }
+        false => is_same(path, read),
+    }
+}
+
+fn input() -> Result<Metadata, Error> {
+    File::from(io::stdin().as_fd().try_clone_to_owned()?).metadata()
+}
+
 /// Whether two names lead to the same file, or would if it were there.
 pub fn is_same(one: &Path, other: &Path) -> bool {
     let files = (number(one), number(other));
@@ -43,8 +60,11 @@ pub fn is_same(one: &Path, other: &Path) -> bool {
 
 /// The system's own number of what a name leads to.
 fn number(path: &Path) -> Option<(u64, u64)> {
-    let there = fs::metadata(path).ok()?;
-    Some((there.dev(), there.ino()))
+    Some(numbered(&fs::metadata(path).ok()?))
+}
+
+fn numbered(there: &Metadata) -> (u64, u64) {
+    (there.dev(), there.ino())
 }
 
 /// A file's folder and its name there.

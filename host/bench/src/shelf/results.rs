@@ -1,14 +1,14 @@
 //! The results of a shelf as they are kept: a line an image, each with a sum over itself and all that decides it, so
 //! that a line that was damaged, or made from another board, other steps or by another program, is none.
 
-use super::name_text;
+use super::name_sum;
 use super::row::Row;
 use crate::file;
 use crate::page::digest;
 use crate::save::Place;
 use crate::visible;
 use std::collections::HashMap;
-use std::ffi::OsString;
+use std::ffi::{OsStr, OsString};
 use std::io::Write;
 use std::path::Path;
 use std::time::{Duration, Instant};
@@ -22,9 +22,10 @@ const NO_PAGE: &str = "-";
 /// How long results stay unsaved.
 const UNSAVED: Duration = Duration::from_secs(1);
 
-/// A result that was kept: the sum of its page, and its row.
+/// A result that was kept: the sums of its page and of the image's name, and its row.
 pub struct Kept {
     page: String,
+    name: String,
     pub row: Row,
 }
 
@@ -38,6 +39,7 @@ impl Kept {
 /// A line for each image in the order of their names; none where nothing is known.
 pub struct Results {
     key: String,
+    names: Vec<OsString>,
     lines: Vec<Option<String>>,
     /// Whether a line is known to be of the image as it is now.
     stands: Vec<bool>,
@@ -56,6 +58,7 @@ impl Results {
     ) -> Result<Results, String> {
         let mut results = Results {
             key,
+            names: names.to_vec(),
             lines: vec![None; names.len()],
             stands: vec![false; names.len()],
             place: None,
@@ -66,14 +69,14 @@ impl Results {
         };
         if path.exists() {
             let mut known = results.known(path)?;
-            let line = |name: &OsString| known.remove(&name_text(name));
+            let line = |name: &OsString| known.remove(&name_sum(name));
             results.lines = names.iter().map(line).collect();
         }
         results.place = Some(Place::apart(path, &[], index.as_slice())?);
         Ok(results)
     }
 
-    /// The lines of a file that stand, by the image's name.
+    /// The lines of a file that stand, by the sum of the image's name.
     fn known(&self, path: &Path) -> Result<HashMap<String, String>, String> {
         let bytes = file::read(path)?;
         let mut lines = bytes.split(|byte| *byte == b'\n');
@@ -84,22 +87,24 @@ impl Results {
             ));
         }
         let lines = lines.filter_map(|line| std::str::from_utf8(line).ok());
-        let known = lines.filter_map(|line| Some((self.read(line)?.row.file, line.to_string())));
+        let known = lines.filter_map(|line| Some((self.read(line)?.name, line.to_string())));
         Ok(known.collect())
     }
 
-    fn sum(&self, page: &str, row: &str) -> String {
-        digest(format!("{}\n{page}\n{row}", self.key).as_bytes())[..SUM].into()
+    fn sum(&self, result: &str) -> String {
+        digest(format!("{}\n{result}", self.key).as_bytes())[..SUM].into()
     }
 
     /// The result of a line, if its sum is right.
     fn read(&self, line: &str) -> Option<Kept> {
-        let (sum, rest) = line.split_once(' ')?;
-        let (page, row) = rest.split_once(' ')?;
-        let row_read = (sum == self.sum(page, row)).then(|| serde_json::from_str(row).ok())?;
+        let (sum, result) = line.split_once(' ')?;
+        let result = (sum == self.sum(result)).then_some(result)?;
+        let (page, rest) = result.split_once(' ')?;
+        let (name, row) = rest.split_once(' ')?;
         Some(Kept {
             page: page.into(),
-            row: row_read?,
+            name: name.into(),
+            row: serde_json::from_str(row).ok()?,
         })
     }
 
@@ -117,8 +122,8 @@ impl Results {
     pub fn take(&mut self, place: usize, row: &Row, page: Option<&str>) -> Result<(), String> {
         let text = serde_json::to_string(row).map_err(|error| error.to_string())?;
         let page = page.map_or(NO_PAGE.into(), |page| digest(page.as_bytes()));
-        let sum = self.sum(&page, &text);
-        self.lines[place] = Some(format!("{sum} {page} {text}"));
+        let result = format!("{page} {} {text}", name_sum(&self.names[place]));
+        self.lines[place] = Some(format!("{} {result}", self.sum(&result)));
         self.stand(place);
         match self.saved.elapsed() > UNSAVED {
             true => self.save(),
@@ -144,9 +149,14 @@ impl Results {
 
     /// The rows in order, of the images that were come to.
     pub fn rows(&self) -> impl Iterator<Item = Row> + '_ {
-        let lines = self.lines.iter().zip(&self.stands);
-        let lines = lines.filter_map(|(line, stands)| line.as_ref().filter(|_| *stands));
-        lines.filter_map(|line| Some(self.read(line)?.row))
+        self.named().map(|(_, row)| row)
+    }
+
+    /// The same with the images' names.
+    pub fn named(&self) -> impl Iterator<Item = (&OsStr, Row)> + '_ {
+        let stands = self.names.iter().enumerate();
+        let stands = stands.filter(|(place, _)| self.stands[*place]);
+        stands.filter_map(|(place, name)| Some((name.as_os_str(), self.kept(place)?.row)))
     }
 
     /// How many images were not come to.

@@ -9,6 +9,7 @@ use crate::verdict::Verdict;
 use crate::visible::{self, quoted, shortened};
 use crate::Status;
 use serde_json::{json, Value};
+use std::ffi::OsStr;
 use std::io::{Error, Write};
 
 /// How many images are what. Each is counted once.
@@ -240,10 +241,16 @@ fn unjudged(terms: &Terms) -> Option<&'static str> {
     off.then_some("Stores were not judged by the map (--map-stores off).")
 }
 
-/// The rows as CSV, under the names that JSON has.
+/// The rows as CSV, under the names that JSON has. It has no escapes of its own, so that what is not seen is written out.
 pub fn csv(out: &mut impl Write, results: &Results) -> Result<(), Error> {
     let mut writer = csv::Writer::from_writer(out);
     for row in results.rows() {
+        let row = Row {
+            file: visible::visible(&row.file),
+            why: visible::visible(&row.why),
+            note: row.note.as_deref().map(visible::visible),
+            ..row
+        };
         writer.serialize(row).map_err(Error::other)?;
     }
     writer.flush()
@@ -273,7 +280,7 @@ fn fill(out: &mut impl Write, template: &str, value: &Value) -> Result<(), Error
 }
 
 /// A row of that page.
-fn page_row(row: &Row, judged: bool) -> Value {
+fn page_row(name: &OsStr, row: &Row, judged: bool) -> Value {
     let kind = match (row.label, row.verdict) {
         (_, Some(Verdict::Trapped | Verdict::Breaks | Verdict::Wrong)) => "trapped",
         (Label::Misfit, _) => "not-fit",
@@ -284,7 +291,7 @@ fn page_row(row: &Row, judged: bool) -> Value {
     };
     let steps = row.retired.map_or(String::new(), grouped);
     json!({
-        "kind": kind, "page": page_name(&row.file), "file": shortened(&row.file), "label": label(row),
+        "kind": kind, "page": page_name(name), "file": shortened(&row.file), "label": label(row),
         "end": run(row), "steps": steps, "stack": stack(row), "judged": judged, "may_write": may_write(row), "why": why(row),
     })
 }
@@ -302,8 +309,8 @@ pub fn page(out: &mut impl Write, results: &Results, shelf: &Shelf) -> Result<()
         "judged": judged.then_some(MAY_WRITE), "unjudged": unjudged(&shelf.terms),
     });
     fill(out, "shelf_head.html", &head)?;
-    for row in results.rows() {
-        let value = page_row(&row, judged);
+    for (name, row) in results.named() {
+        let value = page_row(name, &row, judged);
         fill(out, "shelf_row.html", &value)?;
     }
     let own = shelf
