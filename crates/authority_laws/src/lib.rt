@@ -1,1 +1,3 @@
 // Laws of the authority that steps and runs leave. There is no code here.
+#![tactic(auto)]
+

@@ -1,4 +1,6 @@
 // A step, a run, a run with a watch record by each engine and the sweeper for C: slices and numbers, the answer packed into one number.
+#![tactic(auto)]
+
 ghost use Rattle.std.specs.Prelude.{◌≡◌, ◌<◌, ◌≤◌, ◌^◌};
 ghost use Rattle.state.specs.Lent.{state, report_edition};
 ghost use Rattle.machine.specs.Run.{step_number, step_retired, step_trapped, run_number, run_retired, run_trapped};

@@ -1,4 +1,6 @@
 // The bounds of a metadata word at an address, and the cut of a request.
+#![tactic(auto)]
+
 mod cutting;
 mod decoding;
 mod lengths;

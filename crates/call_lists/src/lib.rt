@@ -1,4 +1,6 @@
 // Lists of cuts, exact cuts, address moves and narrowings of one capability.
+#![tactic(auto)]
+
 mod calls;
 mod exported;
 mod lists;

@@ -1,4 +1,6 @@
 // A capability as a register holds it, and what may be asked of it and done to it.
+#![tactic(auto)]
+
 mod changing;
 mod loading;
 mod reading;

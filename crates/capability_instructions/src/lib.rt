@@ -1,4 +1,6 @@
 // What the instructions that inspect, derive and compare capabilities do. None of them traps.
+#![tactic(auto)]
+
 ghost use Rattle.std.specs.Prelude.{◌≡◌};
 ghost use Rattle.capability.specs.Capability.{low, high};
 ghost use Rattle.capability_instructions.specs.Derivation.{moved_by, at_most_word, length_of, inspected, subset, equal_exact, truth, combined};

@@ -1,1 +1,3 @@
 // Laws of the definitions of metadata words, bounds, cuts and capabilities. There is no code here.
+#![tactic(auto)]
+

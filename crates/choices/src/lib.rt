@@ -1,4 +1,6 @@
 // Choices by a test, with no branch left in the caller.
+#![tactic(auto)]
+
 ghost use Rattle.std.specs.Prelude.{◌≡◌, ◌&&◌, ◌||◌, cond, ◌-◌, ◌≤◌, max};
 
 pub fn both(a: bool, b: bool) -> bool

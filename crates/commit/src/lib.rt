@@ -1,4 +1,6 @@
 // Applying an effect to the lent buffers: the only place that writes them.
+#![tactic(auto)]
+
 ghost use Rattle.std.specs.Prelude.{◌≡◌, slice_set};
 ghost use Rattle.words.specs.Words.{set_bytes};
 ghost use Rattle.state.specs.Layout.{csr_index};

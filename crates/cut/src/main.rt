@@ -5,6 +5,8 @@
 // comes to by what those calls answered, and a failure carries the answer that it comes from.
 //
 // `rt check cut` builds it as target/bin/cut: target/bin/cut < requests > cuts
+#![tactic(auto)]
+
 ghost use Rattle.std.specs.Prelude.{◌≡◌, ◌≤◌, length};
 ghost use Rattle.cut.specs.Turns.{is_negative, Taken, AfterRead, Turned, Starts, LastWritten, Ends, is_done};
 ghost use Rattle.cut_lines.specs.Lines.{header_text};

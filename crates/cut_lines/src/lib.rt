@@ -2,6 +2,8 @@
 //
 // An input comes in blocks of any sizes. `process` takes a block, and the state says where in a line
 // it ended; what is written in the end does not depend on where the blocks were cut.
+#![tactic(auto)]
+
 mod lines;
 mod scanning;
 

@@ -1,4 +1,6 @@
 // What one step does, by value: interrupt or fetch, decode, effect.
+#![tactic(auto)]
+
 ghost use Rattle.std.specs.Prelude.{◌≡◌};
 ghost use Rattle.state.specs.Lent.{lent, state};
 ghost use Rattle.execution.specs.Step.{effect_of, instruction_in, word_in, length_in, trap_or, effect_in, met_of, turn_of};

@@ -1,4 +1,6 @@
 // The fetch in halves: the instruction that stands at PCC, a half or a long word, or the trap of the first check that fails.
+#![tactic(auto)]
+
 ghost use Rattle.std.specs.Prelude.{◌≡◌, ◌+◌, cond, length, nat_le};
 ghost use Rattle.short_forms.specs.Standing.{half_bytes};
 ghost use Rattle.state.specs.Memory.{place_of};

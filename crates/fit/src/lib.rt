@@ -1,4 +1,6 @@
 // Two images and one board: the payload of the image that fits, in place.
+#![tactic(auto)]
+
 ghost use Rattle.std.specs.Prelude.{◌≡◌, ◌≤◌, ◌<◌, ◌^◌, take};
 ghost use Rattle.fit.specs.Fit.{Handed, choice_of, line_of, outcome, part_of, verdict_of};
 ghost use Rattle.fit.specs.Fit.{within};

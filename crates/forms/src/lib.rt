@@ -1,4 +1,6 @@
 // What is listed of a word, and back: the row of its name and its operands; the word of a row and operands.
+#![tactic(auto)]
+
 mod encoding;
 mod places;
 mod rows;

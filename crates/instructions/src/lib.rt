@@ -1,6 +1,8 @@
 // Instructions, and the decoder from a word to one, by value: a module for each family of opcodes, and `decode` over them. The rows of their matches are
 // the tables of the standard and of the report: funct3, funct7 and the rs2 field as numbers, each beside its instruction's name.
 // An arm of a match returns at once: where arms meet, the text that the check generates is about three times as long.
+#![tactic(auto)]
+
 mod again;
 mod capabilities;
 mod fields;

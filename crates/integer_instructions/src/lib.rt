@@ -1,4 +1,6 @@
 // What LUI and the instructions of OP-IMM and OP do.
+#![tactic(auto)]
+
 ghost use Rattle.std.specs.Prelude.{◌≡◌};
 ghost use Rattle.capability.specs.Capability.{integer};
 ghost use Rattle.integer_instructions.specs.Integer.{alu_of, multiplied_of, reading_of, part_of, divided_of, integer_effect};

@@ -1,4 +1,6 @@
 // What jumps, branches and MRET do.
+#![tactic(auto)]
+
 ghost use Rattle.std.specs.Prelude.{◌≡◌, ◌+◌, not, ◌&&◌, ◌||◌};
 ghost use Rattle.capability.specs.Capability.{integer};
 ghost use Rattle.state.specs.Registers.{pc_of};

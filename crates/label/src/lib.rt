@@ -1,5 +1,7 @@
 // The cutter and the bounds lookup for C, asked by plain numbers. `include/oddersnow.h` declares
 // them. A refused cut has a number of its own, and each of its other values is 0.
+#![tactic(auto)]
+
 ghost use Rattle.std.specs.Prelude.{◌≡◌};
 ghost use Rattle.bounds.specs.Bounds.{bounds_of};
 ghost use Rattle.bounds.specs.Cutting.{answer_exact, answer_high, answer_low, answer_number, cut_of};

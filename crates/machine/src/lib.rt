@@ -1,4 +1,6 @@
 // The machine over lent buffers: a step, and a run of steps.
+#![tactic(auto)]
+
 ghost use Rattle.std.specs.Prelude.{◌≡◌, not, ◌&&◌, ◌/◌, eqb};
 ghost use Rattle.state.specs.Layout.{capability_count};
 ghost use Rattle.state.specs.Lent.{state};

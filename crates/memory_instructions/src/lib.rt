@@ -1,4 +1,6 @@
 // What loads and stores do: the checks of the authority, the place in memory, then the value or the bytes.
+#![tactic(auto)]
+
 ghost use Rattle.std.specs.Prelude.{◌≡◌, ◌+◌, not};
 ghost use Rattle.words.specs.Words.{wrap};
 ghost use Rattle.state.specs.Lent.{lent};

@@ -1,4 +1,6 @@
 // The metadata word of a capability: its fields, and the rights that its permission code stands for.
+#![tactic(auto)]
+
 mod codes;
 mod masks;
 mod word;

@@ -1,5 +1,7 @@
 // What the second engine keeps of a decoded instruction: one enum over all families, with registers as places in the register file. An instruction that it has
 // no operation of its own for is left to the plain step.
+#![tactic(auto)]
+
 ghost use Rattle.std.specs.Prelude.{◌≡◌};
 ghost use Rattle.operations.specs.Means.{place_of, Means, Placed};
 

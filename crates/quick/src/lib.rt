@@ -1,4 +1,6 @@
 // The second engine: straight code is decoded once and kept until a store touches it. It answers as the plain engine does.
+#![tactic(auto)]
+
 mod capabilities;
 mod entries;
 mod integers;

@@ -1,4 +1,6 @@
 // What the capabilities of a state reach: the first place that holds one with some rights and a byte of a range of addresses.
+#![tactic(auto)]
+
 mod outside;
 
 ghost use Rattle.std.specs.Prelude.{◌≡◌, ◌&&◌, ◌+◌, ◌-◌, ◌*◌, ◌≤◌, ◌<◌, ◌^◌, leb, ltb, length};

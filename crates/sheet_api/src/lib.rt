@@ -1,4 +1,6 @@
 // Map sheets and images for C: numbers and slices only.
+#![tactic(auto)]
+
 ghost use Rattle.std.specs.Prelude.{cond, ◌≡◌, ◌-◌, ◌≤◌, ◌<◌, eqb};
 ghost use Rattle.sheet_api.specs.Numbers.{CompareNumbered, FitNumbered, ReadNumbered, WriteNumbered};
 ghost use Rattle.sheet_api.specs.Numbers.{compare_number, fit_packed, placed_at, read_number, write_number};

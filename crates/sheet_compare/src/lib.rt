@@ -1,4 +1,6 @@
 // Two sheets compared.
+#![tactic(auto)]
+
 mod names;
 
 ghost use Rattle.std.specs.Prelude.{◌≡◌};

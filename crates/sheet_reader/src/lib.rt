@@ -1,4 +1,6 @@
 // A sheet read into records of seven words.
+#![tactic(auto)]
+
 ghost use Rattle.std.specs.Prelude.{[], ◌∷◌, ◌≡◌, ◌+◌, ◌*◌, ◌≤◌, ◌<◌, length, take};
 ghost use Rattle.text.specs.Writing.{Puts};
 ghost use Rattle.sheets.specs.Records.{name_words, record_words, sheet_words, word_at};

@@ -1,4 +1,6 @@
 // A sheet's text from records of seven words.
+#![tactic(auto)]
+
 mod judging;
 mod lines;
 

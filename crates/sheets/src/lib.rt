@@ -1,4 +1,6 @@
 // Map sheets: reading one, alone or at the front of an image.
+#![tactic(auto)]
+
 mod names;
 mod scanning;
 mod tests;

@@ -1,4 +1,6 @@
 // The lent state: the register file, places in memory, the checks of an access, and what one instruction does to the state.
+#![tactic(auto)]
+
 mod addresses;
 mod checks;
 mod layout;

@@ -1,4 +1,6 @@
 // The sweeper: one granule of memory a call, by its number. The tag of a capability that the load filter's revocation test would clear goes.
+#![tactic(auto)]
+
 ghost use Rattle.std.specs.Prelude.{◌≡◌, not, ◌<◌, ◌^◌};
 ghost use Rattle.state.specs.Checks.{fail_if};
 ghost use Rattle.memory_instructions.specs.Access.{revoked_value};

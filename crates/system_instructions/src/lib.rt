@@ -1,4 +1,6 @@
 // What FENCE, WFI, ECALL, EBREAK, the CSR instructions and CSpecialRW do.
+#![tactic(auto)]
+
 ghost use Rattle.std.specs.Prelude.{◌≡◌};
 ghost use Rattle.system_instructions.specs.System.{csr_asked, csr_written, csr_writes, csr_write, csr_effect, scr_value, special_write};
 ghost use Rattle.system_instructions.specs.System.{special_effect, system_effect};

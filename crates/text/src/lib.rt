@@ -1,5 +1,7 @@
 // Bytes and numbers as ASCII text. A writer writes from index `at` on, as much as the lent slice has
 // room for, and returns the index after that.
+#![tactic(auto)]
+
 ghost use Rattle.std.specs.Prelude.{[], ◌∷◌, ◌≡◌, ◌≤◌, ◌<◌, length};
 ghost use Rattle.text.specs.Digits.{digit_of, digits, places_of, decimal, signed};
 ghost use Rattle.text.specs.Digits.{glyph};

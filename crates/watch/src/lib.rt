@@ -1,4 +1,6 @@
 // The watch record: two ranges of addresses, each with a count of the stores that touched it.
+#![tactic(auto)]
+
 ghost use Rattle.std.specs.Prelude.{◌≡◌};
 ghost use Rattle.watch.specs.Watch.{hits, one_more_hit, range_touched, touched_at, no_watch};
 

@@ -1,4 +1,6 @@
 // Words of 32 bits as numbers: what the integer instructions compute of them; little-endian bytes and single bits of lent buffers.
+#![tactic(auto)]
+
 mod bit_buffers;
 mod buffers;
 mod integers;
