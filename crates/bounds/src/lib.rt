@@ -31,14 +31,14 @@ pub(crate) const WIDEST_FIELD: u32 = 15;
 pub(crate) const WIDEST: u32 = 24;
 
 // The bounds [low, high).
-#[derive(Drop)]
+#[derive(Clone, Copy)]
 pub struct Region {
     pub low: u32,
     pub high: u64,
 }
 
 // The answer to a cut asked by plain numbers.
-#[derive(Drop)]
+#[derive(Clone, Copy)]
 pub enum CutAnswer {
     Cut { region: Region, exact: bool },
     PastEnd,

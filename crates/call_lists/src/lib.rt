@@ -11,7 +11,7 @@ pub use exported::oddersnow_calls;
 pub use lists::run_calls;
 
 // One call, with its length, address or mask.
-#[derive(Drop)]
+#[derive(Clone, Copy)]
 pub enum Call {
     Cut(u32),
     ExactCut(u32),
@@ -38,7 +38,7 @@ pub(crate) const WORDS: usize = 3;
 pub(crate) const MOST_TAG: u32 = 1;
 
 // The answer to a list: the last capability, or why nothing was run.
-#[derive(Drop)]
+#[derive(Clone, Copy)]
 pub enum Answer {
     Ran(Capability),
     BadTag,

@@ -23,7 +23,7 @@ pub const SENTRY_DISABLING: u32 = 2;
 pub const SENTRY_ENABLING: u32 = 3;
 
 // Address, metadata word, and tag, 0 or 1.
-#[derive(Drop)]
+#[derive(Clone, Copy)]
 pub struct Capability {
     pub address: u32,
     pub metadata: u32,

@@ -17,7 +17,7 @@ use watch::Watch;
 
 // What a run keeps beside the buffers: how many steps trapped, and the watch record. It goes through the commit, and not the commit's answer back to the
 // loop: so an instruction that stores nothing and does not trap does nothing for it.
-#[derive(Drop)]
+#[derive(Clone, Copy)]
 pub struct Kept {
     pub trapped: u32,
     pub watch: Watch,

@@ -22,14 +22,14 @@ const FIRST_LINE: u64 = 1;
 const OUTPUT_BYTES: usize = 131072;
 
 // What a call of the kit's answered: `libc::read` a count or -1, `io::write_all` whether all was written.
-#[derive(Drop)]
+#[derive(Clone, Copy)]
 enum Answer {
     Read(isize),
     Write(bool),
 }
 
 // What became of a turn: a block went through, the input is at its end, or a call failed.
-#[derive(Drop)]
+#[derive(Clone, Copy)]
 enum Turn {
     On(Scan),
     Ended,
@@ -37,7 +37,7 @@ enum Turn {
 }
 
 // What became of the whole input: all was written, a call failed, or the turns were used up.
-#[derive(Drop)]
+#[derive(Clone, Copy)]
 enum Outcome {
     Done,
     Failed(Answer),

@@ -29,7 +29,7 @@ pub(crate) const TAB_PLACE: u32 = 8;
 pub(crate) const SPOILED: u32 = 18;
 
 // The state between two bytes of the input.
-#[derive(Drop)]
+#[derive(Clone, Copy)]
 pub struct Scan {
     // the number of the line that is being read
     pub number: u64,
@@ -40,7 +40,7 @@ pub struct Scan {
 }
 
 // What `process` did with a block.
-#[derive(Drop)]
+#[derive(Clone, Copy)]
 pub struct Progress {
     pub scan: Scan,
     pub read: usize,
@@ -48,7 +48,7 @@ pub struct Progress {
 }
 
 // A writer's answer: the index after what it wrote, or too little room, and nothing written.
-#[derive(Drop)]
+#[derive(Clone, Copy)]
 pub enum Written {
     End(usize),
     NoRoom,

@@ -120,7 +120,7 @@ fn met_at(regs: &[u32], board: Board, mem: &[u8]) -> Fetched
 }
 
 // What the next step does, by value: how far PCC moves where it moves on, and the effect.
-#[derive(Drop)]
+#[derive(Clone, Copy)]
 pub struct Turn {
     pub bytes: u32,
     pub effect: Effect,

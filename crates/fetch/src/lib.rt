@@ -15,7 +15,7 @@ use state::{
 };
 
 // What a fetch finds: a long word, a half, or a trap's mcause and mtval.
-#[derive(Drop)]
+#[derive(Clone, Copy)]
 pub enum Fetched {
     Long(u32),
     Half(u32),

@@ -11,7 +11,7 @@ use sheets::{Reading, Region};
 
 // Which image fits, with its payload's place, or why none is chosen: a bad sheet with its first bad
 // line.
-#[derive(Drop)]
+#[derive(Clone, Copy)]
 pub enum Choice {
     First(usize),
     Second(usize),

@@ -17,7 +17,7 @@ pub use rows::{FIRST_ROWS, FIRST_STARTS, KEYS, LATER_STARTS, NAME_BYTES, NAMES, 
 use short_shapes::short_shape;
 
 // The row of a name, and as many operands as count says; the last one is c.
-#[derive(Drop)]
+#[derive(Clone, Copy)]
 pub struct Shape {
     pub row: u32,
     pub count: u32,

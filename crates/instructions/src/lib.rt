@@ -29,7 +29,7 @@ use system::{decode_fence, decode_system};
 // There are sixteen registers, so a field of five bits can name what is none.
 pub const LAST_REGISTER: u32 = 15;
 
-#[derive(Drop)]
+#[derive(Clone, Copy)]
 pub enum Alu {
     Add,
     Sub,
@@ -44,7 +44,7 @@ pub enum Alu {
 }
 
 // Multiply and divide stand apart from Alu: no immediate is multiplied, and every integer instruction would take longer.
-#[derive(Drop)]
+#[derive(Clone, Copy)]
 pub enum MultiplyKind {
     Mul,
     Mulh,
@@ -52,7 +52,7 @@ pub enum MultiplyKind {
     Mulhu,
 }
 
-#[derive(Drop)]
+#[derive(Clone, Copy)]
 pub enum DivideKind {
     Div,
     Divu,
@@ -60,7 +60,7 @@ pub enum DivideKind {
     Remu,
 }
 
-#[derive(Drop)]
+#[derive(Clone, Copy)]
 pub enum BranchKind {
     Beq,
     Bne,
@@ -70,7 +70,7 @@ pub enum BranchKind {
     Bgeu,
 }
 
-#[derive(Drop)]
+#[derive(Clone, Copy)]
 pub enum LoadKind {
     Lb,
     Lh,
@@ -79,21 +79,21 @@ pub enum LoadKind {
     Lhu,
 }
 
-#[derive(Drop)]
+#[derive(Clone, Copy)]
 pub enum StoreKind {
     Sb,
     Sh,
     Sw,
 }
 
-#[derive(Drop)]
+#[derive(Clone, Copy)]
 pub enum CsrKind {
     Csrrw,
     Csrrs,
     Csrrc,
 }
 
-#[derive(Drop)]
+#[derive(Clone, Copy)]
 pub enum Csr {
     Mstatus,
     Mcause,
@@ -103,7 +103,7 @@ pub enum Csr {
 }
 
 // Special capability registers, numbers 28, 29, 30, 31.
-#[derive(Drop)]
+#[derive(Clone, Copy)]
 pub enum Scr {
     Mtcc,
     Mtdc,
@@ -112,7 +112,7 @@ pub enum Scr {
 }
 
 // What is read of a capability, or of a length, into an integer register.
-#[derive(Drop)]
+#[derive(Clone, Copy)]
 pub enum Inspection {
     GetPerm,
     GetType,
@@ -127,7 +127,7 @@ pub enum Inspection {
 }
 
 // What is made of two source registers.
-#[derive(Drop)]
+#[derive(Clone, Copy)]
 pub enum Combination {
     SetBounds,
     SetBoundsExact,
@@ -143,7 +143,7 @@ pub enum Combination {
 }
 
 // What funct7 selects of them.
-#[derive(Drop)]
+#[derive(Clone, Copy)]
 pub enum Selection {
     Is(Combination),
     Nothing,
@@ -188,7 +188,7 @@ pub(crate) fn selected_again(f7: u32) -> Selection
     }
 }
 
-#[derive(Drop)]
+#[derive(Clone, Copy)]
 pub enum IntegerInstruction {
     Lui {
         rd: u32,
@@ -220,7 +220,7 @@ pub enum IntegerInstruction {
     },
 }
 
-#[derive(Drop)]
+#[derive(Clone, Copy)]
 pub enum JumpInstruction {
     Jal {
         rd: u32,
@@ -240,7 +240,7 @@ pub enum JumpInstruction {
     Mret,
 }
 
-#[derive(Drop)]
+#[derive(Clone, Copy)]
 pub enum MemoryInstruction {
     Load {
         kind: LoadKind,
@@ -266,7 +266,7 @@ pub enum MemoryInstruction {
     },
 }
 
-#[derive(Drop)]
+#[derive(Clone, Copy)]
 pub enum CapabilityInstruction {
     AuiPcc {
         rd: u32,
@@ -307,7 +307,7 @@ pub enum CapabilityInstruction {
     },
 }
 
-#[derive(Drop)]
+#[derive(Clone, Copy)]
 pub enum SystemInstruction {
     Fence,
     Wfi,
@@ -332,7 +332,7 @@ pub enum SystemInstruction {
     },
 }
 
-#[derive(Drop)]
+#[derive(Clone, Copy)]
 pub enum Instruction {
     Integer(IntegerInstruction),
     Jump(JumpInstruction),

@@ -17,7 +17,7 @@ const ANSWERED: u32 = 0;
 const PAST_END: u32 = 6;
 
 // A cut's answer as numbers.
-#[derive(Drop)]
+#[derive(Clone, Copy)]
 struct Numbers {
     number: u32,
     low: u32,

@@ -19,7 +19,7 @@ use state::{
 use watch::{Range, Watch};
 
 // The answer to a step.
-#[derive(Drop)]
+#[derive(Clone, Copy)]
 pub enum StepAnswer {
     Retired,
     Trapped,
@@ -27,7 +27,7 @@ pub enum StepAnswer {
 }
 
 // The answer to a run.
-#[derive(Drop)]
+#[derive(Clone, Copy)]
 pub enum RunAnswer {
     Ran { retired: u32, trapped: u32 },
     Refused(u32),
@@ -266,7 +266,7 @@ pub fn step(
 }
 
 // How many steps retired and trapped, and the watch record after them.
-#[derive(Drop)]
+#[derive(Clone, Copy)]
 pub struct Tally {
     pub retired: u32,
     pub trapped: u32,
@@ -331,7 +331,7 @@ pub fn run(
 }
 
 // The answer to a run with a watch record, and the record after it.
-#[derive(Drop)]
+#[derive(Clone, Copy)]
 pub struct Watched {
     pub answer: RunAnswer,
     pub watch: Watch,

@@ -39,7 +39,7 @@ pub const U0: u32 = 11;
 // All twelve.
 pub const ALL_RIGHTS: u32 = 0xFFF;
 
-#[derive(Drop)]
+#[derive(Clone, Copy)]
 pub struct Fields {
     pub reserved: u32,
     pub permissions: u32,

@@ -11,7 +11,7 @@ use instructions::{
 };
 
 // at, from and other are places of a register's first word; rd and rs1 are registers.
-#[derive(Drop)]
+#[derive(Clone, Copy)]
 pub enum Operation {
     Plain,
     Put {

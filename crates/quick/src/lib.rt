@@ -21,7 +21,7 @@ use state::Board;
 use watch::{Range, Watch};
 
 // What a turn answers: whether it is done, and where and how many bytes it stored, or would have a plain step store; no width is no store.
-#[derive(Drop)]
+#[derive(Clone, Copy)]
 pub struct Took {
     pub done: bool,
     pub at: u32,
@@ -29,7 +29,7 @@ pub struct Took {
 }
 
 // What is found at PCC: an operation and its bytes, or no bytes.
-#[derive(Drop)]
+#[derive(Clone, Copy)]
 pub struct Found {
     pub bytes: u32,
     pub op: Operation,

@@ -18,7 +18,7 @@ pub use outside::{oddersnow_reach_outside, reach_outside};
 use state::{Board, CAPABILITY_COUNT, GRANULE, GRANULE_BYTES, REPORT_EDITION, Window};
 
 // What is asked: a range of addresses, its end a whole number, and the rights that a capability must have to count.
-#[derive(Drop)]
+#[derive(Clone, Copy)]
 pub struct Query {
     pub low: u32,
     pub length: u32,
@@ -26,7 +26,7 @@ pub struct Query {
 }
 
 // The answer: the first place, that there is none, or a refusal's number.
-#[derive(Drop)]
+#[derive(Clone, Copy)]
 pub enum ReachAnswer {
     Found(u32),
     Nowhere,

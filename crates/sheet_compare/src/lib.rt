@@ -10,7 +10,7 @@ use names::put_names;
 use text::deliver;
 
 // The least name so far, if any.
-#[derive(Drop)]
+#[derive(Clone, Copy)]
 pub struct Pick {
     pub found: bool,
     pub name: [u8; 16],
@@ -18,7 +18,7 @@ pub struct Pick {
 
 // How many bytes were written; or the first bad line of a sheet; or too little room. Only in the
 // first case is anything written.
-#[derive(Drop)]
+#[derive(Clone, Copy)]
 pub enum CompareAnswer {
     Listed(usize),
     BadFirst(usize),

@@ -13,7 +13,7 @@ const RECORD_WORDS: usize = 7;
 
 // How many records were written; or the first bad line; or too little room. Only in the first case is
 // anything written.
-#[derive(Drop)]
+#[derive(Clone, Copy)]
 pub enum ReadAnswer {
     Records(usize),
     Bad(usize),

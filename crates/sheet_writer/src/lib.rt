@@ -14,7 +14,7 @@ use text::deliver;
 
 // How many bytes were written; or the first bad record, as a line's number; or too little room. Only
 // in the first case is anything written.
-#[derive(Drop)]
+#[derive(Clone, Copy)]
 pub enum WriteAnswer {
     Written(usize),
     Bad(usize),

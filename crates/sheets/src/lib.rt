@@ -17,7 +17,7 @@ pub use tests::follows;
 pub const MOST_REGIONS: usize = 64;
 
 // A region of a board or of an image.
-#[derive(Drop)]
+#[derive(Clone, Copy)]
 pub struct Region {
     // the letters of its name, and zeros after them
     pub name: [u8; 16],
@@ -28,7 +28,7 @@ pub struct Region {
 }
 
 // The state between two bytes of a line.
-#[derive(Drop)]
+#[derive(Clone, Copy)]
 pub struct Scan {
     // the field that is being read, from 0, and SPOILED once the line cannot be well_formed
     pub field: u32,
@@ -42,7 +42,7 @@ pub struct Scan {
 }
 
 // A line: the state at its end, and the index of its newline or of the text's end.
-#[derive(Drop)]
+#[derive(Clone, Copy)]
 pub struct Line {
     pub scan: Scan,
     pub end: usize,
@@ -50,7 +50,7 @@ pub struct Line {
 
 // A sheet that was read: its first bad line; or, where that is 0, its regions and the index after its
 // end.
-#[derive(Drop)]
+#[derive(Clone, Copy)]
 pub struct Reading {
     pub regions: [Region; 64],
     pub count: usize,

@@ -118,14 +118,14 @@ pub const SYSTEM_CAUSE: u32 = 24;
 pub const PCC_REGISTER: u32 = 32;
 
 // The part of memory that the revocation bits are for, its start counted from memory's.
-#[derive(Drop)]
+#[derive(Clone, Copy)]
 pub struct Window {
     pub start: u32,
     pub size: u32,
 }
 
 // What is lent as numbers: memory's start, the window of the revocation bits, and the edition of the architecture.
-#[derive(Drop)]
+#[derive(Clone, Copy)]
 pub struct Board {
     pub start: u32,
     pub window: Window,
@@ -138,7 +138,7 @@ pub const REPORT_EDITION: u32 = 0;
 pub const LATER_EDITION: u32 = 1;
 
 // What the revocation bits say of an address: it lies outside their window, or its granule is clear or marked.
-#[derive(Drop)]
+#[derive(Clone, Copy)]
 pub enum Revocation {
     Outside,
     Clear,
@@ -146,7 +146,7 @@ pub enum Revocation {
 }
 
 // Where an access of some bytes lies in memory.
-#[derive(Drop)]
+#[derive(Clone, Copy)]
 pub enum Place {
     At(u32),
     Misaligned,
@@ -154,7 +154,7 @@ pub enum Place {
 }
 
 // What one instruction does, decided before anything is written.
-#[derive(Drop)]
+#[derive(Clone, Copy)]
 pub enum Effect {
     Advance,
     Write {

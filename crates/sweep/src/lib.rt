@@ -9,7 +9,7 @@ ghost use Rattle.sweep.specs.Visits.{stored_in, visit_refusal, swept_tags, next_
 use state::{Board, GRANULE, GRANULE_BYTES};
 
 // The answer to a visit: the number of the next granule, or that this was the last one.
-#[derive(Drop)]
+#[derive(Clone, Copy)]
 pub enum SweepAnswer {
     Next(u32),
     Last,

@@ -5,7 +5,7 @@ ghost use Rattle.std.specs.Prelude.{◌≡◌};
 ghost use Rattle.watch.specs.Watch.{hits, one_more_hit, range_touched, touched_at, no_watch};
 
 // A range of addresses, and how many stores have touched it.
-#[derive(Drop)]
+#[derive(Clone, Copy)]
 pub struct Range {
     pub start: u32,
     pub length: u32,
@@ -13,7 +13,7 @@ pub struct Range {
 }
 
 // The two watched ranges.
-#[derive(Drop)]
+#[derive(Clone, Copy)]
 pub struct Watch {
     pub first: Range,
     pub second: Range,

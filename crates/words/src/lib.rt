@@ -19,13 +19,13 @@ pub const SIGN: u32 = 1 << 31;
 pub const ONES: u32 = 0xFFFF_FFFF;
 
 // How a word is read as an integer.
-#[derive(Drop)]
+#[derive(Clone, Copy)]
 pub enum Reading {
     Unsigned,
     Signed,
 }
 
-#[derive(Drop)]
+#[derive(Clone, Copy)]
 pub struct Division {
     pub quotient: u32,
     pub remainder: u32,
