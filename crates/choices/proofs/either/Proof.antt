@@ -1,6 +1,0 @@
--- Where the first test passes the answer is true, else it is the second.
-use Rattle.choices.proofs.either.Statement.{statement}
-use Rattle.choices.proofs.either.Tie as tie
-
-pub either-spec : {M : Type 1} → statement M
-either-spec = tie.close (tie.spec (λ c. rw c.if1.true) (λ c. rw c.if1.false))

@@ -1,0 +1,8 @@
+-- The byte at g / 8 with no place added.
+use Rattle.std.proofs.Common.{add-zero, rules}
+use Rattle.words.specs.Words.{bit_at}
+use Rattle.words.proofs.bit_buffers.get_bit.Goals as goal
+
+pub returns : goal.returns
+unfolding bit_at
+returns c = simp (c.byte_from.ensures.0, add-zero)

@@ -1,0 +1,6 @@
+-- Both sums wrap as `flip` does.
+use Rattle.std.proofs.Common.{rules}
+use Rattle.words.proofs.integers.less_signed.Goals as goal
+
+pub returns : goal.returns
+returns c = cc
