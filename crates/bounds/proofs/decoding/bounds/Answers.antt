@@ -1,0 +1,25 @@
+-- `bounds`: the base's unit shifted to its address, and the span above it. Assumes nothing.
+use Rattle.bounds.specs.Bounds.{bounds_of, low_at, high_at}
+use Rattle.bounds.proofs.Wrapped.{low_start, high_start}
+use Rattle.std.proofs.Common.{rules}
+use Rattle.bounds.proofs.decoding.bounds.Goals as goal
+
+pub returns : goal.returns
+unfolding bounds_of low_at high_at
+returns c =
+    let a = c.args.address in
+    let e = c.exponent-e in
+    let b = c.base_of-base in
+    let t = c.top_of-top in
+    let s = c.span in
+    simp (
+      ← c.scale_of.ensures.0,
+      ← e.ensures.0,
+      ← t.ensures.0,
+      ← b.ensures.0,
+      c.wrapping_add_u64-end.ensures.value,
+      c.scaled.ensures.0,
+      c.base_unit.ensures,
+      low_start e.result b.result a e.ensures.1 b.ensures.1,
+      high_start e.result t.result b.result a s.result e.ensures.1 b.ensures.1 s.ensures.0,
+    )
