@@ -1,0 +1,6 @@
+-- The lower end of the region read.
+use Rattle.std.proofs.Common.{rules}
+use Rattle.capability_instructions.proofs.low_of.Goals as goal
+
+pub returns : goal.returns
+returns c = simp c.bounds_of.ensures.0

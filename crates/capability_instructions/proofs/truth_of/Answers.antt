@@ -1,0 +1,6 @@
+-- The test as 0 or 1, and that as an integer.
+use Rattle.std.proofs.Common.{rules}
+use Rattle.capability_instructions.proofs.truth_of.Goals as goal
+
+pub returns : goal.returns
+returns c = simp (c.integer.ensures, c.one_if.ensures.0)

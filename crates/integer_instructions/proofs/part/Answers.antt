@@ -1,0 +1,24 @@
+-- Each kind has its clause of the definition.
+use Rattle.integer_instructions.specs.Integer.{part_of}
+use Rattle.std.proofs.Common.{rules}
+use Rattle.integer_instructions.proofs.part.Goals as goal
+
+-- Div
+pub returns-in-Div : goal.returns-in-Div
+unfolding part_of
+returns-in-Div c = simp c.in-Div.is
+
+-- Divu
+pub returns-in-Divu : goal.returns-in-Divu
+unfolding part_of
+returns-in-Divu c = simp c.in-Divu.is
+
+-- Rem
+pub returns-in-Rem : goal.returns-in-Rem
+unfolding part_of
+returns-in-Rem c = simp c.in-Rem.is
+
+-- Remu
+pub returns-in-Remu : goal.returns-in-Remu
+unfolding part_of
+returns-in-Remu c = simp c.in-Remu.is

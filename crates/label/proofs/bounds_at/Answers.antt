@@ -1,0 +1,6 @@
+-- `bounds_at`: each bound of the region that `bounds` promises. Assumes nothing.
+use borrow.Author.Rules.{rules}
+use Rattle.label.proofs.bounds_at.Goals as goal
+
+pub returns : goal.returns
+returns c = (cc c.bounds.ensures, cc c.bounds.ensures)

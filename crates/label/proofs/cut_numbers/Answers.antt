@@ -1,0 +1,6 @@
+-- `cut_numbers`: the numbers of the answer that `cut` promises. Assumes nothing.
+use borrow.Author.Rules.{rules}
+use Rattle.label.proofs.cut_numbers.Goals as goal
+
+pub returns : goal.returns
+returns c = rw c.cut.ensures.answer_is at c.numbers_of.ensures
