@@ -66,7 +66,7 @@ module _ (c : Capability) (ks vs out : List ℕ) where
 numbered : (c : Capability) (ks vs before after : List ℕ) (a : Answer) → Listed c ks vs before after a → answer_number a ≡ 0 → Authority c
     → ListClaim (calls_of ks vs) c (last_of c (trace (calls_of ks vs) c))
 numbered c ks vs before after (Ran last) l z h =
-    let e : last ≡ last_of c (trace (calls_of ks vs) c) = rw (← l.number-is) at l.last_is in
+    let e : last ≡ last_of c (trace (calls_of ks vs) c) = rw (← l.number_is) at l.last_is in
     rw (← e) (l.claim last refl h)
 numbered c ks vs before after BadTag l z h = absurd (omega arith)
 numbered c ks vs before after WrongSize l z h = absurd (omega arith)
@@ -76,7 +76,7 @@ pub listed_number : (c : Capability) (ks vs before after : List ℕ) (a : Answer
     → ListedNumber c ks vs before after n
 listed_number c ks vs before after a n l q =
     record {
-      number_is = q ∙ l.number-is;
-      words_are = l.words-are;
+      number_is = q ∙ l.number_is;
+      words_are = l.words_are;
       claim = λ z h. numbered c ks vs before after a l (sym q ∙ z) h;
     }

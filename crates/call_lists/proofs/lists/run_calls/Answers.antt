@@ -49,4 +49,4 @@ returns c =
     (sym sizes.ensures ∙ not-false sizes.result c.if-not-sizes_fit.false-raw)
     (sym known.ensures ∙ not-false known.result c.if-not-all_known.false-raw)
     (λ i. omega (arith, c.shared_slice_known-2-1.given i))
-    c.write_calls.result c.write_calls.new.1.1.1.0 c.write_calls.ensures
+    c.write_calls.result c.write_calls.new.out c.write_calls.ensures
