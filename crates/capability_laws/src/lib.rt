@@ -1,3 +1,2 @@
 // Laws of the definitions of metadata words, bounds, cuts and capabilities. There is no code here.
 #![tactic(auto)]
-

@@ -9,4 +9,4 @@ returns c =
     let w = c.wrapping_sub_u64 in
     let r = c.wrapping_sub_u64-2 in
     base_unit_is (a.address / 2 ^ a.e) a.base w.result r.result
-    (omega (arith, div-le_self a.address (2 ^ a.e))) (omega arith) (omega arith) w.ensures r.ensures
+    (omega (arith, div-le_self a.address (2 ^ a.e))) (omega arith) (omega arith) w.ensures.value r.ensures.value

@@ -1,0 +1,15 @@
+-- The tag by the seal and by whether the bounds cover the request; the word by its cut.
+use Rattle.capability.specs.Capability.{set_bounds_of}
+use borrow.Author.Rules.{rules}
+use Rattle.capability.proofs.changing.set_bounds.Goals as goal
+
+pub returns : goal.returns
+unfolding set_bounds_of
+returns c =
+    simp (
+      c.with_cut-metadata.ensures,
+      c.choose-tag.ensures.0,
+      c.both.ensures,
+      c.is_unsealed.ensures,
+      c.covers_range-inside.ensures,
+    )

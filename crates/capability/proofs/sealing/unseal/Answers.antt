@@ -1,0 +1,19 @@
+-- The tag by three tests: sealed, an authority by US, its address the type; the word is narrowed, then unsealed.
+use Rattle.capability.specs.Sealing.{unseal_of}
+use borrow.Author.Rules.{rules}
+use Rattle.capability.proofs.sealing.unseal.Goals as goal
+
+pub returns : goal.returns
+unfolding unseal_of
+returns c =
+    simp (
+      c.with_type-metadata.ensures,
+      c.narrow-narrowed.ensures,
+      c.global_mask.ensures,
+      c.choose-tag.ensures.0,
+      c.both.ensures,
+      c.is_sealed.ensures,
+      c.both-allowed.ensures,
+      c.object_type.ensures.0,
+      c.authorizes.ensures,
+    )

@@ -1,0 +1,8 @@
+-- The same arithmetic.
+use Rattle.std.proofs.Common.{refl, rules}
+use Rattle.state.specs.Marks.{cleared}
+use Rattle.state.proofs.marks.clear_low.Goals as goal
+
+pub returns : goal.returns
+unfolding cleared
+returns c = refl
