@@ -1,6 +1,6 @@
 -- A block taken byte by byte: how many bytes are taken, and what the loop over them keeps.
 -- Assumes nothing.
-use Rattle.std.proofs.Common.{◌≡◌, ℕ, suc, ◌+◌, ◌-◌, ◌<◌, ◌≤◌, Bool, true, false, cond, ltb, List, [], ◌∷◌, ◌++◌, length, get_or, take, drop, sym, refl, ap, ◌∙◌, append-nil, add-one, arith, take-append-drop, drop_of_length-le, drop-cons, take-suc, le-ltb, lt-ltb}
+use Rattle.std.proofs.Common.{◌≡◌, ℕ, suc, ◌+◌, ◌-◌, ◌<◌, ◌≤◌, Bool, true, false, cond, ltb, List, [], ◌∷◌, ◌++◌, length, get_or, take, drop, refl, ap, ◌∙◌, append-nil, add-one, arith, take-append-drop, drop_of_length-le, drop-cons, take-suc, le-ltb, lt-ltb}
 use Rattle.cut_lines.specs.Scanning.{stepped, step_text, scanned, scan_text, taken, Processed}
 use Rattle.text.specs.Writing.{Puts, Placed}
 use Rattle.text.proofs.Putting.{placed, placed_none, placed_then, placed_length}

@@ -1,14 +1,14 @@
 -- No line is longer than the room that is asked for.
 -- Assumes nothing.
-use Rattle.std.proofs.Common.{◌≡◌, ℕ, ◌/◌, ◌%◌, ◌^◌, ◌<◌, ◌≤◌, Bool, true, false, cond, eqb, List, [], ◌∷◌, ◌++◌, length, arith, length-append}
+use Rattle.std.proofs.Common.{◌/◌, ◌%◌, ◌^◌, ◌<◌, ◌≤◌, Bool, true, false, cond, eqb, ◌∷◌, ◌++◌, length, arith, length-append}
 use Rattle.bounds.specs.Cutting.{cut_of}
 use Rattle.bounds.specs.declared.CutAnswer.{CutAnswer}
 use Rattle.bounds.specs.declared.CutAnswer.TheVariants.{Cut, PastEnd}
-use Rattle.text.specs.Digits.{digits, decimal}
-use Rattle.text.specs.Writing.{tab, newline}
+use Rattle.text.specs.Digits.{digits}
+use Rattle.text.specs.Writing.{tab}
 use Rattle.text.proofs.Numbers.{length_digits, decimal_le}
-use Rattle.cut_lines.specs.Lines.{header_text, bad_text, yes_text, no_text, cut_text}
-use Rattle.cut_lines.specs.Scanning.{outcome, answered, step_text, last_text}
+use Rattle.cut_lines.specs.Lines.{bad_text, yes_text, no_text, cut_text}
+use Rattle.cut_lines.specs.Scanning.{outcome, answered}
 use Rattle.cut_lines.specs.Writing.{longest}
 use Rattle.cut_lines.specs.declared.Scan.{Scan}
 

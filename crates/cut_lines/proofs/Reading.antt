@@ -1,7 +1,7 @@
 -- A line read byte by byte: the state after its bytes tells what is written for it.
 -- Assumes nothing.
-use Rattle.std.proofs.Common.{◌≡◌, ℕ, zero, suc, ◌+◌, ◌*◌, ◌/◌, ◌%◌, ◌^◌, ◌<◌, ◌≤◌, Bool, true, false, cond, ◌&&◌, eqb, ltb, List, [], ◌∷◌, ◌++◌, length, get_or, take, drop, sym, refl, ap, ◌∙◌, add-zero, zero-add, add-one, arith, length-drop, drop_of_length-le, length-take-le, drop-cons, ltb-false, ltb-true, le-ltb, lt-ltb, eq-eqb, ne_eqb, eqb-true}
-use mathlib.Core.Bool.{and_true, and_false, and_assoc, and-eq-true_iff}
+use Rattle.std.proofs.Common.{◌≡◌, ℕ, zero, suc, ◌+◌, ◌*◌, ◌/◌, ◌%◌, ◌^◌, ◌<◌, ◌≤◌, Bool, true, false, cond, ◌&&◌, eqb, ltb, List, [], ◌∷◌, length, get_or, take, drop, sym, refl, ap, ◌∙◌, add-zero, zero-add, add-one, arith, length-drop, drop_of_length-le, length-take-le, drop-cons, ltb-false, ltb-true, lt-ltb, eq-eqb, ne_eqb, eqb-true}
+use mathlib.Core.Bool.{and-true, and-false, and_assoc, and-eq-true_iff}
 use Rattle.text.specs.Digits.{digit_of, is_digit, all_digits, number_from, number_of}
 use Rattle.text.specs.Writing.{tab}
 use Rattle.cut_lines.specs.Lines.{well_formed, requested, line_text}
@@ -110,7 +110,7 @@ value_read s (b ∷ l) v h e =
 -- the second field: the places after the tab
 shape_second : (p : ℕ) (l : List ℕ) → 8 < p → p ≤ 17 → shape p l ≡ (eqb (p + length l) 17 && all_digits l)
 unfolding shape all_digits expected
-shape_second p [] h k = rw (add-zero, and_true)
+shape_second p [] h k = rw (add-zero, and-true)
 shape_second p (b ∷ l) h k = go (ltb p 17) refl (shape_second (p + 1) l)
   where
     go : (t : Bool) → ltb p 17 ≡ t → (8 < p + 1 → p + 1 ≤ 17 → shape (p + 1) l ≡ (eqb (p + 1 + length l) 17 && all_digits l))
@@ -118,10 +118,10 @@ shape_second p (b ∷ l) h k = go (ltb p 17) refl (shape_second (p + 1) l)
     go true e r =
         let n = ltb-true p 17 e in
         let q : p + 1 + length l ≡ p + suc (length l) = omega arith in
-        rw (ne_eqb p 8 (omega arith), e, and_true, r (omega arith) (omega arith), q) (swap (is_digit b) (eqb (p + suc (length l)) 17) (all_digits l))
+        rw (ne_eqb p 8 (omega arith), e, and-true, r (omega arith) (omega arith), q) (swap (is_digit b) (eqb (p + suc (length l)) 17) (all_digits l))
     go false e r =
         let n = ltb-false p 17 e in
-        rw (ne_eqb p 8 (omega arith), e, and_false, ne_eqb (p + suc (length l)) 17 (omega arith))
+        rw (ne_eqb p 8 (omega arith), e, and-false, ne_eqb (p + suc (length l)) 17 (omega arith))
 
 value_second : (p v : ℕ) (l : List ℕ) → 8 < p → value_from p v l ≡ number_from v l
 unfolding value_from number_from
@@ -139,8 +139,8 @@ value_first (suc k) p v (b ∷ l) e = rw (ne_eqb p 8 (omega arith)) (value_first
 shape_first : (k p : ℕ) (l : List ℕ) → p + k ≡ 8
     → shape p l ≡ (eqb (p + length l) 17 && (all_digits (take k l) && (eqb (get_or l k 0) tab && all_digits (drop (suc k) l))))
 unfolding shape all_digits expected
-shape_first zero p [] e = rw (and_false (eqb (p + 0) 17), ne_eqb p 17 (omega arith))
-shape_first (suc k) p [] e = rw (and_false (eqb (p + 0) 17), ne_eqb p 17 (omega arith))
+shape_first zero p [] e = rw (and-false (eqb (p + 0) 17), ne_eqb p 17 (omega arith))
+shape_first (suc k) p [] e = rw (and-false (eqb (p + 0) 17), ne_eqb p 17 (omega arith))
 shape_first zero p (b ∷ l) e =
     let q : p + 1 + length l ≡ p + suc (length l) = omega arith in
     rw (eq-eqb p 8 (omega arith), shape_second (p + 1) l (omega arith) (omega arith), q) (swap (eqb b tab) (eqb (p + suc (length l)) 17) (all_digits l))
@@ -148,7 +148,7 @@ shape_first (suc k) p (b ∷ l) e =
     let q : p + 1 + length l ≡ p + suc (length l) = omega arith in
     let rest : Bool = eqb (get_or l k 0) tab && all_digits (drop (suc k) l) in
     let again = and_assoc (is_digit b) (all_digits (take k l)) rest in
-    rw (ne_eqb p 8 (omega arith), lt-ltb p 17 (omega arith), and_true, shape_first k (p + 1) l (omega arith), q, again)
+    rw (ne_eqb p 8 (omega arith), lt-ltb p 17 (omega arith), and-true, shape_first k (p + 1) l (omega arith), q, again)
     (swap (is_digit b) (eqb (p + suc (length l)) 17) (all_digits (take k l) && rest))
 
 pub well_read : (n : ℕ) (line : List ℕ) → eqb (read_line (start_of n) line).place 17 ≡ well_formed line

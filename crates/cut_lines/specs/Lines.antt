@@ -1,6 +1,6 @@
 -- The cutting program's text: what is written for a line, and for a whole input. Document 01, "Cases".
 -- Assumes nothing.
-use Rattle.std.specs.Prelude.{ℕ, suc, Bool, true, false, cond, ◌&&◌, List, [], ◌∷◌, ◌++◌, length, take, drop, ◌==◌, slice_index}
+use Rattle.std.specs.Prelude.{ℕ, suc, Bool, cond, ◌&&◌, List, [], ◌∷◌, ◌++◌, length, take, drop, ◌==◌, slice_index}
 use Rattle.bounds.specs.Cutting.{cut_of}
 use Rattle.bounds.specs.declared.Region.{Region}
 use Rattle.bounds.specs.declared.CutAnswer.{CutAnswer}

@@ -1,6 +1,6 @@
 -- The rule on room: 44 bytes, the longest line that is ever written.
 -- Assumes nothing.
-use Rattle.std.specs.Prelude.{◌≡◌, ℕ, ◌+◌, Bool, true, false, cond, List, length, nat_le}
+use Rattle.std.specs.Prelude.{◌≡◌, ℕ, ◌+◌, Bool, cond, List, length, nat_le}
 use Rattle.text.specs.Writing.{put}
 use Rattle.cut_lines.specs.declared.Written.{Written}
 use Rattle.cut_lines.specs.declared.Written.TheVariants.{End, NoRoom}

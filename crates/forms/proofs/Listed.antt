@@ -1,19 +1,16 @@
 -- What is listed of any word, long or short: its operands fit, the word made of it is the chosen one, and all encodings of one instruction are listed
 -- alike and are that instruction.
-use Rattle.std.proofs.Common.{◌≡◌, ℕ, ◌+◌, ◌*◌, ◌/◌, ◌%◌, ◌^◌, ◌<◌, Bool, true, false, cond, ◌&&◌, eqb, sym, refl, ap, ◌∙◌, arith, eq-eqb, ne_eqb, eqb-true}
+use Rattle.std.proofs.Common.{◌≡◌, ℕ, ◌+◌, ◌/◌, ◌%◌, ◌^◌, ◌<◌, false, eqb, sym, refl, ◌∙◌, arith, eq-eqb, ne_eqb, eqb-true}
 use borrow.Author.Tests.{eqb-false}
 use Rattle.words.proofs.Word.{by_test}
 use Rattle.instructions.specs.Fields.{opcode, funct3, upper12}
 use Rattle.instructions.specs.Decode.{fence_of, decode_of}
 use Rattle.instructions.specs.declared.SystemInstruction.TheVariants.{Fence}
-use Rattle.instructions.specs.declared.Instruction.{Instruction}
 use Rattle.instructions.specs.declared.Instruction.TheVariants.{System}
-use Rattle.short_forms.specs.Forms.{short_of}
 use Rattle.forms.specs.Rows.{fence_shape, system_shape, instruction_shape}
 use Rattle.forms.specs.Shapes.{pred_of, succ_of, is_tso}
-use Rattle.forms.specs.ShortShapes.{short_shape, shape_of, instruction_of, Word}
+use Rattle.forms.specs.ShortShapes.{shape_of, instruction_of, Word}
 use Rattle.forms.specs.Encoding.{place_f, chosen_fence, chosen, restored}
-use Rattle.forms.specs.declared.Shape.{Shape}
 use Rattle.forms.proofs.Back.{long_good}
 use Rattle.forms.proofs.Fit.{Fit}
 use Rattle.forms.proofs.Halves.{half_again}

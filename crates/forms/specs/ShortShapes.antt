@@ -1,6 +1,6 @@
 -- What is listed of a half: of its form, by a row of its own, the register fields and the immediate that the half has. A register that a form implies is
 -- not named. And of any word, long or short.
-use Rattle.std.specs.Prelude.{◌≡◌, ℕ, ◌%◌, ◌^◌, ◌<◌, cond, ◌==◌, ◌≢◌, nat_lt}
+use Rattle.std.specs.Prelude.{ℕ, ◌%◌, ◌^◌, ◌<◌, cond, ◌==◌, ◌≢◌, nat_lt}
 use Rattle.instructions.specs.Decode.{decode_of}
 use Rattle.instructions.specs.declared.Instruction.{Instruction}
 use Rattle.short_forms.specs.Forms.{short_of}

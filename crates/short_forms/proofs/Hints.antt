@@ -1,6 +1,6 @@
 -- The long form of a hint is a hint: each form of the list names register 0 as what it writes, by itself or by `unless_hint`.
 use mathlib.Core.Path.{◌≡◌, refl, sym, ◌∙◌}
-use mathlib.Core.Bool.{true, false, true≢false}
+use mathlib.Core.Bool.{true, true≢false}
 use Prim.Native.Nat.{ℕ}
 use lib.Dec.{eqb, ltb}
 use Rattle.words.proofs.Word.{by_test}
