@@ -1,0 +1,12 @@
+-- Refused; or not refused, and the loop's steps are the definition's.
+use mathlib.Core.Path.{sym, ◌∙◌}
+use Rattle.machine.proofs.Laws as laws
+use borrow.Author.Rules.{rules}
+use Rattle.machine.proofs.run.Goals as goal
+
+pub returns-then-no-ne0 : goal.returns-then-no-ne0
+returns-then-no-ne0 c = laws.run_refused _ _ _ _ _ c.refusal-no.ensures c.if-no-ne0.true
+
+pub returns : goal.returns
+returns c =
+    laws.run_done _ _ _ _ _ _ _ (sym c.if-no-ne0.false ∙ c.refusal-no.ensures) c.take_watched-counts.ensures.0
