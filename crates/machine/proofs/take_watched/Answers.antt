@@ -43,5 +43,5 @@ returns c =
     let looped = c.loop-k in
     let n = c.args.n in
     let e : n - looped.k ≡ 0 = omega arith in
-    let r : looped.k - looped.auto.trapped ≡ n - looped.auto.trapped = omega arith in
+    let r : looped.k - looped.kept.trapped ≡ n - looped.kept.trapped = omega arith in
     (rw (e, r) at looped.invariant.5, rw e at looped.invariant.6)
