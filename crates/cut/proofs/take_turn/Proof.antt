@@ -13,7 +13,7 @@ returns c =
     record {
       got = read.result;
       may_be = rw read.auto.1.0 read.ensures;
-      turn_is = rw (to_z-of_z {w = w64} {z = read.result} (record { sfits = read.type-inv })) at at_after.after_read.ensures;
+      turn_is = rw (to_z-of_z {w = w64} {z = read.result} (record { sfits = read.type_inv })) at at_after.after_read.ensures;
     }
 
 pub take-turn-spec : {M : Type 1} → statement M

@@ -18,9 +18,9 @@ returns-then-is_taken c =
     let to = wrapping-add-u32 in
     let call = go-to in
     let takes = rw (is-taken.ensures, read2.ensures, read.ensures) at if1.true in (
-      branch_turned a.regs.now call.new.1.0 a.start a.size a.offset to.result call.result to.ensures pre.4 call.ensures
+      branch_turned a.regs.now call.new.regs a.start a.size a.offset to.result call.result to.ensures.value pre.4 call.ensures
           a.kind a.from a.other a.to takes,
-      went_steady a.regs.now call.new.1.0 a.start a.size to.result call.result pre.0 call.ensures,
+      went_steady a.regs.now call.new.regs a.start a.size to.result call.result pre.0 call.ensures,
     )
 
 pub returns : goal.returns

@@ -13,6 +13,6 @@ returns c =
     let a = args in
     let to = wrapping-add-u32 in
     let call = go-to in (
-      go_turned a.regs.now call.new.1.0 a.start a.size a.offset to.result call.result to.ensures pre.2 call.ensures,
-      went_steady a.regs.now call.new.1.0 a.start a.size to.result call.result pre.0 call.ensures,
+      go_turned a.regs.now call.new.regs a.start a.size a.offset to.result call.result to.ensures.value pre.2 call.ensures,
+      went_steady a.regs.now call.new.regs a.start a.size to.result call.result pre.0 call.ensures,
     )

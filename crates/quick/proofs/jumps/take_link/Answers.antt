@@ -23,9 +23,9 @@ returns c =
     let write = c.write in
     let a = args in
     let to = wrapping-add-u32 in
-    let lands = is-landing.ensures (passed _ if1.false) in
+    let lands = is-landing.ensures (passed _ if1.false-raw) in
     link_turned a.regs.now _ a.start a.size a.edition a.rd a.offset a.next to.result _ done.result pre.0
-    done.ensures to.ensures lands.is_even
-    (landed a.start a.size a.rows.now a.regs.now read-pcc.result to.result pre.1 read-pcc.ensures (omega (arith, to.ensures))
+    done.ensures to.ensures.value lands.is_even
+    (landed a.start a.size a.rows.now a.regs.now read-pcc.result to.result pre.1 read-pcc.ensures (omega (arith, to.ensures.value))
     (lands.own_fits, lands.in_row))
     place_of.ensures (rw (link_at.ensures, read-pcc.ensures) at write.ensures)

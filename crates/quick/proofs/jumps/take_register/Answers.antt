@@ -52,9 +52,9 @@ returns c =
     let held = read-capability in
     let sum = wrapping-add-u32.ensures.value in
     let bare = with-object-type.ensures in
-    let there = rw bare at (has.ensures (passed _ if2.false)) in
+    let there = rw bare at (has.ensures (passed _ if2.false-raw)) in
     let reach = reached _ _ _ 96 _ _ _ pre.1 (omega arith) refl there.0 there.1 (omega (arith, sum)) there.2 in
     register_turned a.regs.now _ a.start a.size a.edition a.rd a.rs1 a.offset a.next _ _ _ held.result done.result
     pre.0 done.ensures held.ensures place_of.ensures (ap (λ (x : ℕ). x / 2 * 2) sum) (rw bare at if1.false) reach
-    (is-entered.ensures (passed _ if3.false)) (rw otype.ensures.0 at (sym jump-status.ensures ∙ if4.false)) place-of2.ensures
+    (is-entered.ensures (passed _ if3.false-raw)) (rw otype.ensures.0 at (sym jump-status.ensures ∙ if4.false)) place-of2.ensures
     (rw link_at.ensures at write.ensures)

@@ -14,10 +14,10 @@ pub returns-then-has_right : goal.returns-then-has_right
 returns-then-has_right c =
     let if2 = c.if-not-has_right in
     let has_right = c.has_right in
-    λ h. may_global _ _ (sym has_right.ensures ∙ passed _ if2.false) (sym c.has_right-2.ensures ∙ c.if-has_right.true)
+    λ h. may_global _ _ (sym has_right.ensures ∙ passed _ if2.false-raw) (sym c.has_right-2.ensures ∙ c.if-has_right.true)
 
 pub returns : goal.returns
 returns c =
     let if2 = c.if-not-has_right in
     let has_right = c.has_right in
-    λ h. may_local _ _ (sym has_right.ensures ∙ passed _ if2.false) (sym c.has_right-3.ensures ∙ h)
+    λ h. may_local _ _ (sym has_right.ensures ∙ passed _ if2.false-raw) (sym c.has_right-3.ensures ∙ h)

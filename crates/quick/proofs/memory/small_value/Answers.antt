@@ -6,8 +6,7 @@ use Rattle.quick.proofs.memory.small_value.Goals as goal
 pub returns-in-Lb : goal.returns-in-Lb
 unfolding loaded_value
 returns-in-Lb c =
-    let enum_told = c.enum_told-1 in
-    simp (c.sign_extend.ensures, c.load8.ensures, enum_told.given.1)
+    simp (c.sign_extend.ensures, c.load8.ensures, c.in-Lb.is)
 
 pub returns-in-Lbu : goal.returns-in-Lbu
 unfolding loaded_value
@@ -16,8 +15,7 @@ returns-in-Lbu c = simp (c.load8-in-Lbu.ensures, c.in-Lbu.is)
 pub returns-in-Lh : goal.returns-in-Lh
 unfolding loaded_value
 returns-in-Lh c =
-    let enum-told3 = c.enum_told-in-Lh-1 in
-    simp (c.sign_extend-in-Lh.ensures, c.load16.ensures, enum-told3.given.1)
+    simp (c.sign_extend-in-Lh.ensures, c.load16.ensures, c.in-Lh.is)
 
 pub returns-in-Lhu : goal.returns-in-Lhu
 unfolding loaded_value

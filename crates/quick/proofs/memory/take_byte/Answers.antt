@@ -33,6 +33,6 @@ returns c =
     let one = pre.4 in (
       reaches.ensures.0,
       load_done _ _ _ _ _ _ _ _ _ _ _ _ _ _ _ read-capability.ensures wrapping-add-u32.ensures.value (sym (byte_width kind one))
-          (byte_aligned kind _ one) (reaches.ensures.1 (passed _ if1.false)) byte-value.ensures integer.ensures
+          (byte_aligned kind _ one) (reaches.ensures.1 (passed _ if1.false-raw)) byte-value.ensures integer.ensures
           write.ensures done.ensures,
     )

@@ -40,5 +40,5 @@ returns c =
     let read-capability = c.read_capability-c in (
       reaches.ensures.0,
       load_capability_done _ _ _ _ _ _ _ _ _ _ _ _ _ _ _ _ read-capability.ensures wrapping-add-u32.ensures.value if1.false
-          (reaches.ensures.1 (passed _ if2.false)) capability-in.ensures loaded.ensures unrevoked.ensures write.ensures c.done.ensures,
+          (reaches.ensures.1 (passed _ if2.false-raw)) capability-in.ensures loaded.ensures unrevoked.ensures write.ensures c.done.ensures,
     )

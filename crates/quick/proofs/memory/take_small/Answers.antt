@@ -37,6 +37,6 @@ returns c =
     let read-capability = c.read_capability-c in (
       reaches.ensures.0,
       load_done _ _ _ _ _ _ _ _ _ _ _ _ _ _ _ read-capability.ensures wrapping-add-u32.ensures.value load-width.ensures
-          (is-small-aligned.ensures (passed _ if1.false)) (reaches.ensures.1 (passed _ if2.false)) small-value.ensures integer.ensures
+          (is-small-aligned.ensures (passed _ if1.false-raw)) (reaches.ensures.1 (passed _ if2.false-raw)) small-value.ensures integer.ensures
           write.ensures c.done.ensures,
     )

@@ -13,7 +13,7 @@ returns-then-not-is_small_store c =
     let read-capability = c.read_capability-c in (
       c.requires.3,
       store_stays _ _ _ _ _ _ _ read-capability.ensures wrapping-add-u32.ensures.value
-          (omega (arith, wrapping-sub-u32.type-inv)) wrapping-sub-u32.ensures.value _ _ _ _ _ _ _ store_width_lem.ensures c.left.ensures,
+          (omega (arith, wrapping-sub-u32.type_inv)) wrapping-sub-u32.ensures.value _ _ _ _ _ _ _ store_width_lem.ensures c.left.ensures,
     )
 
 pub reaches-requires : goal.reaches-requires
@@ -30,7 +30,7 @@ returns-then-not-reaches c =
     let read-capability = c.read_capability-c in (
       reaches.ensures.0,
       store_stays _ _ _ _ _ _ _ read-capability.ensures wrapping-add-u32.ensures.value
-          (omega (arith, wrapping-sub-u32.type-inv)) wrapping-sub-u32.ensures.value _ _ _ _ _ _ _ store_width_lem.ensures c.left-then-not-reaches.ensures,
+          (omega (arith, wrapping-sub-u32.type_inv)) wrapping-sub-u32.ensures.value _ _ _ _ _ _ _ store_width_lem.ensures c.left-then-not-reaches.ensures,
     )
 
 pub go_on-requires : goal.go_on-requires
@@ -55,7 +55,7 @@ returns c =
     let read-capability = c.read_capability-c in (
       reaches.ensures.0,
       store_done _ _ _ _ _ _ _ read-capability.ensures wrapping-add-u32.ensures.value
-          (omega (arith, wrapping-sub-u32.type-inv)) wrapping-sub-u32.ensures.value _ _ _ _ _ _ _ _ _ _ _ _ store_width_lem.ensures read.ensures
-          (is-small-store.ensures (passed _ if1.false))
-          (reaches.ensures.1 (passed _ if2.false)) put_small.ensures clear-tag.ensures mark.ensures go_on.ensures c.done.ensures,
+          (omega (arith, wrapping-sub-u32.type_inv)) wrapping-sub-u32.ensures.value _ _ _ _ _ _ _ _ _ _ _ _ store_width_lem.ensures read.ensures
+          (is-small-store.ensures (passed _ if1.false-raw))
+          (reaches.ensures.1 (passed _ if2.false-raw)) put_small.ensures clear-tag.ensures mark.ensures go_on.ensures c.done.ensures,
     )

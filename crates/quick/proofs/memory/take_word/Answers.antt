@@ -40,5 +40,5 @@ returns c =
     let done = c.done in (
       reaches.ensures.0,
       load_done _ _ _ _ _ _ _ _ _ _ _ _ _ _ _ read-capability.ensures wrapping-add-u32.ensures.value refl if1.false
-          (reaches.ensures.1 (passed _ if2.false)) word_at_lem.ensures integer.ensures write.ensures done.ensures,
+          (reaches.ensures.1 (passed _ if2.false-raw)) word_at_lem.ensures integer.ensures write.ensures done.ensures,
     )

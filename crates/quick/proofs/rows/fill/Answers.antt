@@ -20,6 +20,6 @@ returns c =
     let high_is = ap (λ (x : Region). x.high) bounds_of.ensures.0 in
     good_put _ _ _ _ _ _ _ p.0 p.1
     (row_filled _ _ _ _ _ _ (omega (arith, struct-known5.given, struct-known2.given)) (sym is-sealed.ensures ∙ if1.false)
-    (rw (← p.2) (sym has_right.ensures ∙ passed _ if2.false)) (rw (← low_is) if3.false) (rw (← high_is) if4.false)
+    (rw (← p.2) (sym has_right.ensures ∙ passed _ if2.false-raw)) (rw (← low_is) if3.false) (rw (← high_is) if4.false)
     (rw (← low_is) c.row_start.ensures.0) c.row_start.ensures.1 (rw (← high_is) c.row_end.ensures.0)
     c.row_end.ensures.1) p.3

@@ -244,7 +244,7 @@ bounds-lens-j c =
 
 pub overflow_add-at : goal.overflow_add-at
 overflow_add-at c =
-    omega (arith, c.IsPlace-in.ensures, c.slice_known-in-loop-k-1.given 48)
+    omega (arith, c.place_in-at.ensures, c.slice_known-in-loop-k-1.given 48)
 
 pub loop-k-smaller-then-f-ne0 : goal.loop-k-smaller-then-f-ne0
 loop-k-smaller-then-f-ne0 c =
@@ -259,7 +259,7 @@ loop-k-preserved-then-f-ne0 c =
     let slot_of = c.slot_of-slot in
     let room_at = c.room_at-j in
     let base-of3 = c.base_of-base-in-loop-k in
-    let IsPlace-in = c.IsPlace-in in
+    let place_in-at = c.place_in-at in
     let smaller = c.smaller-low in
     let larger = c.larger-high in
     let the-look = c.look-f in
@@ -271,7 +271,7 @@ loop-k-preserved-then-f-ne0 c =
     let slot = slot_of.ensures in
     let room = room_at.ensures in
     let base = base-of3.ensures in
-    let at = IsPlace-in.ensures in
+    let at = place_in-at.ensures in
     let low = smaller.ensures in
     let high = larger.ensures in
     let look = the-look in

@@ -40,8 +40,7 @@ divide-requires c =
 pub take_go-requires : goal.take_go-requires
 take_go-requires c =
     let pre = c.requires in
-    let op7 = c.op-in-Go-1 in
-    (pre.0, pre.2, placed_as _ _ op7.given.1 pre.1)
+    (pre.0, pre.2, placed_as _ _ c.in-Go.is pre.1)
 
 pub take_branch-requires : goal.take_branch-requires
 take_branch-requires c =
@@ -129,262 +128,248 @@ returns-in-Plain c = (
 pub returns-in-Put : goal.returns-in-Put
 returns-in-Put c =
     let wrapping-add-u32 = c.wrapping_add_u32-to in
-    let op = c.op-1 in
     let put = c.put in
     let pre = c.requires in
     let args = c.args in
     let done = c.done in
     let sum = wrapping-add-u32 in
-    let is-op = op.given.1 in
+    let is-op = c.in-Put.is in
     let call = put in
     let pl = placed_as _ _ is-op pre.1 in (
       pre.2,
       told args.board _ _ _ _ _ _ _ _ is-op done.ensures
           (by_put args.board args.revoked.now args.regs.now args.mem.now args.tags.now
-          args.bytes sum.result sum.ensures
+          args.bytes sum.result sum.ensures.value
           _ _ pl.0 _ call.ensures),
     )
 
 pub returns-in-AddImmediate : goal.returns-in-AddImmediate
 returns-in-AddImmediate c =
     let wrapping-add-u32 = c.wrapping_add_u32-to in
-    let op2 = c.op-in-AddImmediate-1 in
     let add-immediate = c.add_immediate in
     let pre = c.requires in
     let args = c.args in
     let done2 = c.done-in-AddImmediate in
     let sum = wrapping-add-u32 in
-    let is-op = op2.given.1 in
+    let is-op = c.in-AddImmediate.is in
     let call = add-immediate in
     let pl = placed_as _ _ is-op pre.1 in (
       pre.2,
       told args.board _ _ _ _ _ _ _ _ is-op done2.ensures
           (by_add args.board args.revoked.now args.regs.now args.mem.now args.tags.now
-          args.bytes sum.result sum.ensures
+          args.bytes sum.result sum.ensures.value
           _ _ pl.0.0 _ _ call.ensures),
     )
 
 pub returns-in-Immediate : goal.returns-in-Immediate
 returns-in-Immediate c =
     let wrapping-add-u32 = c.wrapping_add_u32-to in
-    let op3 = c.op-in-Immediate-1 in
     let immediate = c.immediate in
     let pre = c.requires in
     let args = c.args in
     let done3 = c.done-in-Immediate in
     let sum = wrapping-add-u32 in
-    let is-op = op3.given.1 in
+    let is-op = c.in-Immediate.is in
     let call = immediate in
     let pl = placed_as _ _ is-op pre.1 in (
       pre.2,
       told args.board _ _ _ _ _ _ _ _ is-op done3.ensures
           (by_immediate args.board args.revoked.now args.regs.now args.mem.now args.tags.now
-          args.bytes sum.result sum.ensures
+          args.bytes sum.result sum.ensures.value
           _ _ pl.0.0 _ _ _ call.ensures),
     )
 
 pub returns-in-Two : goal.returns-in-Two
 returns-in-Two c =
     let wrapping-add-u32 = c.wrapping_add_u32-to in
-    let op4 = c.op-in-Two-1 in
     let two = c.two in
     let pre = c.requires in
     let args = c.args in
     let done4 = c.done-in-Two in
     let sum = wrapping-add-u32 in
-    let is-op = op4.given.1 in
+    let is-op = c.in-Two.is in
     let call = two in
     let pl = placed_as _ _ is-op pre.1 in (
       pre.2,
       told args.board _ _ _ _ _ _ _ _ is-op done4.ensures
           (by_two args.board args.revoked.now args.regs.now args.mem.now args.tags.now
-          args.bytes sum.result sum.ensures
+          args.bytes sum.result sum.ensures.value
           _ _ pl.0.0 _ _ _ call.ensures),
     )
 
 pub returns-in-Multiply : goal.returns-in-Multiply
 returns-in-Multiply c =
     let wrapping-add-u32 = c.wrapping_add_u32-to in
-    let op5 = c.op-in-Multiply-1 in
     let multiply = c.multiply in
     let pre = c.requires in
     let args = c.args in
     let done5 = c.done-in-Multiply in
     let sum = wrapping-add-u32 in
-    let is-op = op5.given.1 in
+    let is-op = c.in-Multiply.is in
     let call = multiply in
     let pl = placed_as _ _ is-op pre.1 in (
       pre.2,
       told args.board _ _ _ _ _ _ _ _ is-op done5.ensures
           (by_multiply args.board args.revoked.now args.regs.now args.mem.now args.tags.now
-          args.bytes sum.result sum.ensures
+          args.bytes sum.result sum.ensures.value
           _ _ pl.0.0 _ _ _ call.ensures),
     )
 
 pub returns-in-Divide : goal.returns-in-Divide
 returns-in-Divide c =
     let wrapping-add-u32 = c.wrapping_add_u32-to in
-    let op6 = c.op-in-Divide-1 in
     let divide = c.divide in
     let pre = c.requires in
     let args = c.args in
     let done6 = c.done-in-Divide in
     let sum = wrapping-add-u32 in
-    let is-op = op6.given.1 in
+    let is-op = c.in-Divide.is in
     let call = divide in
     let pl = placed_as _ _ is-op pre.1 in (
       pre.2,
       told args.board _ _ _ _ _ _ _ _ is-op done6.ensures
           (by_divide args.board args.revoked.now args.regs.now args.mem.now args.tags.now
-          args.bytes sum.result sum.ensures
+          args.bytes sum.result sum.ensures.value
           _ _ pl.0.0 _ _ _ call.ensures),
     )
 
 pub returns-in-Go : goal.returns-in-Go
 returns-in-Go c =
     let wrapping-add-u32 = c.wrapping_add_u32-to in
-    let op7 = c.op-in-Go-1 in
     let take-go = c.take_go in
     let args = c.args in
     let pre = c.requires in
     let sum = wrapping-add-u32 in
-    let is-op = op7.given.1 in
+    let is-op = c.in-Go.is in
     let call = take-go in
     let before = state args.regs.now args.mem.now args.tags.now in
-    let after = (state call.new.1.1.0 args.mem.now args.tags.now) in (
+    let after = (state call.new.regs args.mem.now args.tags.now) in (
       pre.2,
       told_op args.board args.revoked.now _ _ args.bytes before after call.result is-op
           (by_go args.board args.revoked.now args.regs.now args.mem.now args.tags.now
-          args.bytes sum.result sum.ensures
-          call.new.1.1.0 _ call.result call.ensures.0 call.ensures.1),
+          args.bytes sum.result sum.ensures.value
+          call.new.regs _ call.result call.ensures.0 call.ensures.1),
     )
 
 pub returns-in-JumpLink : goal.returns-in-JumpLink
 returns-in-JumpLink c =
     let wrapping-add-u32 = c.wrapping_add_u32-to in
-    let op8 = c.op-in-JumpLink-1 in
     let take_link = c.take_link in
     let args = c.args in
     let pre = c.requires in
     let sum = wrapping-add-u32 in
-    let is-op = op8.given.1 in
+    let is-op = c.in-JumpLink.is in
     let call = take_link in
     let before = state args.regs.now args.mem.now args.tags.now in
-    let after = (state call.new.1.1.1.1.0 args.mem.now args.tags.now) in (
+    let after = (state call.new.regs args.mem.now args.tags.now) in (
       pre.2,
       told_op args.board args.revoked.now _ _ args.bytes before after call.result is-op
           (by_jump_link args.board args.revoked.now args.regs.now args.mem.now args.tags.now
-          args.bytes sum.result sum.ensures
-          call.new.1.1.1.1.0 _ _ call.result call.ensures.0 call.ensures.1),
+          args.bytes sum.result sum.ensures.value
+          call.new.regs _ _ call.result call.ensures.0 call.ensures.1),
     )
 
 pub returns-in-JumpRegister : goal.returns-in-JumpRegister
 returns-in-JumpRegister c =
     let wrapping-add-u32 = c.wrapping_add_u32-to in
-    let op9 = c.op-in-JumpRegister-1 in
     let take-register = c.take_register in
     let args = c.args in
     let pre = c.requires in
     let sum = wrapping-add-u32 in
-    let is-op = op9.given.1 in
+    let is-op = c.in-JumpRegister.is in
     let call = take-register in
     let before = state args.regs.now args.mem.now args.tags.now in
-    let after = (state call.new.1.1.1.1.1.0 args.mem.now args.tags.now) in (
+    let after = (state call.new.regs args.mem.now args.tags.now) in (
       pre.2,
       told_op args.board args.revoked.now _ _ args.bytes before after call.result is-op
           (by_jump_register args.board args.revoked.now args.regs.now args.mem.now args.tags.now
-          args.bytes sum.result sum.ensures
-          call.new.1.1.1.1.1.0 _ _ _ call.result call.ensures.0 call.ensures.1),
+          args.bytes sum.result sum.ensures.value
+          call.new.regs _ _ _ call.result call.ensures.0 call.ensures.1),
     )
 
 pub returns-in-Branch : goal.returns-in-Branch
 returns-in-Branch c =
     let wrapping-add-u32 = c.wrapping_add_u32-to in
-    let op10 = c.op-in-Branch-1 in
     let take-branch = c.take_branch in
     let args = c.args in
     let pre = c.requires in
     let sum = wrapping-add-u32 in
-    let is-op = op10.given.1 in
+    let is-op = c.in-Branch.is in
     let call = take-branch in
     let before = state args.regs.now args.mem.now args.tags.now in
-    let after = (state call.new.1.1.1.1.1.0 args.mem.now args.tags.now) in (
+    let after = (state call.new.regs args.mem.now args.tags.now) in (
       pre.2,
       told_op args.board args.revoked.now _ _ args.bytes before after call.result is-op
           (by_branch args.board args.revoked.now args.regs.now args.mem.now args.tags.now
-          args.bytes sum.result sum.ensures
-          call.new.1.1.1.1.1.0 _ _ _ _ call.result call.ensures.0 call.ensures.1),
+          args.bytes sum.result sum.ensures.value
+          call.new.regs _ _ _ _ call.result call.ensures.0 call.ensures.1),
     )
 
 pub returns-in-LoadWord : goal.returns-in-LoadWord
 returns-in-LoadWord c =
     let wrapping-add-u32 = c.wrapping_add_u32-to in
-    let op11 = c.op-in-LoadWord-1 in
     let take-word = c.take_word in
     let args = c.args in
     let sum = wrapping-add-u32 in
-    let is-op = op11.given.1 in
+    let is-op = c.in-LoadWord.is in
     let call = take-word in
     let before = state args.regs.now args.mem.now args.tags.now in
-    let after = (state call.new.1.1.1.1.0 args.mem.now args.tags.now) in (
+    let after = (state call.new.regs args.mem.now args.tags.now) in (
       call.ensures.0,
       told_op args.board args.revoked.now _ _ args.bytes before after call.result is-op
           (by_load_word args.board args.revoked.now args.regs.now args.mem.now args.tags.now
-          args.bytes sum.result sum.ensures
-          call.new.1.1.1.1.0 _ _ _ call.result call.ensures.1),
+          args.bytes sum.result sum.ensures.value
+          call.new.regs _ _ _ call.result call.ensures.1),
     )
 
 pub returns-in-LoadSmall : goal.returns-in-LoadSmall
 returns-in-LoadSmall c =
     let wrapping-add-u32 = c.wrapping_add_u32-to in
-    let op12 = c.op-in-LoadSmall-1 in
     let take-small = c.take_small in
     let args = c.args in
     let sum = wrapping-add-u32 in
-    let is-op = op12.given.1 in
+    let is-op = c.in-LoadSmall.is in
     let call = take-small in
     let before = state args.regs.now args.mem.now args.tags.now in
-    let after = (state call.new.1.1.1.1.1.0 args.mem.now args.tags.now) in (
+    let after = (state call.new.regs args.mem.now args.tags.now) in (
       call.ensures.0,
       told_op args.board args.revoked.now _ _ args.bytes before after call.result is-op
           (by_load args.board args.revoked.now args.regs.now args.mem.now args.tags.now
-          args.bytes sum.result sum.ensures
-          call.new.1.1.1.1.1.0 _ _ _ _ call.result call.ensures.1),
+          args.bytes sum.result sum.ensures.value
+          call.new.regs _ _ _ _ call.result call.ensures.1),
     )
 
 pub returns-in-StoreWord : goal.returns-in-StoreWord
 returns-in-StoreWord c =
     let wrapping-add-u32 = c.wrapping_add_u32-to in
-    let op13 = c.op-in-StoreWord-1 in
     let take-store-word = c.take_store_word in
     let args = c.args in
     let sum = wrapping-add-u32 in
-    let is-op = op13.given.1 in
+    let is-op = c.in-StoreWord.is in
     let call = take-store-word in
     let before = state args.regs.now args.mem.now args.tags.now in
-    let after = (state call.new.1.1.1.1.0 call.new.1.1.1.1.1.1.0 call.new.1.1.1.1.1.1.1.0) in (
+    let after = (state call.new.regs call.new.mem call.new.tags) in (
       call.ensures.0,
       told_op args.board args.revoked.now _ _ args.bytes before after call.result is-op
           (by_store_word args.board args.revoked.now args.regs.now args.mem.now args.tags.now
-          args.bytes sum.result sum.ensures
+          args.bytes sum.result sum.ensures.value
           after _ _ _ call.result call.ensures.1),
     )
 
 pub returns-in-StoreSmall : goal.returns-in-StoreSmall
 returns-in-StoreSmall c =
     let wrapping-add-u32 = c.wrapping_add_u32-to in
-    let op14 = c.op-in-StoreSmall-1 in
     let take-store-small = c.take_store_small in
     let args = c.args in
     let sum = wrapping-add-u32 in
-    let is-op = op14.given.1 in
+    let is-op = c.in-StoreSmall.is in
     let call = take-store-small in
     let before = state args.regs.now args.mem.now args.tags.now in
-    let after = (state call.new.1.1.1.1.1.0 call.new.1.1.1.1.1.1.1.0 call.new.1.1.1.1.1.1.1.1.0) in (
+    let after = (state call.new.regs call.new.mem call.new.tags) in (
       call.ensures.0,
       told_op args.board args.revoked.now _ _ args.bytes before after call.result is-op
           (by_store args.board args.revoked.now args.regs.now args.mem.now args.tags.now
-          args.bytes sum.result sum.ensures
+          args.bytes sum.result sum.ensures.value
           after _ _ _ _ call.result call.ensures.1),
     )
 
@@ -394,124 +379,118 @@ returns-in-LoadCapability c =
     let is-op = c.in-LoadCapability.is in
     let call = c.take_load_capability in
     let before = state c.args.regs.now c.args.mem.now c.args.tags.now in
-    let after = (state call.new.1.1.1.1.0 c.args.mem.now c.args.tags.now) in (
+    let after = (state call.new.regs c.args.mem.now c.args.tags.now) in (
       call.ensures.0,
       told_op c.args.board c.args.revoked.now _ _ c.args.bytes before after call.result is-op
           (by_load_capability c.args.board c.args.revoked.now c.args.regs.now c.args.mem.now c.args.tags.now
           c.args.bytes sum.result sum.ensures.value
-          call.new.1.1.1.1.0 _ _ _ call.result call.ensures.1),
+          call.new.regs _ _ _ call.result call.ensures.1),
     )
 
 pub returns-in-StoreCapability : goal.returns-in-StoreCapability
 returns-in-StoreCapability c =
     let wrapping-add-u32 = c.wrapping_add_u32-to in
-    let op16 = c.op-in-StoreCapability-1 in
     let take-store-capability = c.take_store_capability in
     let args = c.args in
     let sum = wrapping-add-u32 in
-    let is-op = op16.given.1 in
+    let is-op = c.in-StoreCapability.is in
     let call = take-store-capability in
     let before = state args.regs.now args.mem.now args.tags.now in
-    let after = (state call.new.1.1.1.1.0 call.new.1.1.1.1.1.1.0 call.new.1.1.1.1.1.1.1.0) in (
+    let after = (state call.new.regs call.new.mem call.new.tags) in (
       call.ensures.0,
       told_op args.board args.revoked.now _ _ args.bytes before after call.result is-op
           (by_store_capability args.board args.revoked.now args.regs.now args.mem.now args.tags.now
-          args.bytes sum.result sum.ensures
+          args.bytes sum.result sum.ensures.value
           after _ _ _ call.result call.ensures.1),
     )
 
 pub returns-in-Increment : goal.returns-in-Increment
 returns-in-Increment c =
     let wrapping-add-u32 = c.wrapping_add_u32-to in
-    let op17 = c.op-in-Increment-1 in
     let increment = c.increment in
     let pre = c.requires in
     let args = c.args in
     let done7 = c.done-in-Increment in
     let sum = wrapping-add-u32 in
-    let is-op = op17.given.1 in
+    let is-op = c.in-Increment.is in
     let call = increment in
     let pl = placed_as _ _ is-op pre.1 in (
       pre.2,
       told args.board _ _ _ _ _ _ _ _ is-op done7.ensures
           (by_increment args.board args.revoked.now args.regs.now args.mem.now args.tags.now
-          args.bytes sum.result sum.ensures
+          args.bytes sum.result sum.ensures.value
           _ _ pl.0.0 _ _ call.ensures),
     )
 
 pub returns-in-Cut : goal.returns-in-Cut
 returns-in-Cut c =
     let wrapping-add-u32 = c.wrapping_add_u32-to in
-    let op18 = c.op-in-Cut-1 in
     let cut = c.cut in
     let pre = c.requires in
     let args = c.args in
     let done8 = c.done-in-Cut in
     let sum = wrapping-add-u32 in
-    let is-op = op18.given.1 in
+    let is-op = c.in-Cut.is in
     let call = cut in
     let pl = placed_as _ _ is-op pre.1 in (
       pre.2,
       told args.board _ _ _ _ _ _ _ _ is-op done8.ensures
           (by_cut args.board args.revoked.now args.regs.now args.mem.now args.tags.now
-          args.bytes sum.result sum.ensures
+          args.bytes sum.result sum.ensures.value
           _ _ pl.0.0 _ _ call.ensures),
     )
 
 pub returns-in-Copy : goal.returns-in-Copy
 returns-in-Copy c =
     let wrapping-add-u32 = c.wrapping_add_u32-to in
-    let op19 = c.op-in-Copy-1 in
     let copy = c.copy in
     let pre = c.requires in
     let args = c.args in
     let done9 = c.done-in-Copy in
     let sum = wrapping-add-u32 in
-    let is-op = op19.given.1 in
+    let is-op = c.in-Copy.is in
     let call = copy in
     let pl = placed_as _ _ is-op pre.1 in (
       pre.2,
       told args.board _ _ _ _ _ _ _ _ is-op done9.ensures
           (by_copy args.board args.revoked.now args.regs.now args.mem.now args.tags.now
-          args.bytes sum.result sum.ensures
+          args.bytes sum.result sum.ensures.value
           _ _ pl.0.0 _ call.ensures),
     )
 
 pub returns-in-SetAddress : goal.returns-in-SetAddress
 returns-in-SetAddress c =
     let wrapping-add-u32 = c.wrapping_add_u32-to in
-    let op20 = c.op-in-SetAddress-1 in
     let set-address = c.set_address in
     let pre = c.requires in
     let args = c.args in
     let done10 = c.done-in-SetAddress in
     let sum = wrapping-add-u32 in
-    let is-op = op20.given.1 in
+    let is-op = c.in-SetAddress.is in
     let call = set-address in
     let pl = placed_as _ _ is-op pre.1 in (
       pre.2,
       told args.board _ _ _ _ _ _ _ _ is-op done10.ensures
           (by_set_address args.board args.revoked.now args.regs.now args.mem.now args.tags.now
-          args.bytes sum.result sum.ensures
+          args.bytes sum.result sum.ensures.value
           _ _ pl.0.0 _ _ call.ensures),
     )
 
 pub returns-in-IncrementBy : goal.returns-in-IncrementBy
 returns-in-IncrementBy c =
     let wrapping-add-u32 = c.wrapping_add_u32-to in
-    let op21 = c.op-in-IncrementBy-1 in
     let increment-by = c.increment_by in
     let pre = c.requires in
     let args = c.args in
     let done11 = c.done-in-IncrementBy in
     let sum = wrapping-add-u32 in
-    let is-op = op21.given.1 in
+    let is-op = c.in-IncrementBy.is in
     let call = increment-by in
     let pl = placed_as _ _ is-op pre.1 in (
       pre.2,
       told args.board _ _ _ _ _ _ _ _ is-op done11.ensures
           (by_increment_by args.board args.revoked.now args.regs.now args.mem.now args.tags.now
-          args.bytes sum.result sum.ensures
+          args.bytes sum.result sum.ensures.value
           _ _ pl.0.0 _ _ call.ensures),
     )
 
@@ -531,17 +510,16 @@ returns-in-Address c =
 pub returns-in-LoadByte : goal.returns-in-LoadByte
 returns-in-LoadByte c =
     let wrapping-add-u32 = c.wrapping_add_u32-to in
-    let op23 = c.op-in-LoadByte-1 in
     let take-byte = c.take_byte in
     let args = c.args in
     let sum = wrapping-add-u32 in
-    let is-op = op23.given.1 in
+    let is-op = c.in-LoadByte.is in
     let call = take-byte in
     let before = state args.regs.now args.mem.now args.tags.now in
-    let after = (state call.new.1.1.1.1.1.0 args.mem.now args.tags.now) in (
+    let after = (state call.new.regs args.mem.now args.tags.now) in (
       call.ensures.0,
       told_op args.board args.revoked.now _ _ args.bytes before after call.result is-op
           (by_load_byte args.board args.revoked.now args.regs.now args.mem.now args.tags.now
-          args.bytes sum.result sum.ensures
-          call.new.1.1.1.1.1.0 _ _ _ _ call.result call.ensures.1),
+          args.bytes sum.result sum.ensures.value
+          call.new.regs _ _ _ _ call.result call.ensures.1),
     )
