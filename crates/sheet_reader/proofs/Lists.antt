@@ -29,7 +29,8 @@ told (sheet rs rest) out = go (fits_in (sheet_words rs) out)
     go false = (refl, refl)
 told (bad n) out = (refl, refl)
 
-promised : {text before after : List ℕ} {answer : ReadAnswer} → answer ≡ read_answer (read_of false text) before → after ≡ read_after (read_of false text) before
+promised : {text before after : List ℕ} {answer : ReadAnswer} → answer ≡ read_answer (read_of false text) before
+    → after ≡ read_after (read_of false text) before
     → ReadsInto text before after answer
 promised {text} {before} e f =
     let t = told (read_of false text) before in

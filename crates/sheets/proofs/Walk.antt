@@ -235,9 +235,8 @@ module _ {image : Bool} {text : List ℕ} {regions : List Region} {count i : ℕ
 
   -- a line that a newline ends
   module _ {s : Scan} {end : ℕ} (l : Lined text i s end) (h : end ≡ length text → ⊥) where
-    at_newline_lem : at_newline image (take count regions) line (drop (end + 1) text) (read_from image (take count regions ++ (region_of line ∷ [])) [] (drop (end +
-        1) text))
-        ≡ read_of image text
+    at_newline_lem : let before = take count regions in
+        at_newline image before line (drop (end + 1) text) (read_from image (before ++ (region_of line ∷ [])) [] (drop (end + 1) text)) ≡ read_of image text
     at_newline_lem =
         let n = length line in
         let short : length line < length (drop i text) = omega (arith, l.end_is, line_short l, left_length, g.within) in

@@ -7,7 +7,9 @@ use Rattle.sheet_compare.proofs.names.least_of.Given as goal
 
 abbrev pub invariant-loop-i : goal.invariant-loop-i
 invariant-loop-i l =
-    (l.i ≤ l.count) × (least_of l.last l.best (drop l.i (take l.count l.regions)) (take l.number l.other) ≡ least_of l.last l.initial.best (take l.count l.regions) (take l.number l.other))
+    let all = take l.count l.regions in
+    let other = take l.number l.other in
+    (l.i ≤ l.count) × (least_of l.last l.best (drop l.i all) other ≡ least_of l.last l.initial.best all other)
 
 abbrev pub decreases-loop-i : goal.decreases-loop-i
 decreases-loop-i l = l.count - l.i
