@@ -5,7 +5,7 @@ use mathlib.Core.Bool.{Bool, true, false, cond, ◌&&◌, ◌||◌, and-eq-true_
 use mathlib.Core.List.{List, [], ◌∷◌, ◌++◌}
 use mathlib.Core.Logic.{◌⊎◌, inl, inr, ◌↔◌}
 use mathlib.Core.Path.{◌≡◌, refl, sym, ap, ◌∙◌}
-use Prim.Native.Nat.{ℕ, suc, ◌+◌, ◌-◌, ◌*◌, ◌/◌, ◌%◌, ◌^◌, ◌≤◌, ◌<◌, min}
+use Prim.Native.Nat.{ℕ, suc, ◌+◌, ◌-◌, ◌/◌, ◌%◌, ◌^◌, ◌<◌, min}
 use native.Mathlib.Nat.{div-one, div-div-eq-div-mul, pow-succ'}
 use native.Mathlib.Omega.{arith}
 use borrow.Author.Tests.{eqb-true, eqb-false, eq-eqb, leb-true, le-leb}
@@ -17,7 +17,7 @@ use Rattle.sheets.specs.Sheet.{Regions, none, more, Answer, sheet, bad, IsSheet}
 use Rattle.sheets.specs.declared.Region.{Region}
 use Rattle.sheets.proofs.Answers.{read_says}
 use Rattle.sheets.proofs.Lengths.{follows_some}
-use Rattle.fit.specs.Fit.{within, held, fits, Outcome, first, second, neither, bad_board, bad_first, bad_second, chosen, or_bad, regions_of, rest_of, judged}
+use Rattle.fit.specs.Fit.{within, held, fits, first, second, neither, chosen, or_bad, regions_of, rest_of, judged}
 use Rattle.fit.specs.Inside.{Among, here, there, Has, Grants, Inside, EachInside, swapped, alike}
 
 -- a right that both have
@@ -110,18 +110,19 @@ inside_fits board (r ∷ image) some h =
       inside_fits board image (λ x k. some x (there k)) (λ x k. h x (there k)),
     )
 
+none_among : {A : Type 0} {r : Region} → Among r [] → A
+none_among = elim [ ]
+
 -- no region of a sheet is empty
 last_among : (rs : List Region) (r x : Region) → Among x (rs ++ (r ∷ [])) → Among x rs ⊎ (x ≡ r)
 last_among [] r x here = inr refl
+last_among [] r x (there k) = none_among k
 last_among (s ∷ rs) r x here = inl here
 last_among (s ∷ rs) r x (there k) = go (last_among rs r x k)
   where
     go : Among x rs ⊎ (x ≡ r) → Among x (s ∷ rs) ⊎ (x ≡ r)
     go (inl i) = inl (there i)
     go (inr e) = inr e
-
-none_among : {A : Type 0} {r : Region} → Among r [] → A
-none_among = elim [ ]
 
 regions_some : {rs : List Region} → Regions rs → (r : Region) → Among r rs → 0 < r.size
 regions_some none r i = none_among i

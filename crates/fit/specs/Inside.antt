@@ -1,6 +1,6 @@
 -- What fitting gives, address by address and right by right; and the images in the other order. Document 02, 12.
 -- Assumes nothing.
-use Rattle.std.specs.Prelude.{Bool, true, false, ◌&&◌, List, [], ◌∷◌, ◌≡◌, ℕ, ◌+◌, ◌/◌, ◌%◌, ◌^◌, ◌≤◌, ◌<◌}
+use Rattle.std.specs.Prelude.{Bool, true, false, ◌&&◌, List, ◌∷◌, ◌≡◌, ℕ, ◌+◌, ◌/◌, ◌%◌, ◌^◌, ◌≤◌, ◌<◌}
 use Rattle.sheets.specs.Sheet.{Answer, sheet, bad}
 use Rattle.sheets.specs.declared.Region.{Region}
 use Rattle.fit.specs.Fit.{fits, Outcome, first, second, neither, bad_board, bad_first, bad_second}

@@ -10,20 +10,18 @@ use lib.Dec.{leb}
 use lib.ListN.{length, take}
 use Rattle.text.specs.Writing.{fits_in, delivered}
 use Rattle.text.proofs.Putting.{delivered_take}
-use Rattle.sheets.specs.Records.{sheet_words, all_words, AreRecords, SaysRecords, judged}
+use Rattle.sheets.specs.Records.{sheet_words, AreRecords, judged}
 use Rattle.sheets.specs.Scanning.{read_of}
-use Rattle.sheets.specs.Sheet.{sheet_text, Answer, sheet, bad, IsSheet, Says}
+use Rattle.sheets.specs.Sheet.{sheet_text, Answer, sheet, bad, IsSheet}
 use Rattle.sheets.specs.declared.Region.{Region}
 use Rattle.sheets.proofs.Answers.{read_says}
 use Rattle.sheets.proofs.Records.{judged_says, records_judged}
 use Rattle.sheets.proofs.Trips.{read_writes, written_reads}
 use Rattle.sheets.proofs.Words.{words_length}
-use Rattle.sheet_reader.specs.Words.{read_answer, read_after, ReadsInto}
+use Rattle.sheet_reader.specs.Words.{read_answer, read_after}
 use Rattle.sheet_reader.specs.declared.ReadAnswer.{ReadAnswer}
-use Rattle.sheet_reader.specs.declared.ReadAnswer.TheVariants as ReadAnswer
-use Rattle.sheet_writer.specs.Writing.{write_answer, write_after, Writes}
+use Rattle.sheet_writer.specs.Writing.{write_answer, write_after}
 use Rattle.sheet_writer.specs.declared.WriteAnswer.{WriteAnswer}
-use Rattle.sheet_writer.specs.declared.WriteAnswer.TheVariants as WriteAnswer
 use Rattle.sheet_api.specs.Trips.{ReadThenWritten, WrittenThenRead}
 
 absurd_of : {A : Type 0} → ◌≡◌ {A = ℕ} 0 1 → A

@@ -5,10 +5,8 @@ use Rattle.std.specs.Prelude.{true, List, ◌≡◌, ℕ, ◌*◌, ◌/◌, ◌�
 use Rattle.sheets.specs.Records.{all_words}
 use Rattle.sheet_reader.specs.Words.{ReadsInto}
 use Rattle.sheet_reader.specs.declared.ReadAnswer.{ReadAnswer}
-use Rattle.sheet_reader.specs.declared.ReadAnswer.TheVariants as ReadAnswer
 use Rattle.sheet_writer.specs.Writing.{Writes}
 use Rattle.sheet_writer.specs.declared.WriteAnswer.{WriteAnswer}
-use Rattle.sheet_writer.specs.declared.WriteAnswer.TheVariants as WriteAnswer
 
 -- a text that is read into `count` records, which are then written into a buffer with room for the text
 abbrev pub ReadThenWritten : Type 0

@@ -1,22 +1,22 @@
 -- A comparison lists exactly the names that differ, in order, each once.
 -- Assumes nothing.
-use mathlib.Core.Bool.{Bool, true, false, cond, ◌&&◌, and-eq-true_iff}
-use mathlib.Core.List.{List, [], ◌∷◌, ◌++◌}
+use mathlib.Core.Bool.{Bool, true, false, cond}
+use mathlib.Core.List.{List, [], ◌∷◌}
 use mathlib.Core.Logic.{◌⊎◌, inl, inr}
-use mathlib.Core.Path.{◌≡◌, refl, sym, ap, ◌∙◌}
+use mathlib.Core.Path.{◌≡◌, refl, sym, ◌∙◌}
 use Prim.Native.Nat.{ℕ, zero, suc, ◌+◌, ◌≤◌, ◌<◌}
 use native.Mathlib.Omega.{arith}
 use lib.ListN.{length}
 use Rattle.sheets.specs.Scanning.{no_name}
 use Rattle.sheets.specs.declared.Region.{Region}
 use Rattle.sheet_compare.specs.Compare.{less, next_name, names_after, differing}
-use Rattle.sheet_compare.specs.Lists.{In, here, there, Odd, odd, Differs, After, done, next, Once, empty, new, ListsNames}
-use Rattle.sheet_compare.specs.declared.Pick.{Pick}
-use Rattle.sheet_compare.proofs.Order.{less_self, less_trans, less_total, Least, next_sound, next_least}
+use Rattle.sheet_compare.specs.Lists.{In, here, there, odd, Differs, After, done, next, Once, empty, new, ListsNames}
+use Rattle.sheet_compare.proofs.Order.{less_self, less_trans, less_total, next_sound, next_least}
 use Rattle.sheet_compare.proofs.Standing.{clash_of}
 
 -- what is listed after a name comes after it, and so no name is listed twice
 pub after_in : {last n : List ℕ} {ns : List (List ℕ)} → After last ns → In n ns → less last n ≡ true
+after_in done i = elim i [ ]
 after_in (next h r) here = h
 after_in (next {last = last} {n = m} h r) (there {x = n} i) = less_trans last m n h (after_in r i)
 
@@ -100,6 +100,7 @@ module _ (a b : List Region) (long : (r : Region) → In r a ⊎ In r b → leng
 
   sound_all : (k : ℕ) (last n : List ℕ) → In n (names_after k last a b) → Differs a b n
   unfolding names_after
+  sound_all zero last n i = elim i [ ]
   sound_all (suc k) last n i = go (next_name last a b).found refl i (sound_all k (next_name last a b).name n)
     where
       it : List ℕ
@@ -112,6 +113,7 @@ module _ (a b : List Region) (long : (r : Region) → In r a ⊎ In r b → leng
       go : (t : Bool) → (next_name last a b).found ≡ t → In n (cond t (it ∷ names_after k it a b) []) → (In n (names_after k it a b) → Differs a b n)
           → Differs a b n
       go true e i r = one it ((next_sound last a b).proper e) (names_after k it a b) i r
+      go false e i r = elim i [ ]
 
   complete_all : (k : ℕ) (last n : List ℕ) → all_above last ≤ k → Differs a b n → less last n ≡ true → In n (names_after k last a b)
   unfolding names_after

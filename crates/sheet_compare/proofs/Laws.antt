@@ -1,18 +1,16 @@
 -- A comparison is empty exactly when two sheets have the same regions, and it is the same both ways round.
 -- Assumes nothing.
 use mathlib.Core.Bool.{Bool, true, false}
-use mathlib.Core.List.{List, [], ◌∷◌, ◌++◌}
-use mathlib.Core.Logic.{◌⊎◌, inl, inr}
+use mathlib.Core.List.{List, [], ◌∷◌}
+use mathlib.Core.Logic.{inl, inr}
 use mathlib.Core.Path.{◌≡◌, refl, sym, ap, ◌∙◌}
-use Prim.Native.Nat.{ℕ, ◌+◌, ◌<◌}
+use Prim.Native.Nat.{ℕ, ◌<◌}
 use native.Mathlib.Omega.{arith}
 use lib.ListN.{length, length-append}
-use Rattle.text.specs.Writing.{newline}
-use Rattle.sheets.specs.Sheet.{letters_of, Regions}
-use Rattle.sheets.specs.Scanning.{no_name}
+use Rattle.sheets.specs.Sheet.{Regions}
 use Rattle.sheets.specs.declared.Region.{Region}
-use Rattle.sheet_compare.specs.Compare.{less, stands, differing, names_text, list_text}
-use Rattle.sheet_compare.specs.Lists.{In, here, there, Odd, odd, Differs, After, done, next, ListsNames, SameRegions}
+use Rattle.sheet_compare.specs.Compare.{stands, differing, names_text, list_text}
+use Rattle.sheet_compare.specs.Lists.{In, here, there, Odd, odd, Differs, After, next, ListsNames, SameRegions}
 use Rattle.sheet_compare.proofs.Exact.{after_in}
 use Rattle.sheet_compare.proofs.Order.{less_self, less_trans}
 use Rattle.sheet_compare.proofs.Promise.{regions_list}

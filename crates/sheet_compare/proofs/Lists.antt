@@ -1,13 +1,13 @@
 -- Laws of the lists that the code walks: names and regions.
 -- Assumes nothing.
-use mathlib.Core.Bool.{Bool, true, false, cond, ◌&&◌, ◌||◌, or-false}
-use mathlib.Core.Path.{◌≡◌, refl, sym, ap, ◌∙◌}
+use mathlib.Core.Bool.{true, false, or-false}
+use mathlib.Core.Path.{◌≡◌, refl, sym, ◌∙◌}
 use mathlib.Core.List.{List, [], ◌∷◌, ◌++◌, append_assoc, append-nil}
-use Prim.Native.Nat.{ℕ, zero, suc, ◌+◌, ◌-◌, ◌*◌, ◌≤◌, ◌<◌}
+use Prim.Native.Nat.{ℕ, suc, ◌+◌, ◌-◌, ◌≤◌, ◌<◌}
 use native.Mathlib.Numerals.{add-one}
 use native.Mathlib.Omega.{arith}
 use borrow.Author.Tests.{eq-eqb, ne_eqb, le-ltb}
-use lib.Dec.{eqb, ltb}
+use lib.Dec.{ltb}
 use lib.ListN.{length, get_or, take, drop, drop_of_length-le, length-take}
 use lib.Seq.{drop-cons, get_or-take}
 use Rattle.text.specs.Writing.{newline, Puts}
@@ -22,7 +22,10 @@ use Rattle.sheet_compare.specs.declared.Pick.{Pick}
 module _ (a b : List ℕ) (i : ℕ) where
   pub less_turn : i < length a → i < length b → get_or a i 0 ≡ get_or b i 0 → less (drop (i + 1) a) (drop (i + 1) b) ≡ less (drop i a) (drop i b)
   unfolding less
-  less_turn h k e = rw (add-one i, drop-cons a i 0 h, drop-cons b i 0 k, eq-eqb (get_or a i 0) (get_or b i 0) e, le-ltb (get_or a i 0) (get_or b i 0) (omega arith))
+  less_turn h k e =
+      let x = get_or a i 0 in
+      let y = get_or b i 0 in
+      rw (add-one i, drop-cons a i 0 h, drop-cons b i 0 k, eq-eqb x y e, le-ltb x y (omega arith))
 
   pub less_here : i < length a → i < length b → (get_or a i 0 ≡ get_or b i 0 → ⊥) → ltb (get_or a i 0) (get_or b i 0) ≡ less (drop i a) (drop i b)
   unfolding less

@@ -1,18 +1,18 @@
 -- The order of names, and the least name after another.
 -- Assumes nothing.
-use mathlib.Core.Bool.{Bool, true, false, cond, ◌&&◌, ◌||◌, and-eq-true_iff}
-use mathlib.Core.List.{List, [], ◌∷◌, ◌++◌}
+use mathlib.Core.Bool.{Bool, true, false, cond, ◌&&◌, ◌||◌}
+use mathlib.Core.List.{List, [], ◌∷◌}
 use mathlib.Core.Logic.{◌⊎◌, inl, inr}
-use mathlib.Core.Path.{◌≡◌, refl, sym, ap, ◌∙◌}
-use Prim.Native.Nat.{ℕ, zero, suc, ◌+◌, ◌≤◌, ◌<◌}
+use mathlib.Core.Path.{◌≡◌, refl, sym, ◌∙◌}
+use Prim.Native.Nat.{ℕ, ◌<◌}
 use native.Mathlib.Nat.{suc_inj}
 use native.Mathlib.Omega.{arith}
-use borrow.Author.Tests.{ltb-true, ltb-false, lt-ltb, le-ltb, eqb-true, eqb-false, eq-eqb, ne_eqb}
+use borrow.Author.Tests.{ltb-true, ltb-false, lt-ltb, le-ltb, eqb-true, eq-eqb}
 use lib.Dec.{ltb, eqb}
 use lib.ListN.{length}
 use Rattle.sheets.specs.declared.Region.{Region}
 use Rattle.sheet_compare.specs.Compare.{less, stands, sooner, considered, least_of, next_name, no_pick, picked}
-use Rattle.sheet_compare.specs.Lists.{In, here, there, Odd, odd, Differs}
+use Rattle.sheet_compare.specs.Lists.{In, here, there, odd, Differs}
 use Rattle.sheet_compare.specs.declared.Pick.{Pick}
 use Rattle.sheet_compare.proofs.Standing.{clash_of, not_in, stands_not}
 

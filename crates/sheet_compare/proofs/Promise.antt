@@ -1,26 +1,27 @@
 -- For any two texts that read as sheets the list is exact: all that it asks of the regions, the reader has shown.
 -- Assumes nothing.
-use mathlib.Core.Bool.{Bool, true, false, cond, ◌&&◌, ◌||◌, and-eq-true_iff}
+use mathlib.Core.Bool.{Bool, true, false, cond, ◌&&◌, and-eq-true_iff}
 use mathlib.Core.List.{List, [], ◌∷◌, ◌++◌}
 use mathlib.Core.Logic.{◌⊎◌, inl, inr}
-use mathlib.Core.Path.{◌≡◌, refl, sym, ap, ◌∙◌}
+use mathlib.Core.Path.{◌≡◌, refl}
 use Prim.Native.Nat.{ℕ, zero, suc, ◌*◌, ◌≤◌, ◌<◌}
 use native.Mathlib.Omega.{arith}
 use borrow.Author.Tests.{leb-true, ltb-true, lt-ltb, eqb-true}
 use lib.Dec.{leb, ltb, eqb}
 use lib.ListN.{length, length-append}
-use Rattle.sheets.specs.Sheet.{is_letter, letters_of, name_of, formed, admitted, follows, Regions, none, more, sheet, IsSheet, Says}
+use Rattle.sheets.specs.Sheet.{is_letter, letters_of, name_of, formed, admitted, follows, Regions, none, more, sheet, IsSheet}
 use Rattle.sheets.specs.Scanning.{no_name, read_of}
 use Rattle.sheets.specs.declared.Region.{Region}
 use Rattle.sheets.proofs.Answers.{read_says}
 use Rattle.sheets.proofs.Lengths.{regions_few}
 use Rattle.sheets.proofs.Lines.{form_of}
 use Rattle.sheet_compare.specs.Compare.{less, next_name, names_after, names_text, differing, list_text}
-use Rattle.sheet_compare.specs.Lists.{In, here, there, Odd, odd, Differs, ListsNames}
+use Rattle.sheet_compare.specs.Lists.{In, here, there, odd, Differs, ListsNames}
 use Rattle.sheet_compare.proofs.Exact.{differing_lists}
 
 in_more : (rs : List Region) (s r : Region) → In r (rs ++ (s ∷ [])) → In r rs ⊎ (r ≡ s)
 in_more [] s r here = inr refl
+in_more [] s r (there k) = elim k [ ]
 in_more (x ∷ rs) s r here = inl here
 in_more (x ∷ rs) s r (there k) = go (in_more rs s r k)
   where
@@ -30,6 +31,7 @@ in_more (x ∷ rs) s r (there k) = go (in_more rs s r k)
 
 regions_formed : {rs : List Region} → Regions rs → (r : Region) → In r rs → formed r ≡ true
 unfolding follows
+regions_formed none r k = elim k [ ]
 regions_formed (more {rs} s g f) r k = go (in_more rs s r k) (λ i. regions_formed g r i)
   where
     go : In r rs ⊎ (r ≡ s) → (In r rs → formed r ≡ true) → formed r ≡ true

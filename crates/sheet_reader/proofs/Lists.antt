@@ -1,12 +1,12 @@
 -- Records one after the other, and the reader's answer.
 -- Assumes nothing.
 use mathlib.Core.Bool.{Bool, true, false, cond}
-use mathlib.Core.Path.{◌≡◌, refl, sym, ap, ◌∙◌}
-use mathlib.Core.List.{List, [], ◌∷◌, ◌++◌}
+use mathlib.Core.Path.{◌≡◌, refl, ap, ◌∙◌}
+use mathlib.Core.List.{List}
 use Prim.Native.Nat.{ℕ, ◌≤◌, ◌<◌}
 use native.Mathlib.Omega.{arith}
 use borrow.Author.Tests.{le-leb, lt-leb}
-use lib.ListN.{length, take, drop}
+use lib.ListN.{length, take}
 use Rattle.text.specs.Writing.{fits_in, delivered, Puts}
 use Rattle.text.proofs.Putting.{placed}
 use Rattle.sheets.specs.Records.{sheet_words}
@@ -29,7 +29,8 @@ told (sheet rs rest) out = go (fits_in (sheet_words rs) out)
     go false = (refl, refl)
 told (bad n) out = (refl, refl)
 
-promised : {text before after : List ℕ} {answer : ReadAnswer} → answer ≡ read_answer (read_of false text) before → after ≡ read_after (read_of false text) before
+promised : {text before after : List ℕ} {answer : ReadAnswer} → answer ≡ read_answer (read_of false text) before
+    → after ≡ read_after (read_of false text) before
     → ReadsInto text before after answer
 promised {text} {before} e f =
     let t = told (read_of false text) before in

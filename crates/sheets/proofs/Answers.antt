@@ -1,18 +1,18 @@
 -- What is read of a text is what the text says: the regions of a sheet and the rest, or the number of the first bad line.
 -- Assumes nothing.
-use mathlib.Core.Bool.{Bool, true, false, cond, ◌&&◌, not, and-eq-true_iff, and_false}
+use mathlib.Core.Bool.{Bool, true, false, cond, ◌&&◌, not, and-eq-true_iff, and-false}
 use mathlib.Core.Path.{◌≡◌, refl, sym, ap, ◌∙◌}
 use mathlib.Core.List.{List, [], ◌∷◌, ◌++◌, append_assoc, append-nil}
-use Prim.Native.Nat.{ℕ, zero, suc, ◌+◌, ◌/◌, ◌%◌, ◌≤◌, ◌<◌}
+use Prim.Native.Nat.{ℕ, zero, suc, ◌+◌, ◌/◌, ◌%◌}
 use native.Mathlib.Omega.{arith}
-use borrow.Author.Tests.{eqb-true, eqb-false, ltb-true, leb-true, ne_eqb, eq-eqb}
-use lib.Dec.{eqb, leb, ltb}
+use borrow.Author.Tests.{eqb-true, eqb-false, leb-true, ne_eqb, eq-eqb}
+use lib.Dec.{eqb, leb}
 use lib.ListN.{length, length-append}
 use lib.Seq.{append_snoc}
 use Rattle.text.specs.Digits.{digits, glyph}
 use Rattle.text.specs.Writing.{tab, newline}
 use Rattle.sheets.specs.Sheet.{word, is_letter, name_of, rights_text, line_text, sheet_text, formed, admitted, follows, Regions, none, more, Answer, sheet}
-use Rattle.sheets.specs.Sheet.{bad, ending, IsSheet, FirstBad, Says}
+use Rattle.sheets.specs.Sheet.{bad, ending, Says}
 use Rattle.sheets.specs.Scanning.{whole, scan_of, region_of, takes, is_empty, ended, at_end, at_newline, read_from, read_of}
 use Rattle.sheets.specs.declared.Region.{Region}
 use Rattle.sheets.proofs.Padding.{all_letters}
@@ -75,7 +75,7 @@ clean_line r h =
 not_clean : (q rest : List ℕ) → clean (q ++ (newline ∷ rest)) ≡ false
 unfolding clean
 not_clean [] rest = refl
-not_clean (b ∷ q) rest = rw (not_clean q rest, and_false)
+not_clean (b ∷ q) rest = rw (not_clean q rest, and-false)
 
 pub clash_of : {A : Type 0} → true ≡ false → A
 clash_of e = absurd (let z : ◌≡◌ {A = ℕ} 0 1 = cc in omega arith)

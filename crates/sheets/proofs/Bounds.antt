@@ -1,14 +1,14 @@
 -- The 65th line is bad whatever it says, and no bad line has a greater number.
 -- Assumes nothing.
-use mathlib.Core.Bool.{Bool, true, false, and-eq-true_iff}
-use mathlib.Core.Path.{◌≡◌, refl, sym, ap, ◌∙◌}
-use mathlib.Core.List.{List, [], ◌∷◌, ◌++◌}
-use Prim.Native.Nat.{ℕ, ◌+◌, ◌≤◌, ◌<◌}
+use mathlib.Core.Bool.{Bool, true, false}
+use mathlib.Core.Path.{◌≡◌, refl, ap}
+use mathlib.Core.List.{List, ◌++◌}
+use Prim.Native.Nat.{ℕ, ◌≤◌, ◌<◌}
 use native.Mathlib.Omega.{arith}
 use lib.ListN.{length}
-use Rattle.sheets.specs.Records.{all_words, judged, FirstBadRecord, SaysRecords}
+use Rattle.sheets.specs.Records.{all_words, judged, FirstBadRecord}
 use Rattle.sheets.specs.Scanning.{read_of}
-use Rattle.sheets.specs.Sheet.{sheet_text, Regions, sheet, bad, ending, FirstBad, Says}
+use Rattle.sheets.specs.Sheet.{sheet_text, Regions, bad, ending, FirstBad}
 use Rattle.sheets.specs.declared.Region.{Region}
 use Rattle.sheets.proofs.Answers.{read_says}
 use Rattle.sheets.proofs.Lengths.{regions_few, follows_both}

@@ -8,7 +8,6 @@ use native.Mathlib.Omega.{arith}
 use borrow.Author.Tests.{eqb-false, ltb-true}
 use lib.Dec.{eqb, ltb}
 use lib.ListN.{length, length-append}
-use Rattle.text.specs.Digits.{digits}
 use Rattle.text.proofs.Numbers.{length_digits}
 use Rattle.sheets.specs.Records.{record_at, judged_from, judged}
 use Rattle.sheets.specs.Scanning.{ended}

@@ -1,6 +1,6 @@
 -- A line's bytes and the region that they say: each formed region's line reads as that region, and a line that reads as a region is that region's line.
 -- Assumes nothing.
-use mathlib.Core.Bool.{Bool, true, false, cond, ◌&&◌, and-eq-true_iff}
+use mathlib.Core.Bool.{Bool, true, false, cond, and-eq-true_iff}
 use mathlib.Core.Path.{◌≡◌, refl, sym, ap, ◌∙◌}
 use mathlib.Core.Logic.{◌⊎◌, inl, inr}
 use mathlib.Core.List.{List, [], ◌∷◌, ◌++◌, append_assoc, append-nil}
@@ -8,7 +8,7 @@ use Prim.Native.Nat.{ℕ, zero, suc, ◌+◌, ◌-◌, ◌*◌, ◌/◌, ◌%◌
 use native.Mathlib.Nat.{add-zero, zero-add}
 use native.Mathlib.Numerals.{add-one}
 use native.Mathlib.Omega.{arith}
-use borrow.Author.Tests.{lt-ltb, le-ltb, ltb-true, ltb-false, eq-eqb, eqb-true, eqb-false}
+use borrow.Author.Tests.{lt-ltb, ltb-true, ltb-false, eq-eqb, eqb-true}
 use lib.Dec.{ltb, eqb}
 use lib.ListN.{length, get_or, take, drop, replicate, length-append, length-replicate}
 use lib.Seq.{take-suc, take-append_seam, append_snoc, drop_at}
@@ -257,8 +257,8 @@ never_whole l h =
 
 held_read : {s : Scan} {p : List ℕ} → Held s p → (l : List ℕ) → whole (line_read s l) ≡ true → Held (line_read s l) (p ++ l)
 unfolding line_read
-held_read {s} {p} k [] h = rw append-nil k
-held_read {s} {p} k (b ∷ l) h = go (step k b) h (λ x. held_read x l)
+held_read {s = s} {p = p} k [] h = rw append-nil k
+held_read {s = s} {p = p} k (b ∷ l) h = go (step k b) h (λ x. held_read {s = advanced s b} x l)
   where
     go : Step s p b → whole (line_read (advanced s b) l) ≡ true
         → (Held (advanced s b) (p ++ (b ∷ [])) → whole (line_read (advanced s b) l) ≡ true → Held (line_read (advanced s b) l) ((p ++ (b ∷ [])) ++ l))

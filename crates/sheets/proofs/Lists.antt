@@ -1,19 +1,17 @@
 -- Laws of the lists that the code walks: names, earlier regions, lines.
 -- Assumes nothing.
-use mathlib.Core.Bool.{Bool, true, false, cond, ◌&&◌, ◌||◌}
-use mathlib.Core.Path.{◌≡◌, refl, sym, ap, ◌∙◌}
-use mathlib.Core.List.{List, [], ◌∷◌, ◌++◌}
-use Prim.Native.Nat.{ℕ, zero, suc, ◌+◌, ◌-◌, ◌≤◌, ◌<◌}
+use mathlib.Core.Bool.{Bool, true, false, cond}
+use mathlib.Core.Path.{◌≡◌, refl, ap}
+use mathlib.Core.List.{List, [], ◌∷◌}
+use Prim.Native.Nat.{ℕ, suc, ◌+◌, ◌≤◌, ◌<◌}
 use native.Mathlib.Numerals.{add-one}
 use native.Mathlib.Omega.{arith}
 use borrow.Author.Tests.{eq-eqb, ne_eqb}
-use lib.Dec.{eqb}
 use lib.ListN.{length, get_or, take, drop, drop_of_length-le, length-take}
 use lib.Seq.{drop-cons, get_or-take}
 use Rattle.sheets.specs.Sheet.{is_letter, letters_of, all_zero, same, clash, clashes}
 use Rattle.text.specs.Writing.{newline}
-use Rattle.sheets.specs.Scanning.{advanced, line_read, first_line}
-use Rattle.sheets.specs.declared.Scan.{Scan}
+use Rattle.sheets.specs.Scanning.{first_line}
 use Rattle.sheets.specs.declared.Region.{Region}
 
 -- two names, from index i on

@@ -8,17 +8,17 @@ use native.Mathlib.Nat.{add-zero, div-div-eq-div-mul}
 use native.Mathlib.Omega.{arith}
 use borrow.Author.Tests.{eq-eqb, ne_eqb, eqb-true, eqb-false, ltb-true, lt-ltb, leb-true}
 use lib.Dec.{eqb, ltb, leb}
-use lib.ListN.{length, get_or, take, drop, replicate, length-append, length-drop, drop_of_length-le}
-use lib.Seq.{append_snoc, drop-cons, drop-drop, get_or-append-add, get_or-drop}
+use lib.ListN.{length, get_or, drop, replicate, length-append, length-drop, drop_of_length-le}
+use lib.Seq.{append_snoc, drop-drop, get_or-append-add, get_or-drop}
 use Rattle.sheets.specs.Records.{word_at, name_words, record_words, sheet_words, all_words, word_bytes, record_at, judged_from, judged}
 use Rattle.sheets.specs.Records.{AreRecords, FirstBadRecord, SaysRecords}
 use Rattle.sheets.specs.Scanning.{padded, ended}
-use Rattle.sheets.specs.Sheet.{is_letter, name_of, formed, follows, Regions, none, more, Answer, sheet, bad}
+use Rattle.sheets.specs.Sheet.{is_letter, name_of, formed, follows, Regions, none, more, sheet, bad}
 use Rattle.sheets.specs.declared.Region.{Region}
 use Rattle.sheets.proofs.Answers.{clash_of}
 use Rattle.sheets.proofs.Lines.{form_of}
 use Rattle.sheets.proofs.Padding.{all_letters}
-use Rattle.sheets.proofs.Words.{words_append, words_snoc, words_length, record_length}
+use Rattle.sheets.proofs.Words.{words_snoc, words_length, record_length}
 
 -- ---- bytes and words
 

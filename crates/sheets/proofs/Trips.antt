@@ -1,11 +1,11 @@
 -- Both round trips: the text of regions reads as these regions, and what was read has the text's bytes; and what a text says is one answer.
 -- Assumes nothing.
-use mathlib.Core.Bool.{Bool, true, false, cond, ◌&&◌, not, and-eq-true_iff, and_false}
+use mathlib.Core.Bool.{Bool, true, false, cond, ◌&&◌, not, and-eq-true_iff, and-false}
 use mathlib.Core.Path.{◌≡◌, refl, sym, ap, ◌∙◌}
 use mathlib.Core.List.{List, [], ◌∷◌, ◌++◌, append_assoc, append-nil}
-use Prim.Native.Nat.{ℕ, zero, suc, ◌+◌, ◌≤◌, ◌<◌}
+use Prim.Native.Nat.{ℕ, suc, ◌+◌, ◌<◌}
 use native.Mathlib.Omega.{arith}
-use borrow.Author.Tests.{ne_eqb, eq-eqb, eqb-true, eqb-false, lt-ltb, ltb-true, ltb-false}
+use borrow.Author.Tests.{ne_eqb, eq-eqb, eqb-true, ltb-true, ltb-false}
 use lib.Dec.{eqb, ltb}
 use lib.ListN.{length, drop}
 use lib.Seq.{append_snoc}
@@ -44,7 +44,7 @@ takes_line before r f a = let w = region_whole r f in rw (w.0, w.1) a
 read_newline : (image : Bool) (before : List Region) (r : Region) (rest : List ℕ) → formed r ≡ true → admitted before r ≡ true
     → read_from image before (line_text r) (newline ∷ rest) ≡ read_from image (before ++ (r ∷ [])) [] rest
 unfolding read_from at_newline
-read_newline image before r rest f a = rw (line_begun r, and_false image, takes_line before r f a, (region_whole r f).1)
+read_newline image before r rest f a = rw (line_begun r, and-false image, takes_line before r f a, (region_whole r f).1)
 
 -- a line of a region that may follow
 read_one : (image : Bool) (before : List Region) (r : Region) (rest : List ℕ) → follows before r ≡ true

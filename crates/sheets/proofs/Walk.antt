@@ -1,10 +1,10 @@
 -- A sheet read line by line: what the lines and the end say is what the bytes say, and the loop over the lines keeps it.
 -- Assumes nothing.
-use mathlib.Core.Bool.{Bool, true, false, cond, ◌&&◌, not, and_false, and-eq-true_iff}
+use mathlib.Core.Bool.{Bool, true, false, cond, ◌&&◌, and-false, and-eq-true_iff}
 use mathlib.Core.Path.{◌≡◌, refl, sym, ap, ◌∙◌}
 use mathlib.Core.List.{List, [], ◌∷◌, ◌++◌, append-nil}
-use Prim.Native.Nat.{ℕ, zero, suc, ◌+◌, ◌-◌, ◌≤◌, ◌<◌}
-use native.Mathlib.Nat.{add-zero, suc_inj}
+use Prim.Native.Nat.{ℕ, suc, ◌+◌, ◌-◌, ◌≤◌, ◌<◌}
+use native.Mathlib.Nat.{suc_inj}
 use native.Mathlib.Numerals.{add-one}
 use native.Mathlib.Omega.{arith}
 use borrow.Author.Tests.{eq-eqb, ne_eqb, ltb-true}
@@ -13,7 +13,7 @@ use lib.ListN.{length, take, drop, set, replicate, drop_of_length-le, length-tak
 use lib.Seq.{append_snoc, drop-append-le, drop-drop, drop-set-lt, take-append-le, take-suc-set}
 use Rattle.text.specs.Writing.{newline}
 use Rattle.sheets.specs.Sheet.{admitted, sheet, bad}
-use Rattle.sheets.specs.Scanning.{whole, name_place, region_in, scan_of, region_of, takes, is_empty, ended, at_end, at_newline, read_from, read_of, first_line}
+use Rattle.sheets.specs.Scanning.{whole, name_place, region_in, region_of, takes, is_empty, ended, at_end, at_newline, read_from, read_of, first_line}
 use Rattle.sheets.specs.Scanning.{Lined, nowhere, refused_at, closed_at, answer_of, reading_of, Reads}
 use Rattle.sheets.specs.declared.Scan.{Scan}
 use Rattle.sheets.specs.declared.Region.{Region}
@@ -214,7 +214,7 @@ module _ {image : Bool} {text : List ℕ} {regions : List Region} {count i : ℕ
       let same : length (first_line (drop i text)) ≡ length (drop i text) = omega (arith, l.end_is, left_length, g.within) in
       let last = read_last image (take count regions) [] (drop i text) same in
       let old = begun (drop i text) (omega (arith, left_length)) in
-      bad_here (sym g.rest ∙ last ∙ rw (old, and_false, counted))
+      bad_here (sym g.rest ∙ last ∙ rw (old, and-false, counted))
 
   pub closed_end : length text ≤ i → image ≡ false → Reads image text (closed_at regions count i)
   unfolding at_end read_from is_empty
@@ -235,9 +235,8 @@ module _ {image : Bool} {text : List ℕ} {regions : List Region} {count i : ℕ
 
   -- a line that a newline ends
   module _ {s : Scan} {end : ℕ} (l : Lined text i s end) (h : end ≡ length text → ⊥) where
-    at_newline_lem : at_newline image (take count regions) line (drop (end + 1) text) (read_from image (take count regions ++ (region_of line ∷ [])) [] (drop (end +
-        1) text))
-        ≡ read_of image text
+    at_newline_lem : let before = take count regions in
+        at_newline image before line (drop (end + 1) text) (read_from image (before ++ (region_of line ∷ [])) [] (drop (end + 1) text)) ≡ read_of image text
     at_newline_lem =
         let n = length line in
         let short : length line < length (drop i text) = omega (arith, l.end_is, line_short l, left_length, g.within) in

@@ -1,8 +1,8 @@
 -- Records one after the other: the words of sheets.
 -- Assumes nothing.
-use mathlib.Core.Path.{◌≡◌, refl, sym, ap, ◌∙◌}
+use mathlib.Core.Path.{◌≡◌, refl, sym, ◌∙◌}
 use mathlib.Core.List.{List, [], ◌∷◌, ◌++◌, append_assoc, append-nil}
-use Prim.Native.Nat.{ℕ, ◌+◌, ◌*◌, ◌≤◌, ◌<◌}
+use Prim.Native.Nat.{ℕ, ◌+◌, ◌*◌, ◌<◌}
 use native.Mathlib.Numerals.{add-one}
 use native.Mathlib.Omega.{arith}
 use lib.ListN.{length, get_or, take, length-append}
@@ -19,7 +19,8 @@ pub words_snoc : (a : List Region) (r : Region) → sheet_words (a ++ (r ∷ [])
 unfolding sheet_words
 words_snoc a r = words_append a (r ∷ []) ∙ rw append-nil
 
-pub words_more : (rs : List Region) (d : Region) (i : ℕ) → i < length rs → sheet_words (take i rs) ++ record_words (get_or rs i d) ≡ sheet_words (take (i + 1) rs)
+pub words_more : (rs : List Region) (d : Region) (i : ℕ) → i < length rs
+    → sheet_words (take i rs) ++ record_words (get_or rs i d) ≡ sheet_words (take (i + 1) rs)
 words_more rs d i h = sym (rw (add-one i, take-suc rs i d h) (words_snoc (take i rs) (get_or rs i d)))
 
 pub record_length : (r : Region) → length (record_words r) ≡ 7

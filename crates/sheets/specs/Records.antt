@@ -1,6 +1,6 @@
 -- A region as a record of seven words, for C: the name's sixteen bytes in four words, the lowest first; start; length; rights. Document 02, 7.
 -- Assumes nothing.
-use Rattle.std.specs.Prelude.{Bool, true, false, cond, ◌&&◌, List, [], ◌∷◌, ◌++◌, ◌≡◌, ℕ, zero, suc, ◌+◌, ◌*◌, ◌/◌, ◌%◌, ◌^◌, ◌<◌, ltb, eqb, length, get_or}
+use Rattle.std.specs.Prelude.{Bool, true, cond, ◌&&◌, List, [], ◌∷◌, ◌++◌, ◌≡◌, ℕ, zero, suc, ◌+◌, ◌*◌, ◌/◌, ◌%◌, ◌^◌, ◌<◌, ltb, eqb, length, get_or}
 use Rattle.sheets.specs.Sheet.{follows, Regions, Answer, sheet, bad}
 use Rattle.sheets.specs.Scanning.{ended}
 use Rattle.sheets.specs.declared.Region.{Region}

@@ -1,6 +1,7 @@
 -- A sheet read line by line, and a line byte by byte: the state within a line, and the answer. What it reads is what the text says (`read_says`).
 -- Assumes nothing.
-use Rattle.std.specs.Prelude.{Bool, true, false, cond, ◌&&◌, not, List, [], ◌∷◌, ◌++◌, ◌≡◌, ℕ, zero, suc, ◌+◌, ◌-◌, ◌*◌, ◌%◌, ◌^◌, ◌≤◌, ltb, eqb, length, get_or, take, drop, replicate}
+use Rattle.std.specs.Prelude.{Bool, true, false, cond, ◌&&◌, not, List, [], ◌∷◌, ◌++◌, length, get_or, take, drop, replicate}
+use Rattle.std.specs.Prelude.{◌≡◌, ℕ, ◌+◌, ◌-◌, ◌*◌, ◌%◌, ◌^◌, ◌≤◌, ltb, eqb}
 use Rattle.text.specs.Digits.{digit_of}
 use Rattle.text.specs.Writing.{tab, newline}
 use Rattle.sheets.specs.Sheet.{most_regions, name_bytes, word, is_letter, admitted, Answer, sheet, bad}

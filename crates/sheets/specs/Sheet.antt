@@ -1,6 +1,6 @@
 -- Map sheets: a region, its line, the text of a sheet, which region may follow which, and the first bad line. Document 02, 7.
 -- Assumes nothing.
-use Rattle.std.specs.Prelude.{Bool, true, false, cond, ◌&&◌, ◌||◌, not, List, [], ◌∷◌, ◌++◌, ◌≡◌, ℕ, zero, suc, ◌+◌, ◌/◌, ◌%◌, ◌^◌, ◌<◌, ltb, leb, eqb, length, drop}
+use Rattle.std.specs.Prelude.{Bool, true, false, cond, ◌&&◌, ◌||◌, not, List, [], ◌∷◌, ◌++◌, ◌≡◌, ℕ, ◌+◌, ◌/◌, ◌%◌, ◌^◌, ◌<◌, ltb, leb, eqb, length, drop}
 use Rattle.text.specs.Digits.{digits}
 use Rattle.text.specs.Writing.{tab, newline}
 use Rattle.sheets.specs.declared.Region.{Region}

@@ -1,7 +1,6 @@
 -- `closed`: no region is a bad first line. Assumes nothing.
-use mathlib.Core.Path.{◌≡◌, ◌∙◌}
-use borrow.Author.Rules.{rules}
-use borrow.Author.Tests.{eq-eqb, ne_eqb}
+use mathlib.Core.Path.{◌∙◌}
+use borrow.Author.Tests.{ne_eqb}
 use Rattle.sheets.specs.Scanning.{closed_at}
 use Rattle.sheets.proofs.closed.Goals as goal
 

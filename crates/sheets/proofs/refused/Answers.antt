@@ -1,6 +1,4 @@
 -- `refused`: an array that holds no region. Assumes nothing.
-use mathlib.Core.Path.{◌≡◌}
-use borrow.Author.Rules.{rules}
 use Rattle.sheets.proofs.refused.Goals as goal
 
 pub returns : goal.returns

@@ -1,5 +1,4 @@
 -- `stops`: two tests. Assumes nothing.
-use borrow.Author.Rules.{rules}
 use Rattle.sheets.proofs.stops.Goals as goal
 
 pub returns-then-image : goal.returns-then-image

@@ -1,12 +1,9 @@
 -- `letters`: the loop keeps that the bytes passed are letters. Assumes nothing.
 use mathlib.Core.Path.{◌≡◌, sym, ◌∙◌}
-use Prim.Native.Nat.{◌+◌, ◌-◌, ◌≤◌}
 use native.Mathlib.Omega.{arith}
 use native.Mathlib.Nat.{zero-add}
-use borrow.Author.Rules.{rules}
 use borrow.Author.Tests.{not-true, not-false}
-use lib.ListN.{length, drop}
-use Rattle.sheets.specs.Sheet.{letters_of}
+use lib.ListN.{length}
 use Rattle.sheets.proofs.Lists.{letter_turn, letter_not, letter_end}
 use Rattle.sheets.proofs.names.letters.Goals as goal
 

@@ -1,13 +1,8 @@
 -- `letters`: the loop keeps that the bytes passed are letters. Assumes nothing.
-use mathlib.Core.Path.{◌≡◌, sym, ◌∙◌}
+use mathlib.Core.Path.{◌≡◌}
 use Prim.Native.Nat.{◌+◌, ◌-◌, ◌≤◌}
-use native.Mathlib.Omega.{arith}
-use native.Mathlib.Nat.{zero-add}
-use borrow.Author.Rules.{rules}
-use borrow.Author.Tests.{not-true, not-false}
 use lib.ListN.{length, drop}
 use Rattle.sheets.specs.Sheet.{letters_of}
-use Rattle.sheets.proofs.Lists.{letter_turn, letter_not, letter_end}
 use Rattle.sheets.proofs.names.letters.Given as goal
 
 abbrev pub invariant-loop-i : goal.invariant-loop-i

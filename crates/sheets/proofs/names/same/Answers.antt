@@ -1,9 +1,7 @@
 -- `same`: the loop keeps that the bytes passed are the same. Assumes nothing.
 use mathlib.Core.Path.{◌≡◌, refl, sym, ◌∙◌}
-use Prim.Native.Nat.{◌-◌, ◌≤◌}
 use native.Mathlib.Omega.{arith}
-use lib.ListN.{length, drop}
-use Rattle.sheets.specs.Sheet.{same}
+use lib.ListN.{length}
 use Rattle.sheets.proofs.Lists.{same_turn, same_end, same_not}
 use Rattle.sheets.proofs.names.same.Goals as goal
 

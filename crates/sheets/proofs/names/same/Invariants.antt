@@ -1,10 +1,8 @@
 -- `same`: the loop keeps that the bytes passed are the same. Assumes nothing.
-use mathlib.Core.Path.{◌≡◌, refl, sym, ◌∙◌}
+use mathlib.Core.Path.{◌≡◌}
 use Prim.Native.Nat.{◌-◌, ◌≤◌}
-use native.Mathlib.Omega.{arith}
-use lib.ListN.{length, drop}
+use lib.ListN.{drop}
 use Rattle.sheets.specs.Sheet.{same}
-use Rattle.sheets.proofs.Lists.{same_turn, same_end, same_not}
 use Rattle.sheets.proofs.names.same.Given as goal
 
 abbrev pub invariant-loop-i : goal.invariant-loop-i

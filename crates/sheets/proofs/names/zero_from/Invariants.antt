@@ -1,10 +1,8 @@
 -- `zero_from`: the loop keeps that the bytes passed are zero. Assumes nothing.
-use mathlib.Core.Path.{◌≡◌, refl, sym, ◌∙◌}
-use Prim.Native.Nat.{◌-◌, ◌≤◌}
-use native.Mathlib.Omega.{arith}
-use lib.ListN.{length, drop}
+use mathlib.Core.Path.{◌≡◌}
+use Prim.Native.Nat.{◌-◌}
+use lib.ListN.{drop}
 use Rattle.sheets.specs.Sheet.{all_zero}
-use Rattle.sheets.proofs.Lists.{zero_turn, zero_not, zero_end}
 use Rattle.sheets.proofs.names.zero_from.Given as goal
 
 abbrev pub invariant-loop-i : goal.invariant-loop-i

@@ -1,5 +1,4 @@
 -- `advance`: an arm a field. Assumes nothing.
-use borrow.Author.Rules.{rules}
 use Rattle.text.proofs.Tests.{tests}
 use Rattle.sheets.specs.Scanning.{advanced}
 use Rattle.sheets.proofs.scanning.advance.Goals as goal

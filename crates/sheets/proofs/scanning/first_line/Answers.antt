@@ -1,14 +1,14 @@
 -- `first_line`: the loop keeps that what is left of the line leads where the whole line does. Assumes nothing.
 use mathlib.Core.Path.{ap}
-use mathlib.Core.Path.{◌≡◌, refl, sym, ◌∙◌}
-use Prim.Native.Nat.{◌+◌, ◌-◌, ◌≤◌}
+use mathlib.Core.Path.{refl, sym, ◌∙◌}
+use Prim.Native.Nat.{◌+◌}
 use native.Mathlib.Nat.{add-zero}
 use native.Mathlib.Omega.{arith}
 use borrow.Author.Rules.{rules}
 use lib.ListN.{length, drop}
 use Rattle.sheets.proofs.Lists.{line_turn, line_newline, line_end}
 use Rattle.sheets.specs.declared.Scan.{Scan}
-use Rattle.sheets.specs.Scanning.{start_scan, line_read, first_line}
+use Rattle.sheets.specs.Scanning.{line_read, first_line}
 use Rattle.sheets.proofs.scanning.first_line.Goals as goal
 
 pub loop-i-init : goal.loop-i-init

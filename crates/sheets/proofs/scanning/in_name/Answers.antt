@@ -1,5 +1,4 @@
 -- `in_name`: a letter, of which there are at most sixteen, or the tab after at least one. Assumes nothing.
-use borrow.Author.Rules.{rules}
 use Rattle.text.proofs.Tests.{tests}
 use Rattle.sheets.specs.Scanning.{in_name}
 use Rattle.sheets.proofs.scanning.in_name.Goals as goal

@@ -1,5 +1,4 @@
 -- `in_rights`: a letter after those before it, in the order r, w, x. Assumes nothing.
-use borrow.Author.Rules.{rules}
 use borrow.Author.Tests.{lt-ltb, le-ltb}
 use Rattle.sheets.specs.Scanning.{in_rights}
 use Rattle.sheets.proofs.scanning.in_rights.Goals as goal

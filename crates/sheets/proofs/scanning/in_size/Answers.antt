@@ -1,5 +1,4 @@
 -- `in_size`: a digit, of which there are eight, or the tab after them. Assumes nothing.
-use borrow.Author.Rules.{rules}
 use Rattle.text.proofs.Tests.{tests}
 use Rattle.sheets.specs.Scanning.{in_size}
 use Rattle.sheets.proofs.scanning.in_size.Goals as goal

@@ -1,5 +1,4 @@
 -- `in_start`: a digit, of which there are eight, or the tab after them. Assumes nothing.
-use borrow.Author.Rules.{rules}
 use Rattle.text.proofs.Tests.{tests}
 use Rattle.sheets.specs.Scanning.{in_start}
 use Rattle.sheets.proofs.scanning.in_start.Goals as goal

@@ -1,5 +1,4 @@
 -- `in_word`: the next byte of the word, or the tab after it. Assumes nothing.
-use borrow.Author.Rules.{rules}
 use Rattle.text.proofs.Tests.{tests}
 use Rattle.sheets.specs.Scanning.{in_word}
 use Rattle.sheets.proofs.scanning.in_word.Goals as goal

@@ -2,7 +2,6 @@
 use Prim.Native.Nat.{◌+◌, ◌^◌}
 use native.Mathlib.Omega.{arith}
 use borrow.Author.Tests.{lt-ltb, le-ltb, le-leb, lt-leb}
-use borrow.Author.Rules.{rules}
 use Rattle.sheets.proofs.Lists.{taken_length, full_length}
 use Rattle.sheets.specs.Sheet.{admitted}
 use Rattle.sheets.proofs.tests.admits.Goals as goal

@@ -1,11 +1,8 @@
 -- `clashes`: the loop keeps that no region passed clashes. Assumes nothing.
 use mathlib.Core.Path.{◌≡◌, refl, sym, ◌∙◌}
-use Prim.Native.Nat.{◌-◌, ◌≤◌}
 use native.Mathlib.Omega.{arith}
-use borrow.Author.Rules.{rules}
-use lib.ListN.{length, drop, take}
+use lib.ListN.{length}
 use Rattle.sheets.proofs.Lists.{clashes_turn, clashes_here, clashes_end}
-use Rattle.sheets.specs.Sheet.{clashes}
 use Rattle.sheets.proofs.tests.clashes.Goals as goal
 
 pub loop-i-init : goal.loop-i-init

@@ -1,10 +1,7 @@
 -- `clashes`: the loop keeps that no region passed clashes. Assumes nothing.
-use mathlib.Core.Path.{◌≡◌, refl, sym, ◌∙◌}
+use mathlib.Core.Path.{◌≡◌}
 use Prim.Native.Nat.{◌-◌, ◌≤◌}
-use native.Mathlib.Omega.{arith}
-use borrow.Author.Rules.{rules}
-use lib.ListN.{length, drop, take}
-use Rattle.sheets.proofs.Lists.{clashes_turn, clashes_here, clashes_end}
+use lib.ListN.{drop, take}
 use Rattle.sheets.specs.Sheet.{clashes}
 use Rattle.sheets.proofs.tests.clashes.Given as goal
 

@@ -1,5 +1,4 @@
 -- `follows`: two tests. Assumes nothing.
-use borrow.Author.Rules.{rules}
 use Rattle.sheets.specs.Sheet.{follows}
 use Rattle.sheets.proofs.tests.follows.Goals as goal
 

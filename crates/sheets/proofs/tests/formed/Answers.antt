@@ -2,7 +2,6 @@
 use Prim.Native.Nat.{◌^◌}
 use native.Mathlib.Omega.{arith}
 use borrow.Author.Tests.{lt-ltb, le-ltb, eq-eqb}
-use borrow.Author.Rules.{rules}
 use lib.ListN.{length}
 use Rattle.sheets.specs.Sheet.{formed, name_of}
 use Rattle.sheets.proofs.tests.formed.Goals as goal
