@@ -1,7 +1,6 @@
 -- The bytes of any words are read as these words; so what assembles lists as the same text.
-use Rattle.std.proofs.Common.{◌≡◌, ℕ, zero, suc, ◌+◌, ◌*◌, ◌/◌, ◌%◌, ◌^◌, ◌<◌, ◌≤◌, Bool, true, false, cond, eqb, ltb, List, [], ◌∷◌, ◌++◌, length, get_or, take, drop, sym, refl, ap, ◌∙◌, append_assoc, append-nil, add-zero, mod-lt, arith, length-append, drop_of_length-le, get_or-append-add, eq-eqb, ne_eqb, eqb-true, le-leb}
+use Rattle.std.proofs.Common.{◌≡◌, ℕ, zero, suc, ◌+◌, ◌*◌, ◌/◌, ◌%◌, ◌^◌, ◌<◌, ◌≤◌, true, eqb, ltb, List, [], ◌∷◌, ◌++◌, length, get_or, drop, sym, refl, ap, ◌∙◌, append_assoc, append-nil, add-zero, arith, length-append, drop_of_length-le, get_or-append-add, eq-eqb, ne_eqb, eqb-true, le-leb}
 use borrow.Author.Tests.{eqb-false}
-use Rattle.words.specs.Words.{wrap, le16, le32}
 use Rattle.words.proofs.Word.{by_test}
 use Rattle.text.specs.Digits.{minus}
 use Rattle.text.specs.Writing.{tab, newline}
@@ -10,7 +9,7 @@ use Rattle.forms.specs.Encoding.{encode_of}
 use Rattle.forms.specs.ShortShapes.{Word}
 use Rattle.listing.specs.Walking.{walk_from, spread}
 use Rattle.listing.specs.Code.{size_at, word_at, whole_at, words_at, end_at, text_of, listing_of}
-use Rattle.listing.specs.Reading.{start, operand_of, pushed, weight_of, hex_of, named, negated, counted, stepped, scanned, meant, candidate_of}
+use Rattle.listing.specs.Reading.{start, pushed, hex_of, named, negated, counted, stepped, scanned, meant}
 use Rattle.listing.specs.Assembling.{line_word, line_size, line_good, read_at, bad_at, bytes_of, code_of, assembly_of}
 use Rattle.listing.specs.declared.Scan.{Scan}
 use Rattle.listing.proofs.Again.{candidate_word}

@@ -1,5 +1,4 @@
 -- The claim's parts, each proved where it belongs.
-use Rattle.std.proofs.Common.{◌≡◌}
 use Rattle.listing.specs.Claims.{ListingClaim}
 use Rattle.listing.proofs.Again.{chosen_line, line_injective, same_instruction, listed_by_name}
 use Rattle.listing.proofs.Promises.{text_is, bad_line}

@@ -1,5 +1,5 @@
 -- Equality of lists as a test.
-use Rattle.std.proofs.Common.{◌≡◌, ℕ, Bool, true, false, ◌&&◌, T, eqb, List, [], ◌∷◌, refl, eqb→eq, eq-eqb}
+use Rattle.std.proofs.Common.{◌≡◌, ℕ, true, T, eqb, List, [], ◌∷◌, refl, eqb→eq, eq-eqb}
 use Rattle.choices.proofs.Every.{and_left, and_right}
 use Rattle.listing.specs.Assembling.{same}
 

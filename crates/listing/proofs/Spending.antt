@@ -1,5 +1,5 @@
 -- Room counted down: enough for two texts one after the other exactly where it is enough for the first, and what is left then for the second.
-use Rattle.std.proofs.Common.{◌≡◌, ℕ, ◌+◌, ◌-◌, ◌≤◌, Bool, true, false, cond, ◌&&◌, leb, List, [], sym, refl, ap, ◌∙◌, arith, le-leb, leb-false, leb-true}
+use Rattle.std.proofs.Common.{◌≡◌, ℕ, ◌+◌, ◌-◌, ◌≤◌, leb, sym, refl, arith, le-leb, leb-false, leb-true}
 use borrow.Author.Tests.{lt-leb}
 use Rattle.words.proofs.Word.{by_test}
 use Rattle.listing.specs.Rooms.{room_for, spent}

@@ -1,6 +1,5 @@
 -- What lister and assembler come to, in terms of words, their lines and their bytes alone (document 02, 11).
 use Rattle.std.specs.Prelude.{◌≡◌, ℕ, ◌<◌, cond, List, ◌++◌, map, length, drop, ◌≢◌, slice_index}
-use Rattle.instructions.specs.declared.Instruction.{Instruction}
 use Rattle.short_forms.specs.Meaning.{is_legal}
 use Rattle.text.specs.Digits.{digits}
 use Rattle.forms.specs.Rows.{name_of}
