@@ -61,7 +61,7 @@ def read(path):
 
 def files(*patterns):
     found = [f for p in patterns for f in glob.glob(os.path.join(ROOT, p), recursive=True)]
-    return sorted(os.path.relpath(f, ROOT) for f in found if os.path.isfile(f) and not MADE.search(f))
+    return sorted(path for f in found if os.path.isfile(f) and not MADE.search(path := os.path.relpath(f, ROOT)))
 
 
 def documents():
