@@ -1,5 +1,5 @@
 /* The label station: reads requests and prints their cuts, as the cutting program does, by way of the C
- * library. Build it at the repository's root, after `rt staticlib label`:
+ * library. Build it at the repository's root, after `packaging/proved label`:
  *
  *   gcc -std=c11 -O2 -Wall -Wextra -Werror -Iinclude examples/label_station.c \
  *       target/staticlib/liblabel.a -o target/label_station

@@ -5,12 +5,12 @@
  * one that is written overlaps no other of the same call. What each function answers is proved; "number"
  * below is document 01's number of an answer, 0 where nothing is refused.
  *
- *   libraries: `rt staticlib label` has the first six functions (target/staticlib/liblabel.a),
- *   `rt staticlib call_lists` oddersnow_calls (target/staticlib/libcall_lists.a), `rt staticlib bench_api`
+ *   libraries: `packaging/proved label` has the first six functions (target/staticlib/liblabel.a),
+ *   `packaging/proved call_lists` oddersnow_calls (target/staticlib/libcall_lists.a), `packaging/proved bench_api`
  *   oddersnow_step, oddersnow_run, oddersnow_run_watched, oddersnow_run_quick and oddersnow_sweep (target/staticlib/libbench_api.a),
- *   `rt staticlib sheet_api` the functions about sheets (target/staticlib/libsheet_api.a), `rt staticlib listing_api` oddersnow_list and
- *   oddersnow_assemble (target/staticlib/liblisting_api.a), `rt staticlib reach` oddersnow_reach and oddersnow_reach_outside
- *   (target/staticlib/libreach.a). A program may link all of them.
+ *   `packaging/proved sheet_api` the functions about sheets (target/staticlib/libsheet_api.a), `packaging/proved listing_api`
+ *   oddersnow_list and oddersnow_assemble (target/staticlib/liblisting_api.a), `packaging/proved reach` oddersnow_reach and
+ *   oddersnow_reach_outside (target/staticlib/libreach.a). A program may link all of them.
  */
 #ifndef ODDERSNOW_H
 #define ODDERSNOW_H

@@ -178,20 +178,19 @@ nothing_added() {
 
 # A repository of four crates with an rt and a build of our own, which take seconds instead of minutes.
 small_repository() { # FOLDER
-  mkdir -p "$1/host/bench/src" "$1/kit" && cp bench "$1" &&
-    printf 'low:\nother:  # nobody leans on it\nlabel: low\nbench_api: low label\nsheet_api: low\nlisting_api: low\nreach: low\n' >"$1/crates.txt"
+  mkdir -p "$1/host/bench/src" "$1/kit" && cp --parents bench packaging/proved "$1" &&
+    printf '%s\n' low: 'other:  # nobody leans on it' {label,bench_api,sheet_api,listing_api,reach}_c' staticlib: low' >"$1/crates.txt"
   local crate
-  for crate in low label bench_api sheet_api listing_api reach; do mkdir -p "$1/crates/$crate/src"; done
+  for crate in low {label,bench_api,sheet_api,listing_api,reach}_c; do mkdir -p "$1/crates/$crate/src"; done
   cat >"$1/kit/rt" <<'RT'
 #!/usr/bin/env bash
-mkdir -p target/log target/staticlib
-if [ "$1" = check ]; then
-  : >target/log/low.out
+[ "$1" = lib ] || exit 2
+name=$(basename "$PWD")
+if [ "$name" = low ]; then
   sleep 5
-  echo "rt: low ${VERDICT:-proved} (5 s)" | tee target/log/low.out
   [ -z "${VERDICT:-}" ]
 else
-  touch "target/staticlib/lib$2.a"
+  mkdir -p out && touch "out/lib$name.a"
 fi
 RT
   cat >"$1/host/bench/build.sh" <<'BUILD'
@@ -231,7 +230,7 @@ older_than_sources() { # after progress_shown
   [ "$(in_small ./bench --missing | tr '\n' ' ')" = "library label library bench_api library sheet_api library listing_api library reach command " ]
 }
 failure_named() { # after older_than_sources
-  VERDICT="NOT PROVED" in_small ./bench cut 1 2 >"$work/out" 2>"$work/err"
+  VERDICT=bad in_small ./bench cut 1 2 >"$work/out" 2>"$work/err"
   [ $? -eq 4 ] && [ ! -s "$work/out" ] && says "$work/err" "not built" "rt: low NOT PROVED"
 }
 

@@ -221,7 +221,7 @@ def speed(requests):
 
 def main():
     os.chdir(ROOT)
-    if command("rt", "check", "cut") and (LIBRARIES or command("rt", "staticlib", "label")):
+    if command("packaging/proved", "cut") and (LIBRARIES or command("packaging/proved", "label")):
         if compiled("examples/label_station.c", STATION) and compiled("tests/label_numbers.c", NUMBERS):
             checks()
     print("%d failed" % len(failed) if failed else "all passed")

@@ -31,13 +31,15 @@ import sys
 
 ROOT = os.path.dirname(os.path.dirname(os.path.abspath(__file__)))
 WIDTH = 160
+# Folders of what rt and cargo make.
+MADE = re.compile(r"/target/|^crates/\w+/out/")
 CODE = ("rt", "antt", "rs", "sh", "py", "c", "h", "S", "s", "inc")
 LITERAL = re.compile(r'\s*\*?b?"[^"]*"[;,]?')
 
 # Names in backticks that are not of this repository, by what they are. One that no document uses is reported.
 ALLOWED = {
-    "the kit's": """bitAnd bitOr bitXor getD set cond eqb leb ltb ensures requires rt u32::leading_zeros wrapping_add_u32
-        wrapping_sub_u32 returns-5 libc::read io::write_all""",
+    "the kit's": """bit_and bit_or bit_xor get_or slice_index slice_set cond eqb leb ltb ensures requires rt u32::leading_zeros
+        wrapping_add_u32 wrapping_sub_u32 libc::read io::write_all""",
     "the report's": "setCapBounds getCapLength",
     "words of a format, of an option or of a pattern": """c0 c15 word66 word72 mshwm mshwmb imm type cap explain _ STACK_END outside marked
         later exit astray waits stuck unhandled""",
@@ -59,7 +61,7 @@ def read(path):
 
 def files(*patterns):
     found = [f for p in patterns for f in glob.glob(os.path.join(ROOT, p), recursive=True)]
-    return sorted(os.path.relpath(f, ROOT) for f in found if os.path.isfile(f) and "/target/" not in f)
+    return sorted(path for f in found if os.path.isfile(f) and not MADE.search(path := os.path.relpath(f, ROOT)))
 
 
 def documents():
@@ -108,7 +110,7 @@ class Tree:
     """The names of each crate, and those of the rest."""
 
     def __init__(self):
-        self.crates = {name: set() for name in re.findall(r"(?m)^(\w+):", read("crates.txt"))}
+        self.crates = {name: set() for name in re.findall(r"(?m)^(\w+)(?: staticlib)?:", read("crates.txt"))}
         self.edits = set()
         for crate, names in self.crates.items():
             for f in files(f"crates/{crate}/specs/**/*.antt", f"crates/{crate}/proofs/**/*.antt"):
@@ -400,14 +402,14 @@ WHOLE = ["3: crate machine has no `OTHER`, which is elsewhere", "3: crate machin
          "3: crate state has no file NoSuchFile", "4: no `no-such-mutant`"]
 
 MADE_UP_GUARANTEE = """## What is proved
-- This is so (`refusal-is`, machine_laws/proofs/Refusals; `step`, machine/src/lib). This is not
-  (see it). That is elsewhere (`refusal-is`, machine_laws/proofs/Runs), or nowhere (`refusal-is`, machine_laws/proofs/NoSuch).
+- This is so (`refusal_is`, machine_laws/proofs/Refusals; `step`, machine/src/lib). This is not
+  (see it). That is elsewhere (`refusal_is`, machine_laws/proofs/Runs), or nowhere (`refusal_is`, machine_laws/proofs/NoSuch).
 ## What is tested only
 - That (tests/docs.sh).
 - This.
 """
-UNCITED = ["2: nothing stands behind 'This is not (see it).'", "2: crates/machine_laws/proofs/Runs.antt has no `refusal-is`",
-           "2: no file in (`refusal-is`, machine_laws/proofs/NoSuch)", "6: nothing stands behind 'This.'"]
+UNCITED = ["2: nothing stands behind 'This is not (see it).'", "2: crates/machine_laws/proofs/Runs.antt has no `refusal_is`",
+           "2: no file in (`refusal_is`, machine_laws/proofs/NoSuch)", "6: nothing stands behind 'This.'"]
 
 
 def wrong_papers(tree):

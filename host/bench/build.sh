@@ -15,6 +15,6 @@ if [ ${#missing[@]} -gt 0 ]; then
 fi
 if [ "${1:-}" = crates ]; then exec cargo build --release "${crates[@]/#/-p}"; fi
 if [ -z "${ODDERSNOW_STATICLIB:-}" ]; then
-  (cd ../.. && for name in label bench_api sheet_api listing_api reach; do rt staticlib "$name"; done)
+  ../../packaging/proved label bench_api sheet_api listing_api reach
 fi
 cargo build --release

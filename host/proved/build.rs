@@ -1,5 +1,5 @@
 //! Links the proved static libraries into whatever calls them. They are in the directory that
-//! ODDERSNOW_STATICLIB names, else where `rt staticlib` writes them.
+//! ODDERSNOW_STATICLIB names, else where `packaging/proved` writes them.
 
 use std::env;
 use std::path::{absolute, PathBuf};
@@ -28,7 +28,7 @@ fn main() {
             println!("cargo::rustc-link-lib=static={library}");
         } else {
             // Only a warning: what calls none of its functions is built without it.
-            let made = format!("`rt staticlib {library}` makes it");
+            let made = format!("`packaging/proved {library}` makes it");
             println!("cargo::warning=no {}: {made}", archive.display());
         }
     }

@@ -1,5 +1,5 @@
--- A jump as the report alone has it, with no edition told; edition 0 is this (law `report_jump_lem`). And what is said of return sentries. CHERIoT report, 7.13.2
--- and 9.4 (CJAL, CJALR); document 02, 8. Assumes nothing.
+-- A jump as the report alone has it, with no edition told; edition 0 is this (law `report_jump_lem`). And what is said of return sentries. CHERIoT report,
+-- 7.13.2 and 9.4 (CJAL, CJALR); document 02, 8. Assumes nothing.
 use Rattle.std.specs.Prelude.{◌≡◌, ℕ, ◌+◌, ◌*◌, ◌/◌, not, ◌&&◌, ◌||◌, List, ◌==◌}
 use Rattle.words.specs.Words.{wrap}
 use Rattle.metadata.specs.Word.{type_of}

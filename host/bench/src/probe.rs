@@ -102,7 +102,7 @@ const ONE: Counts = Counts {
 
 /// Whether the timer interrupts one of the next so many steps, if nothing but time changes: a step is made with a state's
 /// control words, at the time of the last of them. Once it is time, the timer interrupts at every later time too, up to
-/// the last before time begins anew (law `unreached-run`); so that one is asked for as well, where they go past it.
+/// the last before time begins anew (law `unreached_run`); so that one is asked for as well, where they go past it.
 pub fn interrupts_within(state: &State, steps: u64) -> bool {
     let Some(more) = steps.checked_sub(1) else {
         return false;

@@ -1,4 +1,4 @@
-//! Runs one part against the proved machine (`rt staticlib bench_api`) or the proved lister (`rt staticlib
+//! Runs one part against the proved machine (`packaging/proved bench_api`) or the proved lister (`packaging/proved
 //! listing_api`): `published PART`; or with the second program in its place: `published PART second`.
 
 use compare::conclude;

@@ -1,4 +1,4 @@
-//! Searches the runs of the proved machine (`rt staticlib bench_api`) for gained authority, and
+//! Searches the runs of the proved machine (`packaging/proved bench_api`) for gained authority, and
 //! prints what was reached.
 //!
 //! `authority [--cases N] [--seed S]`, or `authority --replay FILE` for one case as text.

@@ -1,4 +1,4 @@
-//! Compares the proved lists of calls (`rt staticlib call_lists`) with the second program.
+//! Compares the proved lists of calls (`packaging/proved call_lists`) with the second program.
 //!
 //! `calls [--cases N] [--seed S]`
 

@@ -1,4 +1,4 @@
-//! Compares the proved cutter and bounds lookup (`rt staticlib label`) with the second program.
+//! Compares the proved cutter and bounds lookup (`packaging/proved label`) with the second program.
 //!
 //! `capability [--cases N] [--seed S]`
 

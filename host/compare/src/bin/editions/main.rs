@@ -1,4 +1,4 @@
-//! Compares the proved machine (`rt staticlib bench_api`) with the second program on the whole table of
+//! Compares the proved machine (`packaging/proved bench_api`) with the second program on the whole table of
 //! jumps of both editions, and prints what was taken.
 //!
 //! `editions`, or `editions --replay FILE` for one case as text.

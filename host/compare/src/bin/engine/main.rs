@@ -1,4 +1,4 @@
-//! Compares both proved engines (`rt staticlib bench_api`) with the second program on long runs with a watch record.
+//! Compares both proved engines (`packaging/proved bench_api`) with the second program on long runs with a watch record.
 //!
 //! `engine [--cases N] [--seed S]`
 

@@ -1,4 +1,4 @@
-//! Compares the proved machine (`rt staticlib bench_api`) with the second program on every short word, and
+//! Compares the proved machine (`packaging/proved bench_api`) with the second program on every short word, and
 //! prints what the cases reached.
 //!
 //! `halves [--cases N] [--seed S]`, or `halves --replay FILE` for one case as text.

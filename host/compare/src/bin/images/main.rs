@@ -1,4 +1,4 @@
-//! Compares the proved choice of an image (`rt staticlib sheet_api`) with the second program: images
+//! Compares the proved choice of an image (`packaging/proved sheet_api`) with the second program: images
 //! and boards of every kind, then every place around the edges of board regions.
 //!
 //! `images [--cases N] [--seed S]`

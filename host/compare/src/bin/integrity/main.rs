@@ -1,4 +1,4 @@
-//! Runs both proved engines (`rt staticlib bench_api`) from random starts: no byte of which the proved search (`rt staticlib
+//! Runs both proved engines (`packaging/proved bench_api`) from random starts: no byte of which the proved search (`packaging/proved
 //! reach`) says that nothing held may store there changes.
 //!
 //! `integrity [--cases N] [--seed S]`

@@ -1,4 +1,4 @@
-//! Compares the proved lister and assembler (`rt staticlib listing_api`) with the second program.
+//! Compares the proved lister and assembler (`packaging/proved listing_api`) with the second program.
 //!
 //! `listing [--cases N] [--seed S]`
 

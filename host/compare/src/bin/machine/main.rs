@@ -1,4 +1,4 @@
-//! Compares the proved machine (`rt staticlib bench_api`) with the second program, and prints
+//! Compares the proved machine (`packaging/proved bench_api`) with the second program, and prints
 //! what the cases reached.
 //!
 //! `machine [--cases N] [--seed S]`, or `machine --replay FILE` for one case as text.

@@ -1,4 +1,4 @@
-//! Compares the proved searches for capabilities (`rt staticlib reach`), of all places and from outside the range, with the
+//! Compares the proved searches for capabilities (`packaging/proved reach`), of all places and from outside the range, with the
 //! second program's.
 //!
 //! `reach [--cases N] [--seed S]`

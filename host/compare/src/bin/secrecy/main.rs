@@ -1,5 +1,5 @@
-//! Runs both proved engines (`rt staticlib bench_api`) from pairs of random starts, which are alike but where the proved search
-//! (`rt staticlib reach`) says that nothing held outside may load: nothing tells them apart.
+//! Runs both proved engines (`packaging/proved bench_api`) from pairs of random starts, which are alike but where the proved search
+//! (`packaging/proved reach`) says that nothing held outside may load: nothing tells them apart.
 //!
 //! `secrecy [--cases N] [--seed S]`
 

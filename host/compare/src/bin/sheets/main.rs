@@ -1,4 +1,4 @@
-//! Compares the proved reader, writer and comparison of map sheets (`rt staticlib sheet_api`) with the
+//! Compares the proved reader, writer and comparison of map sheets (`packaging/proved sheet_api`) with the
 //! second program: sheets of every kind, then good ones with every damage of one byte and every room.
 //!
 //! `sheets [--cases N] [--seed S]`; a damaged sheet for every thousand cases

@@ -1,4 +1,4 @@
-//! Compares the proved sweeper (`rt staticlib bench_api`) with the second program: visits and passes of
+//! Compares the proved sweeper (`packaging/proved bench_api`) with the second program: visits and passes of
 //! every kind, then passes over 1 MiB.
 //!
 //! `sweep [--cases N] [--seed S]`

@@ -1,4 +1,4 @@
-//! Compares the proved machine's runs with a watch record (`rt staticlib bench_api`) with the second program's.
+//! Compares the proved machine's runs with a watch record (`packaging/proved bench_api`) with the second program's.
 //!
 //! `watch [--cases N] [--seed S]`
 
