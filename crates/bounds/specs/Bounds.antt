@@ -1,6 +1,6 @@
 -- The bounds that a metadata word's E, T and B give at an address. Document 01, "Capability word"; CHERIoT report, 7.13.3 and Appendix A, getCapBoundsBits.
 -- Assumes nothing.
-use Rattle.std.specs.Prelude.{◌≡◌, ℕ, ◌+◌, ◌-◌, ◌*◌, ◌/◌, ◌%◌, ◌^◌, ◌<◌, ◌≤◌, Bool, true, false, cond, ◌==◌, nat_lt}
+use Rattle.std.specs.Prelude.{◌≡◌, ℕ, ◌+◌, ◌-◌, ◌*◌, ◌/◌, ◌%◌, ◌^◌, ◌<◌, ◌≤◌, cond, ◌==◌, nat_lt}
 use Rattle.metadata.specs.Word.{scale_of, top_of, base_of}
 use Rattle.bounds.specs.declared.Region.{Region}
 

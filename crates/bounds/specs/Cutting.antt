@@ -1,10 +1,9 @@
 -- The cut of a request [base, end): document 01, "Cutting bounds". The answer to a request of two words: document 01, "Answers", numbers 0 and 6.
 -- Assumes nothing.
-use Rattle.std.specs.Prelude.{◌≡◌, ℕ, zero, suc, ◌+◌, ◌-◌, ◌*◌, ◌/◌, ◌%◌, ◌^◌, Bool, true, false, cond, ◌&&◌, ◌==◌, nat_le, nat_lt}
+use Rattle.std.specs.Prelude.{◌≡◌, ℕ, zero, suc, ◌+◌, ◌-◌, ◌*◌, ◌/◌, ◌%◌, ◌^◌, Bool, cond, ◌&&◌, ◌==◌, nat_le, nat_lt}
 use Rattle.std.specs.Int.Count.{count_leading_zeros}
 use Rattle.metadata.specs.Word.{with_bounds}
 use Rattle.bounds.specs.Bounds.{low_at, high_at}
-use Rattle.bounds.specs.declared.Region.{Region}
 use Rattle.bounds.specs.declared.CutAnswer.{CutAnswer}
 use Rattle.bounds.specs.declared.CutAnswer.TheVariants.{Cut, PastEnd}
 

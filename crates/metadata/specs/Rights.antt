@@ -1,6 +1,6 @@
 -- The twelve rights, the six stored bits that hold them, and narrowing. Document 01, "Capability word"; CHERIoT report, 7.13.1 and Appendix A.
 -- Assumes nothing.
-use Rattle.std.specs.Prelude.{Bool, true, false, cond, ◌&&◌, ◌||◌, ◌≡◌, ℕ, ◌+◌, ◌-◌, ◌*◌, ◌/◌, ◌%◌, ◌^◌, eqb}
+use Rattle.std.specs.Prelude.{Bool, cond, ◌&&◌, ◌||◌, ◌≡◌, ℕ, ◌+◌, ◌-◌, ◌*◌, ◌/◌, ◌%◌, ◌^◌, eqb}
 use Rattle.std.specs.Int.Bits.{bit_and}
 use Rattle.metadata.specs.Word.{permissions_of, with_permissions}
 

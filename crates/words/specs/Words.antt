@@ -1,5 +1,5 @@
 -- Words of 32 bits as numbers below 2 ^ 32: what the integer instructions compute, bytes of a list, one bit of a list of bytes.
-use Rattle.std.specs.Prelude.{ℕ, zero, suc, ◌+◌, ◌-◌, ◌*◌, ◌/◌, ◌%◌, ◌^◌, ◌<◌, Bool, cond, List, set, nat_lt, slice_index, slice_set}
+use Rattle.std.specs.Prelude.{ℕ, zero, suc, ◌+◌, ◌-◌, ◌*◌, ◌/◌, ◌%◌, ◌^◌, ◌<◌, Bool, cond, List, nat_lt, slice_index, slice_set}
 
 -- a sum or a product as the word that is left of it
 abbrev pub wrap : ℕ → ℕ

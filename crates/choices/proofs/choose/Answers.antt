@@ -1,6 +1,5 @@
 -- By the test.
 use native.Mathlib.Omega.{arith}
-use borrow.Author.Rules.{rules}
 use Rattle.choices.proofs.choose.Goals as goal
 
 pub returns-then-test : goal.returns-then-test

@@ -1,5 +1,5 @@
 -- `cut`: the test decides which of the two answers of the definition it is. Assumes nothing.
-use Rattle.std.proofs.Common.{◌+◌, ◌^◌, rules, le-ltb, lt-ltb}
+use Rattle.std.proofs.Common.{◌+◌, ◌^◌, le-ltb, lt-ltb}
 use Rattle.bounds.specs.Cutting.{cut_of}
 use Rattle.bounds.proofs.Answers.{answer_promised}
 use Rattle.bounds.proofs.cutting.cut.Goals as goal

@@ -1,7 +1,6 @@
 -- `cut_within`: the bounds of the cut's own word at the base, compared with the request. Assumes nothing.
 use Rattle.bounds.specs.Cutting.{cut_low, cut_high, cut_exact}
 use Rattle.bounds.specs.Bounds.{bounds_of}
-use Rattle.std.proofs.Common.{rules}
 use Rattle.bounds.proofs.cutting.cut_within.Goals as goal
 
 pub returns : goal.returns

@@ -1,6 +1,5 @@
 -- `fits_at`: both ends in whole units. Assumes nothing.
 use Rattle.bounds.specs.Cutting.{fits_at, floor_at}
-use Rattle.std.proofs.Common.{rules}
 use Rattle.bounds.proofs.cutting.fits_at.Goals as goal
 
 pub returns : goal.returns

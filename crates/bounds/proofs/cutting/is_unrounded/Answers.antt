@@ -1,6 +1,5 @@
 -- `is_unrounded`: the two roundings at the cut's exponent, compared. Assumes nothing.
 use Rattle.bounds.specs.Cutting.{unrounded, floor_at}
-use Rattle.std.proofs.Common.{rules}
 use Rattle.bounds.proofs.cutting.is_unrounded.Goals as goal
 
 pub returns : goal.returns

@@ -1,5 +1,5 @@
 -- `suggestion`: a difference of natural numbers is 0 where the second is the larger. Assumes nothing.
-use Rattle.std.proofs.Common.{refl, arith, rules}
+use Rattle.std.proofs.Common.{refl, arith}
 use Rattle.bounds.specs.Cutting.{suggestion}
 use Rattle.bounds.proofs.cutting.suggestion.Goals as goal
 

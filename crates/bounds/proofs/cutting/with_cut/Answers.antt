@@ -1,5 +1,5 @@
 -- `with_cut`: the three fields; that each fits its place spares the remainders that joining takes. Assumes nothing.
-use Rattle.std.proofs.Common.{◌+◌, mod-eq_of_lt, rules}
+use Rattle.std.proofs.Common.{◌+◌, mod-eq_of_lt}
 use native.Mathlib.Nat.{mod-mod}
 use Rattle.bounds.specs.Cutting.{with_cut, cut_top, cut_base, floor_at, ceil_at}
 use Rattle.bounds.proofs.Program.{cut_field_lt}

@@ -1,7 +1,6 @@
 -- `bounds`: the base's unit shifted to its address, and the span above it. Assumes nothing.
 use Rattle.bounds.specs.Bounds.{bounds_of, low_at, high_at}
 use Rattle.bounds.proofs.Wrapped.{low_start, high_start}
-use Rattle.std.proofs.Common.{rules}
 use Rattle.bounds.proofs.decoding.bounds.Goals as goal
 
 pub returns : goal.returns

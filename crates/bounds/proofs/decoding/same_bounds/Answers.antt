@@ -1,5 +1,5 @@
 -- `same_bounds`: the law that both bounds stay exactly at exponent 24 or in the same block, as a test. Assumes nothing.
-use Rattle.std.proofs.Common.{arith, rules, eq-eqb, ne_eqb}
+use Rattle.std.proofs.Common.{arith, eq-eqb, ne_eqb}
 use Rattle.bounds.proofs.Blocks.{same_test}
 use Rattle.bounds.proofs.decoding.same_bounds.Goals as goal
 

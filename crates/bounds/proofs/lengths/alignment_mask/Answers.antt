@@ -1,5 +1,5 @@
 -- `alignment_mask`: ones above the exponent are what is left above 2^e - 1 ones. Assumes nothing.
-use Rattle.std.proofs.Common.{zero-add, arith, pow_pos, rules}
+use Rattle.std.proofs.Common.{zero-add, arith, pow_pos}
 use Rattle.bounds.specs.Cutting.{cut_exponent}
 use Rattle.bounds.specs.Lengths.{alignment_mask}
 use Rattle.bounds.proofs.lengths.alignment_mask.Goals as goal

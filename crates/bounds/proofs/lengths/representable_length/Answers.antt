@@ -1,5 +1,5 @@
 -- `representable_length`: the rounding at the exponent of the cut of [0, length). Assumes nothing.
-use Rattle.std.proofs.Common.{zero-add, rules}
+use Rattle.std.proofs.Common.{zero-add}
 use Rattle.bounds.specs.Lengths.{representable_length}
 use Rattle.bounds.proofs.lengths.representable_length.Goals as goal
 

@@ -1,5 +1,5 @@
 -- `base_unit`: what the remainder takes away leaves the field in the last nine bits; 512 divides 2^64. Assumes nothing.
-use Rattle.std.proofs.Common.{◌/◌, ◌^◌, div-le_self, arith, rules}
+use Rattle.std.proofs.Common.{◌/◌, ◌^◌, div-le_self, arith}
 use Rattle.bounds.proofs.Wrapped.{base_unit_is}
 use Rattle.bounds.proofs.shifts.base_unit.Goals as goal
 

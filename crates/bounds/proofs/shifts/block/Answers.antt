@@ -1,5 +1,5 @@
 -- `block`: shifted down and up again a number is no larger, so that nothing is lost above 2^64. Assumes nothing.
-use Rattle.std.proofs.Common.{◌*◌, ◌/◌, ◌^◌, mod-eq_of_lt, div-mul-le_self, arith, rules}
+use Rattle.std.proofs.Common.{◌*◌, ◌/◌, ◌^◌, mod-eq_of_lt, div-mul-le_self, arith}
 use Rattle.bounds.proofs.shifts.block.Goals as goal
 
 pub returns : goal.returns

@@ -1,5 +1,5 @@
 -- `ones`: 2^e is at least 1 and at most 2^24. Assumes nothing.
-use Rattle.std.proofs.Common.{arith, pow_pos, rules}
+use Rattle.std.proofs.Common.{arith, pow_pos}
 use Rattle.bounds.proofs.Program.{one_shl, unit_le}
 use Rattle.bounds.proofs.shifts.ones.Goals as goal
 

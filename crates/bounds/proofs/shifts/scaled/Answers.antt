@@ -1,5 +1,5 @@
 -- `scaled`: nine bits shifted by at most 24 are below 2^33. Assumes nothing.
-use Rattle.std.proofs.Common.{◌+◌, lt_of_lt_of_le, arith, pow_mono, shl_lt, shl_exact, rules}
+use Rattle.std.proofs.Common.{◌+◌, lt_of_lt_of_le, arith, pow_mono, shl_lt, shl_exact}
 use Rattle.bounds.proofs.shifts.scaled.Goals as goal
 
 pub returns : goal.returns

@@ -1,10 +1,9 @@
 -- Above bit 31 a word has no bit: the quotient is 0.
-use mathlib.Core.Path.{◌≡◌, sym}
-use Prim.Native.Nat.{◌/◌, ◌^◌, ◌<◌}
+use mathlib.Core.Path.{◌≡◌}
+use Prim.Native.Nat.{◌/◌, ◌^◌}
 use native.Mathlib.Omega.{arith}
 use native.Mathlib.Nat.{div-eq_of_lt}
 use lib.Pow.{pow_mono}
-use borrow.Author.Rules.{rules}
 use Rattle.metadata.proofs.codes.has.Goals as goal
 
 pub returns-else-k-lt-WORD_BITS : goal.returns-else-k-lt-WORD_BITS

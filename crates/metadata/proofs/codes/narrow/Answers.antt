@@ -1,5 +1,4 @@
 -- The rights read, masked, encoded and put back: three callees in a row.
-use borrow.Author.Rules.{rules}
 use Rattle.metadata.specs.Rights.{narrow_word}
 use Rattle.metadata.proofs.codes.narrow.Goals as goal
 

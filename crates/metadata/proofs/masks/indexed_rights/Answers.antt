@@ -1,7 +1,6 @@
 -- As `rights`, with the mask at the code's place.
 use mathlib.Core.Path.{◌∙◌, ap}
 use native.Mathlib.Omega.{arith}
-use borrow.Author.Rules.{rules}
 use Rattle.metadata.specs.Rights.{rights_of}
 use Rattle.metadata.proofs.Narrowed.{word_rights_lt}
 use Rattle.metadata.proofs.masks.indexed_rights.Goals as goal

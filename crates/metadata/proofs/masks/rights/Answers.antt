@@ -1,7 +1,6 @@
 -- The mask of the code read is the table's, since the code is below 64; that it fits twelve bits is a law.
 use mathlib.Core.Path.{◌∙◌, ap}
 use native.Mathlib.Omega.{arith}
-use borrow.Author.Rules.{rules}
 use Rattle.metadata.specs.Rights.{rights_of}
 use Rattle.metadata.proofs.Narrowed.{word_rights_lt}
 use Rattle.metadata.proofs.masks.rights.Goals as goal

@@ -1,6 +1,5 @@
 -- Each arm reads the place that its key names; past the other keys lies the last.
 use native.Mathlib.Omega.{arith}
-use borrow.Author.Rules.{rules}
 use Rattle.metadata.proofs.Table.{masks, key_right, beyond}
 use Rattle.metadata.proofs.masks.upper_mask.Goals as goal
 

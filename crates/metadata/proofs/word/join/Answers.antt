@@ -1,7 +1,6 @@
 -- Each field in its place: the sum never leaves 32 bits, and it is the definition's.
 use mathlib.Core.Path.{refl}
 use Rattle.metadata.specs.Word.{word_of}
-use borrow.Author.Rules.{rules}
 use Rattle.metadata.proofs.word.join.Goals as goal
 
 pub returns : goal.returns

@@ -1,5 +1,5 @@
 -- The byte at g / 8 with no place added.
-use Rattle.std.proofs.Common.{add-zero, rules}
+use Rattle.std.proofs.Common.{add-zero}
 use Rattle.words.specs.Words.{bit_at}
 use Rattle.words.proofs.bit_buffers.get_bit.Goals as goal
 

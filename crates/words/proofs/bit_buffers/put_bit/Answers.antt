@@ -1,5 +1,5 @@
 -- Inside, the byte is the one that `with_bit` gives; outside, setting changes nothing.
-use Rattle.std.proofs.Common.{◌/◌, sym, rules}
+use Rattle.std.proofs.Common.{◌/◌, sym}
 use lib.Seq.{set_out}
 use Rattle.words.specs.Words.{put_bit}
 use Rattle.words.proofs.bit_buffers.put_bit.Goals as goal

@@ -1,5 +1,5 @@
 -- With all bytes inside, the code adds what the definition does; else byte by byte, each 0 outside.
-use Rattle.std.proofs.Common.{add-zero, arith, rules}
+use Rattle.std.proofs.Common.{add-zero, arith}
 use Rattle.words.specs.Words.{le_bytes}
 use Rattle.words.proofs.buffers.load32.Goals as goal
 

@@ -1,5 +1,5 @@
 -- Where the byte is outside, setting it changes nothing.
-use Rattle.std.proofs.Common.{◌+◌, sym, arith, rules}
+use Rattle.std.proofs.Common.{◌+◌, sym, arith}
 use lib.Seq.{set_out}
 use Rattle.words.proofs.buffers.put_byte_from.Goals as goal
 

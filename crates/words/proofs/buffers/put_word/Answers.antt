@@ -1,5 +1,5 @@
 -- Outside the buffer, setting changes nothing.
-use Rattle.std.proofs.Common.{sym, rules}
+use Rattle.std.proofs.Common.{sym}
 use lib.Seq.{set_out}
 use Rattle.words.proofs.buffers.put_word.Goals as goal
 

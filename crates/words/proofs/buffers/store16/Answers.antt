@@ -1,5 +1,5 @@
 -- With all bytes inside, the writes are those of the definition, and none changes the length; else byte by byte.
-use Rattle.std.proofs.Common.{add-zero, div-one, arith, length-set, rules}
+use Rattle.std.proofs.Common.{add-zero, div-one, arith, length-set}
 use Rattle.words.specs.Words.{set_bytes}
 use Rattle.words.proofs.buffers.store16.Goals as goal
 

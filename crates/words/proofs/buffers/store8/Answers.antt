@@ -1,5 +1,5 @@
 -- One byte put is the definition at n = 1.
-use Rattle.std.proofs.Common.{div-one, rules}
+use Rattle.std.proofs.Common.{div-one}
 use Rattle.words.specs.Words.{set_bytes}
 use Rattle.words.proofs.buffers.store8.Goals as goal
 

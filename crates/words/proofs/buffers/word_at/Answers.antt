@@ -1,5 +1,5 @@
 -- Outside the buffer, an element is the default.
-use Rattle.std.proofs.Common.{sym, rules}
+use Rattle.std.proofs.Common.{sym}
 use lib.ListN.{get_or-eq_default}
 use Rattle.words.proofs.buffers.word_at.Goals as goal
 

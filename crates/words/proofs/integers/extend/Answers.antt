@@ -1,5 +1,5 @@
 -- The test is the definition's; below 2^31 the double does not wrap.
-use Rattle.std.proofs.Common.{mod-lt, arith, rules, le-ltb}
+use Rattle.std.proofs.Common.{mod-lt, arith, le-ltb}
 use Rattle.words.proofs.Tests.{tests}
 use Rattle.words.proofs.integers.extend.Goals as goal
 

@@ -1,5 +1,4 @@
 -- Both sums wrap as `flip` does.
-use Rattle.std.proofs.Common.{rules}
 use Rattle.words.proofs.integers.less_signed.Goals as goal
 
 pub returns : goal.returns

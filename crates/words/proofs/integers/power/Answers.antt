@@ -1,5 +1,5 @@
 -- A one shifted by less than 32 is not cut off.
-use Rattle.std.proofs.Common.{◌∙◌, one-mul, arith, lit<, pow_pos, pow_mono, shl_exact, rules}
+use Rattle.std.proofs.Common.{◌∙◌, one-mul, arith, lit<, pow_pos, pow_mono, shl_exact}
 use Rattle.words.proofs.integers.power.Goals as goal
 
 pub returns : goal.returns

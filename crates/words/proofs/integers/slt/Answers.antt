@@ -1,6 +1,5 @@
 -- The signed test made by the callee: 1 where it passed, 0 where it failed.
 use Rattle.words.specs.Words.{slt_of}
-use Rattle.std.proofs.Common.{rules}
 use Rattle.words.proofs.integers.slt.Goals as goal
 
 pub returns-then-less_signed : goal.returns-then-less_signed

@@ -1,5 +1,5 @@
 -- The tests are the definition's; a number shifted down is not above itself, so the difference does not wrap.
-use Rattle.std.proofs.Common.{◌-◌, ◌%◌, arith, rules, le-ltb, lt-ltb}
+use Rattle.std.proofs.Common.{◌-◌, ◌%◌, arith, le-ltb, lt-ltb}
 use lib.Pow.{shr_le}
 use Rattle.words.specs.Words.{sra_of}
 use Rattle.words.proofs.integers.sra.Goals as goal

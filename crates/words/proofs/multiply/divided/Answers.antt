@@ -1,5 +1,5 @@
 -- The test for zero is the definition's; past it the divisor has a size, and signs and sizes are put together as the definition does.
-use Rattle.std.proofs.Common.{sym, ◌∙◌, rules}
+use Rattle.std.proofs.Common.{sym, rules}
 use Rattle.words.proofs.Quotients.{by_zero, quotient_is, remainder_is, size_positive}
 use Rattle.words.proofs.multiply.divided.Goals as goal
 

@@ -1,5 +1,5 @@
 -- The test is the definition's.
-use Rattle.std.proofs.Common.{refl, rules}
+use Rattle.std.proofs.Common.{refl}
 use Rattle.words.proofs.multiply.excess.Goals as goal
 
 pub returns-then-is_negative : goal.returns-then-is_negative

@@ -1,6 +1,5 @@
 -- Each reading has its clause of the definition.
 use Rattle.words.specs.Multiply.{is_negative}
-use Rattle.std.proofs.Common.{rules}
 use Rattle.words.proofs.multiply.is_negative.Goals as goal
 
 pub returns-in-Unsigned : goal.returns-in-Unsigned

@@ -1,5 +1,5 @@
 -- The test is the definition's; a negative word is 2 ^ 31 at least, so all ones less it, and one, is its size.
-use Rattle.std.proofs.Common.{sym, refl, ◌∙◌, arith, rules}
+use Rattle.std.proofs.Common.{sym, refl, ◌∙◌, arith}
 use Rattle.words.proofs.Readings.{negative_large}
 use Rattle.words.specs.Multiply.{size_of}
 use Rattle.words.proofs.multiply.size.Goals as goal

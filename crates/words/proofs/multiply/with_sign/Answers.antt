@@ -1,5 +1,5 @@
 -- Zero less n is the word of minus n; without a minus, n is its own word.
-use Rattle.std.proofs.Common.{true, arith, rules}
+use Rattle.std.proofs.Common.{true, arith}
 use Rattle.words.specs.Multiply.{with_sign}
 use Rattle.words.proofs.Readings.{word_natural, word_minus, word_lt}
 use Rattle.words.proofs.multiply.with_sign.Goals as goal
