@@ -24,7 +24,7 @@ use Rattle.sheets.proofs.Digits.{digit_glyph, glyph_digit, digits_more, more_bel
 
 -- ---- from the bytes to the region
 
--- the bytes p of a line, read from its start, left the state s, and the line may yet be well_formed
+-- the bytes p of a line, read from its start, left the state s, and the line may yet be well-formed
 pub data Held : Scan → List ℕ → Type 0 where
   held_word : (n : ℕ) → n ≤ 6 → Held (scan 0 n 0 0 0 0) (take n word)
   held_name : (l : List ℕ) → length l ≤ 16 → all_letters l ≡ true → Held (scan 1 (length l) 0 0 0 0) (word ++ (tab ∷ l))

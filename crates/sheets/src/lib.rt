@@ -30,7 +30,7 @@ pub struct Region {
 // The state between two bytes of a line.
 #[derive(Clone, Copy)]
 pub struct Scan {
-    // the field that is being read, from 0, and SPOILED once the line cannot be well_formed
+    // the field that is being read, from 0, and SPOILED once the line cannot be well-formed
     pub field: u32,
     // how many bytes of it were read
     pub count: usize,

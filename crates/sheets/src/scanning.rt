@@ -17,7 +17,7 @@ const DIGITS: usize = 8;
 // Where a line's name begins.
 const NAME_PLACE: usize = 7;
 
-// The fields of a line, and the one of a line that cannot be well_formed any more.
+// The fields of a line, and the one of a line that cannot be well-formed any more.
 const IN_WORD: u32 = 0;
 
 const IN_NAME: u32 = 1;

@@ -2,7 +2,7 @@
 ghost use Rattle.std.specs.Prelude.{◌≡◌, ◌≤◌, ◌<◌, ◌^◌, take};
 ghost use Rattle.sheets.specs.Sheet.{admitted};
 ghost use Rattle.sheets.specs.Sheet.{clash};
-ghost use Rattle.sheets.specs.Sheet.{clashes as clashes};
+ghost use Rattle.sheets.specs.Sheet.{clashes};
 ghost use Rattle.sheets.specs.Sheet.{follows};
 ghost use Rattle.sheets.specs.Sheet.{formed};
 
