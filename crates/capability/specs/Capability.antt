@@ -1,6 +1,6 @@
 -- A capability as a register holds it, and the calls on it that change its address, bounds and rights.
 -- Document 01, "Capability word", "Cutting bounds", "Lists of cuts, moves and narrowings". Assumes nothing.
-use Rattle.std.specs.Prelude.{Bool, true, false, cond, not, ◌&&◌, ℕ, ◌+◌, ◌^◌, ◌<◌, eqb, leb}
+use Rattle.std.specs.Prelude.{Bool, cond, not, ◌&&◌, ℕ, ◌+◌, ◌^◌, ◌<◌, eqb, leb}
 use Rattle.metadata.specs.Word.{type_of}
 use Rattle.metadata.specs.Rights.{has, word_rights, narrow_word}
 use Rattle.bounds.specs.Bounds.{low_at, high_at}

@@ -1,5 +1,5 @@
 -- What a capability loses as it is loaded. Document 01, "Loading capabilities"; CHERIoT report, 9.4 (CLC). Assumes nothing.
-use Rattle.std.specs.Prelude.{Bool, true, false, cond, not, ◌&&◌, ◌||◌, ℕ, ◌-◌, ◌^◌}
+use Rattle.std.specs.Prelude.{Bool, cond, not, ◌&&◌, ◌||◌, ℕ, ◌-◌, ◌^◌}
 use Rattle.metadata.specs.Rights.{GL, LG, SD, LM, MC, US, SE, U0, all_rights, narrow_word}
 use Rattle.capability.specs.Capability.{capability, grants, sealed, tagged}
 use Rattle.capability.specs.declared.Capability.{Capability}

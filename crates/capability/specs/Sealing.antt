@@ -1,6 +1,6 @@
 -- Sealing and unsealing, and the types of sealed capabilities. CHERIoT report, 7.13.2, 9.4 (CSeal, CUnseal, CGetType) and Appendix A.
 -- Assumes nothing.
-use Rattle.std.specs.Prelude.{Bool, true, false, cond, not, ◌&&◌, ◌||◌, ℕ, ◌+◌, ◌-◌, ◌%◌, ◌^◌, eqb, leb, ltb}
+use Rattle.std.specs.Prelude.{Bool, cond, not, ◌&&◌, ◌||◌, ℕ, ◌+◌, ◌-◌, ◌%◌, ◌^◌, eqb, leb, ltb}
 use Rattle.metadata.specs.Word.{type_of, with_type}
 use Rattle.metadata.specs.Rights.{GL, EX, SE, US, all_rights, narrow_word}
 use Rattle.capability.specs.Capability.{capability, low, high, grants, sealed, tagged}

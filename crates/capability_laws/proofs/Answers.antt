@@ -5,8 +5,7 @@ use mathlib.Core.Logic.{◌↔◌}
 use mathlib.Core.Bool.{Bool, true, false, cond}
 use Prim.Native.Nat.{ℕ, ◌+◌, ◌^◌, ◌≤◌, ◌<◌}
 use native.Mathlib.Omega.{arith}
-use borrow.Author.Tests.{ltb-true, ltb-false, lt-ltb, le-ltb}
-use lib.Dec.{ltb}
+use borrow.Author.Tests.{ltb-true, ltb-false, le-ltb}
 use Rattle.bounds.specs.Bounds.{Expressible, Contains}
 use Rattle.bounds.specs.Cutting.{past_end, cut_low, cut_high, cut_exact, answer_number, answer_low, answer_high, answer_exact, CutPromise}
 use Rattle.bounds.specs.declared.CutAnswer.{CutAnswer}
@@ -14,7 +13,7 @@ use Rattle.capability.specs.Capability.{low, high}
 use Rattle.capability.specs.declared.Capability.{Capability}
 use Rattle.capability_laws.specs.Authority.{Authority}
 use Rattle.capability_laws.specs.Cuts.{LeastRegion, CutClaim}
-use Rattle.capability_laws.proofs.Tests.{both_equal, kept}
+use Rattle.capability_laws.proofs.Tests.{both_equal}
 use Rattle.capability_laws.proofs.Region.{cut_expressible, cut_contains, cut_inside, cut_least, cut_exact_lem}
 
 -- ---- a flag of 1 or 0

@@ -1,6 +1,6 @@
 -- There is an authority, of the whole space: what is proved of lists that start from one is not about nothing. Its bounds compute. Assumes nothing.
 use mathlib.Core.Path.{◌≡◌, refl}
-use Prim.Native.Nat.{ℕ, ◌^◌}
+use Prim.Native.Nat.{◌^◌}
 use native.Mathlib.Omega.{arith}
 use Rattle.metadata.specs.Word.{type_of, scale_of, top_of, base_of}
 use Rattle.bounds.specs.Bounds.{exponent_of, low_of, high_of, low_at, high_at}

@@ -1,6 +1,6 @@
 -- Numbers as ASCII text: hexadecimal digits in lower case, decimal numbers, and words in signed decimal.
 -- Assumes nothing.
-use Rattle.std.specs.Prelude.{Bool, true, false, cond, ◌&&◌, List, [], ◌∷◌, ◌++◌, ℕ, zero, suc, ◌+◌, ◌-◌, ◌*◌, ◌/◌, ◌%◌, ◌^◌, ltb}
+use Rattle.std.specs.Prelude.{Bool, true, cond, ◌&&◌, List, [], ◌∷◌, ◌++◌, ℕ, zero, suc, ◌+◌, ◌-◌, ◌*◌, ◌/◌, ◌%◌, ◌^◌, ltb}
 
 -- the value of a lower-case hexadecimal digit (0 to 9 are 48 to 57, a to f are 97 to 102), and 16 for any other byte
 unfoldable pub digit_of : (byte : ℕ) → ℕ

@@ -1,7 +1,6 @@
 -- `deliver`: with room the text is written whole. Assumes nothing.
 use mathlib.Core.Path.{sym}
 use native.Mathlib.Omega.{arith}
-use borrow.Author.Rules.{rules}
 use borrow.Author.Tests.{le-leb, lt-leb}
 use Rattle.text.specs.Writing.{delivered}
 use Rattle.text.proofs.Putting.{placed}

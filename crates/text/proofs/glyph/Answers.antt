@@ -1,5 +1,4 @@
 -- `glyph`: the test is the definition's. Assumes nothing.
-use borrow.Author.Rules.{rules}
 use Rattle.text.specs.Digits.{glyph}
 use Rattle.text.proofs.Tests.{tests}
 use Rattle.text.proofs.glyph.Goals as goal

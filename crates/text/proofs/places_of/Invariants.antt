@@ -1,9 +1,7 @@
 -- `places_of`: the loop keeps that what was counted and the places of the rest are one more than the places of n. Assumes nothing.
-use mathlib.Core.Path.{◌≡◌, ◌∙◌, sym}
+use mathlib.Core.Path.{◌≡◌}
 use Prim.Native.Nat.{◌+◌, ◌<◌}
-use native.Mathlib.Omega.{arith}
 use Rattle.text.specs.Digits.{places_of}
-use Rattle.text.proofs.Numbers.{places_one, places_more, places_le}
 use Rattle.text.proofs.places_of.Given as goal
 
 abbrev pub invariant-loop-rest : goal.invariant-loop-rest

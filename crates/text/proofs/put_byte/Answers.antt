@@ -1,5 +1,4 @@
 -- `put_byte`: one store, or none where the buffer ends before. Assumes nothing.
-use borrow.Author.Rules.{rules}
 use Rattle.text.proofs.Putting.{puts_byte, puts_past}
 use Rattle.text.proofs.put_byte.Goals as goal
 

@@ -1,11 +1,7 @@
 -- `put_bytes`: the loop keeps that the text's first i bytes are written. Assumes nothing.
-use mathlib.Core.Path.{◌≡◌, refl, ◌∙◌}
-use Prim.Native.Nat.{◌-◌, ◌≤◌}
+use mathlib.Core.Path.{refl, ◌∙◌}
 use native.Mathlib.Omega.{arith}
-use lib.ListN.{length, take}
 use lib.Seq.{take_all}
-use borrow.Author.Rules.{rules}
-use Rattle.text.specs.Writing.{Puts}
 use Rattle.text.proofs.Putting.{puts_none, puts_more, puts_length}
 use Rattle.text.proofs.put_bytes.Goals as goal
 

@@ -1,5 +1,4 @@
 -- `put_decimal`: as many digits as the number has places. Assumes nothing.
-use borrow.Author.Rules.{rules}
 use Rattle.text.specs.Digits.{decimal}
 use Rattle.text.proofs.put_decimal.Goals as goal
 

@@ -1,10 +1,9 @@
 -- `signed_length`: the digits of the magnitude, and one byte for the sign where there is one. Assumes nothing.
-use mathlib.Core.Path.{◌≡◌, sym}
-use Prim.Native.Nat.{◌-◌, ◌^◌, ◌<◌}
+use mathlib.Core.Path.{◌≡◌}
+use Prim.Native.Nat.{◌-◌, ◌^◌}
 use native.Mathlib.Omega.{arith}
 use borrow.Author.Rules.{rules}
 use borrow.Author.Tests.{lt-ltb, le-ltb}
-use lib.ListN.{length}
 use Rattle.text.specs.Digits.{places_of, decimal, signed}
 use Rattle.text.proofs.Numbers.{length_digits, word_le}
 use Rattle.text.proofs.signed_length.Goals as goal

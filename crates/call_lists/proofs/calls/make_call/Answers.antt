@@ -1,6 +1,5 @@
 -- `make_call`: an arm a call, each with its function's promise. Assumes nothing.
 use Rattle.call_lists.specs.Calls.{make_call}
-use borrow.Author.Rules.{rules}
 use Rattle.call_lists.proofs.calls.make_call.Goals as goal
 
 -- a cut

@@ -1,6 +1,5 @@
 -- `answer_number`: an arm an answer. Assumes nothing.
 use mathlib.Core.Path.{refl}
-use borrow.Author.Rules.{rules}
 use Rattle.call_lists.proofs.exported.answer_number.Goals as goal
 
 -- run

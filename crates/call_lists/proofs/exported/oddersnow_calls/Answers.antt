@@ -1,5 +1,4 @@
 -- `oddersnow_calls`: the list's promise, with the answer's number. Assumes nothing.
-use borrow.Author.Rules.{rules}
 use Rattle.call_lists.proofs.Answers.{listed_number}
 use Rattle.call_lists.proofs.exported.oddersnow_calls.Goals as goal
 

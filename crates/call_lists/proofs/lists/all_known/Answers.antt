@@ -1,12 +1,11 @@
 -- `all_known`: the loop keeps that the kinds left are all known exactly if all are. Assumes nothing.
 use mathlib.Core.Path.{◌≡◌, refl, sym, ◌∙◌}
 use mathlib.Core.Bool.{true, false}
-use Prim.Native.Nat.{◌≤◌, ◌-◌}
 use native.Mathlib.Omega.{arith}
 use borrow.Author.Rules.{rules}
 use borrow.Author.Tests.{not-true, not-false}
-use lib.ListN.{length, get_or, drop}
-use Rattle.call_lists.specs.Lists.{is_known, all_known}
+use lib.ListN.{get_or}
+use Rattle.call_lists.specs.Lists.{is_known}
 use Rattle.call_lists.proofs.Turns.{known_turn, known_end}
 use Rattle.call_lists.proofs.lists.all_known.Goals as goal
 

@@ -1,13 +1,8 @@
 -- `all_known`: the loop keeps that the kinds left are all known exactly if all are. Assumes nothing.
-use mathlib.Core.Path.{◌≡◌, refl, sym, ◌∙◌}
-use mathlib.Core.Bool.{true, false}
+use mathlib.Core.Path.{◌≡◌}
 use Prim.Native.Nat.{◌≤◌, ◌-◌}
-use native.Mathlib.Omega.{arith}
-use borrow.Author.Rules.{rules}
-use borrow.Author.Tests.{not-true, not-false}
-use lib.ListN.{length, get_or, drop}
-use Rattle.call_lists.specs.Lists.{is_known, all_known}
-use Rattle.call_lists.proofs.Turns.{known_turn, known_end}
+use lib.ListN.{length, drop}
+use Rattle.call_lists.specs.Lists.{all_known}
 use Rattle.call_lists.proofs.lists.all_known.Given as goal
 
 abbrev pub invariant-loop-i : goal.invariant-loop-i

@@ -1,5 +1,4 @@
 -- `one_call`: the call that the kind and the value stand for, made. Assumes nothing.
-use borrow.Author.Rules.{rules}
 use Rattle.call_lists.proofs.lists.one_call.Goals as goal
 
 pub returns : goal.returns

@@ -1,7 +1,6 @@
 -- `put_words`: three stores, none of which changes the length. Assumes nothing.
 use native.Mathlib.Omega.{arith}
 use lib.ListN.{length-set}
-use borrow.Author.Rules.{rules}
 use Rattle.call_lists.proofs.lists.put_words.Goals as goal
 
 pub bounds-out-i-2 : goal.bounds-out-i-2

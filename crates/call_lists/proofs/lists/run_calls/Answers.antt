@@ -5,7 +5,6 @@ use borrow.Author.Tests.{lt-ltb, le-ltb, not-true, not-false}
 use lib.ListN.{length}
 use Rattle.call_lists.proofs.Turns.{sizes_fit_lem}
 use Rattle.call_lists.proofs.Answers.{tag_refused, size_refused, kind_refused, list_ran}
-use borrow.Author.Rules.{rules}
 use Rattle.call_lists.proofs.lists.run_calls.Goals as goal
 
 -- a tag word above 1

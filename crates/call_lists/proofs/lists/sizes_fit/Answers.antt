@@ -1,6 +1,5 @@
 -- `sizes_fit`: three words each, by a quotient and a remainder, since a product may not fit. Assumes nothing.
 use Rattle.call_lists.proofs.Turns.{sizes_are}
-use borrow.Author.Rules.{rules}
 use Rattle.call_lists.proofs.lists.sizes_fit.Goals as goal
 
 pub returns : goal.returns

@@ -1,10 +1,10 @@
 -- `write_calls`: the loop keeps `Turn`: the words of the calls made stand in front, and the calls left lead on to the whole. Assumes nothing.
-use mathlib.Core.Path.{◌≡◌, refl}
-use Prim.Native.Nat.{◌≤◌, ◌+◌, ◌*◌, ◌-◌, zero-le}
+use mathlib.Core.Path.{refl}
+use Prim.Native.Nat.{◌≤◌, ◌+◌, ◌*◌, zero-le}
 use native.Mathlib.Omega.{arith}
 use borrow.Author.Rules.{rules}
 use lib.ListN.{length}
-use Rattle.call_lists.proofs.Turns.{Turn, first_turn, next_turn, last_turn}
+use Rattle.call_lists.proofs.Turns.{first_turn, next_turn, last_turn}
 use Rattle.call_lists.proofs.lists.write_calls.Goals as goal
 
 pub loop-n-init : goal.loop-n-init

@@ -1,6 +1,5 @@
 -- The definition's record, field for field.
 use mathlib.Core.Path.{refl}
-use borrow.Author.Rules.{rules}
 use Rattle.capability.proofs.changing.integer.Goals as goal
 
 pub returns : goal.returns

@@ -1,6 +1,5 @@
 -- The tag is chosen by two tests, unsealed and same bounds; each callee's answer is put in the definition's place.
 use Rattle.capability.specs.Capability.{move_of}
-use borrow.Author.Rules.{rules}
 use Rattle.capability.proofs.changing.move_address.Goals as goal
 
 pub returns : goal.returns

@@ -1,6 +1,5 @@
 -- The tag is chosen by the seal alone, and the word is the narrowed one.
 use Rattle.capability.specs.Capability.{narrow_of}
-use borrow.Author.Rules.{rules}
 use Rattle.capability.proofs.changing.narrow_rights.Goals as goal
 
 pub returns : goal.returns

@@ -1,6 +1,5 @@
 -- The comparison of the bounds at both addresses, once its low and high ends are unfolded.
 use Rattle.capability.specs.Capability.{same_bounds, low, high}
-use borrow.Author.Rules.{rules}
 use Rattle.capability.proofs.changing.same_bounds.Goals as goal
 
 pub returns : goal.returns

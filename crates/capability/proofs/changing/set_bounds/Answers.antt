@@ -1,6 +1,5 @@
 -- The tag by the seal and by whether the bounds cover the request; the word by its cut.
 use Rattle.capability.specs.Capability.{set_bounds_of}
-use borrow.Author.Rules.{rules}
 use Rattle.capability.proofs.changing.set_bounds.Goals as goal
 
 pub returns : goal.returns

@@ -1,6 +1,5 @@
 -- As a cut that may round, with one test more: that nothing was rounded.
 use Rattle.capability.specs.Capability.{set_bounds_exact_of}
-use borrow.Author.Rules.{rules}
 use Rattle.capability.proofs.changing.set_bounds_exact.Goals as goal
 
 pub returns : goal.returns

@@ -1,5 +1,4 @@
 -- Tagged, and none of three rights: the rights are read once, and each test is its callee's.
-use borrow.Author.Rules.{rules}
 use Rattle.capability.specs.Loading.{revocable}
 use Rattle.capability.proofs.loading.is_revocable.Goals as goal
 

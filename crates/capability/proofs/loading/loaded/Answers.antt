@@ -1,5 +1,4 @@
 -- The three losses by the authority's rights, read once, are those of the definition.
-use borrow.Author.Rules.{rules}
 use Rattle.capability.specs.Loading.{lose_global, lose_mutable, lose_tag, loaded_of}
 use Rattle.capability.proofs.loading.loaded.Goals as goal
 

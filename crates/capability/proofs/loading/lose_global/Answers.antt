@@ -1,5 +1,4 @@
 -- The test is tagged and no LG; what it does is the law of losing.
-use borrow.Author.Rules.{rules}
 use Rattle.capability.proofs.loading.lose_global.Goals as goal
 
 pub returns : goal.returns

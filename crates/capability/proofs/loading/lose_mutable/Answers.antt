@@ -1,5 +1,4 @@
 -- The test is tagged, no LM and not sealed; what it does is the law of losing.
-use borrow.Author.Rules.{rules}
 use Rattle.capability.proofs.loading.lose_mutable.Goals as goal
 
 pub returns : goal.returns

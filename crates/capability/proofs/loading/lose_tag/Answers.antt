@@ -1,5 +1,4 @@
 -- The tag is chosen by MC among the authority's rights.
-use borrow.Author.Rules.{rules}
 use Rattle.capability.proofs.loading.lose_tag.Goals as goal
 
 pub returns : goal.returns

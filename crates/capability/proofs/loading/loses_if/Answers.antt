@@ -1,5 +1,4 @@
 -- Where the test passes the narrowed word is the definition's; where it fails nothing is lost.
-use borrow.Author.Rules.{rules}
 use Rattle.capability.proofs.loading.loses_if.Goals as goal
 
 pub returns-then-test : goal.returns-then-test

@@ -1,6 +1,5 @@
 -- The region read contains the range.
 use Rattle.capability.specs.Capability.{covers}
-use borrow.Author.Rules.{rules}
 use Rattle.capability.proofs.reading.covers_range.Goals as goal
 
 pub returns : goal.returns

@@ -1,6 +1,5 @@
 -- One bit of the rights as read.
 use Rattle.capability.specs.Capability.{rights}
-use borrow.Author.Rules.{rules}
 use Rattle.capability.proofs.reading.has_right.Goals as goal
 
 pub returns : goal.returns

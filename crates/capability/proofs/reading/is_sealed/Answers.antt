@@ -1,6 +1,5 @@
 -- The type read from the word is not that of an unsealed one.
 use Rattle.capability.specs.Capability.{sealed}
-use borrow.Author.Rules.{rules}
 use Rattle.capability.proofs.reading.is_sealed.Goals as goal
 
 pub returns : goal.returns

@@ -1,5 +1,4 @@
 -- The type read from the word, compared with 0.
-use borrow.Author.Rules.{rules}
 use Rattle.capability.proofs.reading.is_unsealed.Goals as goal
 
 pub returns : goal.returns

@@ -1,6 +1,5 @@
 -- The region read holds the address.
 use Rattle.capability.specs.Sealing.{address_in_bounds}
-use borrow.Author.Rules.{rules}
 use Rattle.capability.proofs.sealing.address_in_bounds.Goals as goal
 
 pub returns : goal.returns

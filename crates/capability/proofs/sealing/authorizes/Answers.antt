@@ -1,6 +1,5 @@
 -- Four tests, each its callee's: tag, no seal, the right, its own address in bounds.
 use Rattle.capability.specs.Sealing.{authorizes}
-use borrow.Author.Rules.{rules}
 use Rattle.capability.proofs.sealing.authorizes.Goals as goal
 
 pub returns : goal.returns

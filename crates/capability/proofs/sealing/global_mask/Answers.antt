@@ -1,6 +1,5 @@
 -- One of two masks, chosen by the authority's GL.
 use Rattle.capability.specs.Sealing.{global_mask}
-use borrow.Author.Rules.{rules}
 use Rattle.capability.proofs.sealing.global_mask.Goals as goal
 
 pub returns : goal.returns

@@ -1,6 +1,5 @@
 -- EX, and the type read lies among the sentries'.
 use Rattle.capability.specs.Sealing.{is_sentry}
-use borrow.Author.Rules.{rules}
 use Rattle.capability.proofs.sealing.is_sentry.Goals as goal
 
 pub returns : goal.returns

@@ -1,6 +1,5 @@
 -- By EX: with it two ranges of types, without it one.
 use Rattle.capability.specs.Sealing.{permitted_type}
-use borrow.Author.Rules.{rules}
 use Rattle.capability.proofs.sealing.permitted_type.Goals as goal
 
 -- executable

@@ -1,6 +1,5 @@
 -- The tag by three tests: not sealed, an authority by SE, a type permitted; the word gets that type.
 use Rattle.capability.specs.Sealing.{seal_of}
-use borrow.Author.Rules.{rules}
 use Rattle.capability.proofs.sealing.seal.Goals as goal
 
 pub returns : goal.returns

@@ -1,6 +1,5 @@
 -- The tag by three tests: sealed, an authority by US, its address the type; the word is narrowed, then unsealed.
 use Rattle.capability.specs.Sealing.{unseal_of}
-use borrow.Author.Rules.{rules}
 use Rattle.capability.proofs.sealing.unseal.Goals as goal
 
 pub returns : goal.returns

@@ -1,6 +1,5 @@
 -- The word with another type; address and tag are the same.
 use Rattle.capability.specs.Sealing.{with_object_type}
-use borrow.Author.Rules.{rules}
 use Rattle.capability.proofs.sealing.with_object_type.Goals as goal
 
 pub returns : goal.returns
