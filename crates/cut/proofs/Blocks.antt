@@ -1,17 +1,9 @@
--- A block taken in pieces leads to the state of all its bytes, and the answers of the kit's calls decide what a turn comes to.
+-- A block taken in pieces leads to the state of all its bytes, and the answers of the reads and writes decide what a turn comes to.
 -- Assumes nothing.
-use mathlib.Core.Bool.{true, false}
-use mathlib.Core.Logic.{◌⊎◌, inl, inr}
-use mathlib.Core.Path.{◌≡◌, refl, sym, ap, ◌∙◌}
-use mathlib.Core.List.{List, [], ◌++◌}
-use Prim.Native.Nat.{ℕ, zero, suc, ◌+◌, ◌≤◌, min}
-use native.Mathlib.Nat.{zero-add}
-use native.Mathlib.Omega.{arith}
-use borrow.Author.Tests.{le-ltb, le-leb}
-use lib.IntN.{ℤ, pos, negsuc}
-use lib.Signed.{lt_z}
-use lib.ListN.{length, take, drop, length-append}
+use Rattle.std.proofs.Common.{◌≡◌, ℕ, zero, suc, ◌+◌, ◌≤◌, min, true, false, List, [], ◌++◌, length, take, drop, refl, sym, ap, ◌∙◌, ◌⊎◌, inl, inr, arith, Result, Ok, Err, OnOk, is_ok, is_err, zero-add, length-append}
+use borrow.Author.Tests.{le-leb}
 use lib.Seq.{take-add, take_all, take-append_seam}
+use Rattle.std.specs.declared.io.Error.{Error}
 use Rattle.cut_lines.specs.Scanning.{start_of, scanned, last_text, Processed}
 use Rattle.text.specs.Writing.{put}
 use Rattle.cut_lines.specs.Writing.{longest, has_room, written_end, Writes}
@@ -20,14 +12,11 @@ use Rattle.cut_lines.specs.declared.Progress.{Progress}
 use Rattle.cut_lines.specs.declared.Written.{Written}
 use Rattle.cut_lines.proofs.Blocks.{scanned_none}
 use Rattle.cut_lines.proofs.Texts.{scanned_append}
-use Rattle.io.specs.Counts.{clamp_len}
 use Rattle.cut.specs.declared.Answer.{Answer}
 use Rattle.cut.specs.declared.Answer.TheVariants.{Read, Write}
 use Rattle.cut.specs.declared.Turn.{Turn}
-use Rattle.cut.specs.declared.Turn.TheVariants as Turn
 use Rattle.cut.specs.declared.Outcome.{Outcome}
-use Rattle.cut.specs.declared.Outcome.TheVariants as Outcome
-use Rattle.cut.specs.Turns.{is_negative, Stopped, Taken, AfterCount, AfterRead, Turned, Starts, LastWritten, FailedAt, Ends}
+use Rattle.cut.specs.Turns.{has_failed, count, Stopped, Taken, AfterCount, AfterRead, Turned, Starts, LastWritten, FailedAt, Ends}
 
 -- ---- a block
 
@@ -45,8 +34,8 @@ pub block_turn : (s : Scan) (block : List ℕ) (from : ℕ) {before after : List
 block_turn s block from {before} {after} {p} q = rw (take-add, scanned_append s (take from block) (take p.read (drop from block))) q.scan_is
 
 -- a piece of it whose write failed
-pub write_failed : (s : Scan) (block after : List ℕ) (r : Turn) → r ≡ Turn.Failed (Write false) → Stopped s block after → Taken s block after r
-write_failed s block after r e h = rw e (refl, h)
+pub write_failed : (s : Scan) (block after : List ℕ) (e : Error) (r : Turn) → r ≡ Turn.Failed (Write (Err e)) → Stopped s block after → Taken s block after r
+write_failed s block after e r q h = rw q ((e, refl), h)
 
 -- all of it
 pub block_end : (s t : Scan) (block : List ℕ) (from : ℕ) → t ≡ scanned s (take from block) → length block ≤ from → t ≡ scanned s block
@@ -54,27 +43,23 @@ block_end s t block from h l = rw (take_all from block l) at h
 
 -- ---- a turn, by what the read answered
 
-pub negative_test : (z : ℤ) → lt_z z (pos 0) ≡ is_negative z
-negative_test (pos k) = le-ltb k 0 (omega arith)
-negative_test (negsuc k) = refl
-
 module _ (s : Scan) (input after : List ℕ) where
-  pub read_failed : (got : ℤ) (r : Turn) → is_negative got ≡ true → r ≡ Turn.Failed (Read got) → AfterRead got s input after r
-  read_failed (pos k) r h e = let z : ◌≡◌ {A = ℕ} 0 1 = cc in absurd (omega arith)
-  read_failed (negsuc k) r h e = e
+  pub read_failed : (got : Result ℕ Error) (r : Turn) → has_failed got ≡ true → r ≡ Turn.Failed (Read got) → AfterRead got s input after r
+  read_failed (Ok k) r h e = let z : ◌≡◌ {A = ℕ} 0 1 = cc in absurd (omega arith)
+  read_failed (Err x) r h e = e
 
-  pub read_ended : (got : ℤ) → is_negative got ≡ false → clamp_len got (length input) ≡ 0 → AfterRead got s input after Turn.Ended
-  read_ended (pos k) h e = rw e refl
-  read_ended (negsuc k) h e = let z : ◌≡◌ {A = ℕ} 0 1 = cc in absurd (omega arith)
+  pub read_ended : (got : Result ℕ Error) → has_failed got ≡ false → count got (length input) ≡ 0 → AfterRead got s input after Turn.Ended
+  read_ended (Ok k) h e = rw e refl
+  read_ended (Err x) h e = let z : ◌≡◌ {A = ℕ} 0 1 = cc in absurd (omega arith)
 
   count_taken : (n : ℕ) (r : Turn) → (n ≡ 0 → ⊥) → Taken s (take n input) after r → AfterCount n s input after r
   count_taken zero r h t = absurd (h refl)
   count_taken (suc k) r h t = t
 
-  pub read_taken : (got : ℤ) (n : ℕ) (r : Turn) → is_negative got ≡ false → n ≡ clamp_len got (length input) → (n ≡ 0 → ⊥) → Taken s (take n input) after r
-      → AfterRead got s input after r
-  read_taken (pos k) n r h e p t = rw (← e) (count_taken n r p t)
-  read_taken (negsuc k) n r h e p t = let z : ◌≡◌ {A = ℕ} 0 1 = cc in absurd (omega arith)
+  pub read_taken : (got : Result ℕ Error) (n : ℕ) (r : Turn) → has_failed got ≡ false → n ≡ count got (length input) → (n ≡ 0 → ⊥)
+      → Taken s (take n input) after r → AfterRead got s input after r
+  read_taken (Ok k) n r h e p t = rw (← e) (count_taken n r p t)
+  read_taken (Err x) n r h e p t = let z : ◌≡◌ {A = ℕ} 0 1 = cc in absurd (omega arith)
 
 -- ---- a writer that has room: where its text ends, and what the buffer starts with
 
@@ -92,9 +77,29 @@ module _ {before text after : List ℕ} {answer : Written} (room : longest ≤ l
   unfolding put
   writer_starts = rw (left, zero-add) (take-append_seam text (drop (length text) before))
 
+  pub writer_text : {n : ℕ} → n ≡ written_end answer → take n after ≡ text
+  writer_text e = rw (e, writer_end) writer_starts
+
   pub writer_fits : written_end answer ≤ length after
   unfolding put
   writer_fits = rw (writer_end, left, length-append) (omega arith)
+
+-- the answer of a call, where it succeeded and where it failed
+pub if_ok : {A P : Type 0} (r : Result A Error) → is_ok r ≡ true → OnOk r P → P
+if_ok (Ok x) h p = p
+if_ok (Err e) h p = let z : ◌≡◌ {A = ℕ} 0 1 = cc in absurd (omega arith)
+
+pub if_not_err : {A P : Type 0} (r : Result A Error) → is_err r ≡ false → OnOk r P → P
+if_not_err (Ok x) h p = p
+if_not_err (Err e) h p = let z : ◌≡◌ {A = ℕ} 0 1 = cc in absurd (omega arith)
+
+pub if_not_ok : {A : Type 0} (r : Result A Error) → is_ok r ≡ false → (e : Error) × (r ≡ Err e)
+if_not_ok (Ok x) h = let z : ◌≡◌ {A = ℕ} 0 1 = cc in absurd (omega arith)
+if_not_ok (Err e) h = (e, refl)
+
+pub if_err : {A : Type 0} (r : Result A Error) → is_err r ≡ true → (e : Error) × (r ≡ Err e)
+if_err (Ok x) h = let z : ◌≡◌ {A = ℕ} 0 1 = cc in absurd (omega arith)
+if_err (Err e) h = (e, refl)
 
 -- ---- a run: the state is that of the bytes taken so far
 
@@ -115,20 +120,20 @@ module _ (s : Scan) (input after : List ℕ) where
       let more : List ℕ = take (suc k) input in
       (bytes ++ more, h ∙ ap (λ x. scanned x more) e ∙ sym (scanned_append (start_of 1) bytes more))
 
-  read_on : (got : ℤ) (t : Scan) → AfterRead got s input after (Turn.On t) → Reached s → Reached t
-  read_on (pos k) t h r = count_on (min k (length input)) t h r
-  read_on (negsuc k) t h r = let z : ◌≡◌ {A = ℕ} 0 1 = cc in absurd (omega arith)
+  read_on : (got : Result ℕ Error) (t : Scan) → AfterRead got s input after (Turn.On t) → Reached s → Reached t
+  read_on (Ok k) t h r = count_on (min k (length input)) t h r
+  read_on (Err x) t h r = let z : ◌≡◌ {A = ℕ} 0 1 = cc in absurd (omega arith)
 
   pub turn_on : (r : Turn) (t : Scan) → Turned s input after r → r ≡ Turn.On t → Reached s → Reached t
   turn_on r t h q e = read_on h.got t (rw q at h.turn_is) e
 
   count_failed : (n : ℕ) (a : Answer) → AfterCount n s input after (Turn.Failed a) → Reached s → FailedRun input after a
   count_failed zero a h r = let z : ◌≡◌ {A = ℕ} 0 1 = cc in absurd (omega arith)
-  count_failed (suc k) a h (bytes, e) = (bytes, rw (h.0, ← e) (refl, inr (suc k, h.1)))
+  count_failed (suc k) a ((x, q), stopped) (bytes, e) = (bytes, rw (q, ← e) ((x, refl), inr (suc k, stopped)))
 
-  read_stopped : (got : ℤ) (a : Answer) → AfterRead got s input after (Turn.Failed a) → Reached s → FailedRun input after a
-  read_stopped (pos k) a h r = count_failed (min k (length input)) a h r
-  read_stopped (negsuc k) a h (bytes, e) = let q : a ≡ Read (negsuc k) = cc in (bytes, rw q refl)
+  read_stopped : (got : Result ℕ Error) (a : Answer) → AfterRead got s input after (Turn.Failed a) → Reached s → FailedRun input after a
+  read_stopped (Ok k) a h r = count_failed (min k (length input)) a h r
+  read_stopped (Err x) a h (bytes, e) = let q : a ≡ Read (Err x) = cc in (bytes, rw q refl)
 
   pub turn_failed : (r : Turn) (a : Answer) → Turned s input after r → r ≡ Turn.Failed a → Reached s → FailedRun input after a
   turn_failed r a h q e = read_stopped h.got a (rw q at h.turn_is) e
@@ -140,6 +145,6 @@ last_ends {s} {after} input r h (bytes, e) = go h.outcome_is
     starts : Starts after (last_text (scanned (start_of 1) bytes))
     starts = rw (← e) h.text_is
 
-    go : (r ≡ Outcome.Done) ⊎ (r ≡ Outcome.Failed (Write false)) → Ends input after r
+    go : (r ≡ Outcome.Done) ⊎ ((x : Error) × (r ≡ Outcome.Failed (Write (Err x)))) → Ends input after r
     go (inl q) = rw q (bytes, starts)
-    go (inr q) = rw q (bytes, (refl, inl starts))
+    go (inr (x, q)) = rw q (bytes, ((x, refl), inl starts))

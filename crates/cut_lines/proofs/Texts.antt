@@ -101,7 +101,12 @@ whole (b ∷ l) p n h = go (eqb b newline) refl (whole l [] (suc n) (omega arith
         let y = in_line (read_line (start_of n) p) b e in
         rw (y.0, y.1 ∙ sym (read_more (start_of n) p b), e, ← (front_more p b (lines_of l))) q
 
+-- The header, and what is written for an input of fewer than 2 ^ 64 - 1 bytes, read from line 1 on, are the text of the input.
+pub whole_text : (input : List ℕ) → 1 + length input < 2 ^ 64
+    → header_text ++ (scan_text (start_of 1) input ++ last_text (scanned (start_of 1) input)) ≡ text_of input
+unfolding text_of read_line front
+whole_text input h = ap (λ (t : List ℕ). header_text ++ t) (whole input [] 1 h)
+
 -- A run over any input of fewer than 2 ^ 64 - 1 bytes, in blocks of any sizes: the header and what the run wrote are the text of the input.
 pub session_text : {input text : List ℕ} → Session (start_of 1) input text → 1 + length input < 2 ^ 64 → header_text ++ text ≡ text_of input
-unfolding text_of read_line front
-session_text {input} r h = ap (λ (t : List ℕ). header_text ++ t) (session_whole r ∙ whole input [] 1 h)
+session_text {input} r h = ap (λ (t : List ℕ). header_text ++ t) (session_whole r) ∙ whole_text input h

@@ -1,5 +1,4 @@
 -- `bounds_at`: each bound of the region that `bounds` promises. Assumes nothing.
-use borrow.Author.Rules.{rules}
 use Rattle.label.proofs.bounds_at.Goals as goal
 
 pub returns : goal.returns

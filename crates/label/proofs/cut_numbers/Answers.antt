@@ -1,5 +1,4 @@
 -- `cut_numbers`: the numbers of the answer that `cut` promises. Assumes nothing.
-use borrow.Author.Rules.{rules}
 use Rattle.label.proofs.cut_numbers.Goals as goal
 
 pub returns : goal.returns

@@ -1,6 +1,5 @@
 -- `numbers_of`: an arm an answer, each value what the definition has for it. Assumes nothing.
 use mathlib.Core.Path.{refl}
-use borrow.Author.Rules.{rules}
 use Rattle.label.proofs.numbers_of.Goals as goal
 
 -- a region
