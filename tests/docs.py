@@ -12,7 +12,7 @@
     starts     a file of definitions, laws or proofs begins with a comment that says what is in it
     itself     the parts above find what is wrong in a made-up document
 
-Conventions of the documents. A crate's name just before a name, or a list of names, says where they are: state `placeOf`, `placeAt`;
+Conventions of the documents. A crate's name just before a name, or a list of names, says where they are: state `place_of`, `place_at`;
 so does (CRATE) or (CRATE, File) just after them. `CRATE::FUNCTION` is a function of that crate, `CRATE/EDIT` an edit. In
 docs/PROMISES.md a heading `### CRATE` holds for the table and the edits below it. A part in capitals, as X in crates/X/specs, stands for any.
 

@@ -34,7 +34,7 @@ def tables():
 def source_names():
     """Name by name, from the bytes, not from the comments beside them."""
     text = re.sub(r"--.*", "", read("crates/forms/specs/Rows.antt"))
-    body = text[text.index("names =\n"):text.index("abbrev pub rowCount")]
+    body = text[text.index("names =\n"):text.index("abbrev pub row_count")]
     return ["".join(chr(int(n)) for n in re.findall(r"\d+", name)) for name in re.findall(r"\((\d[^()]*)\)", body)]
 
 

@@ -116,12 +116,14 @@ long_name() {
 }
 
 # What the pages and the words below a table call proved is there: each name is declared in the crates' definitions or proofs; a mere use is not enough.
+# What the command writes keeps the spelling of a law or definition that it has always had (reach-claim, boundsOf): in the crates it is in snake case.
 named_facts() {
   local name
   { grep -o '<code>[^<]*</code>' host/bench/src/page/proved.html | sed 's/<[^>]*>//g'
     grep -o '(law [^)]*)' host/bench/src/reach/text.rs | tr -d '()' | cut -d ' ' -f 2; } | sort -u >"$work/facts"
   [ "$(wc -l <"$work/facts")" -ge 10 ] || return 1
   while read -r name; do
+    case $name in [a-z]*) name=$(sed 's/-/_/g; s/\([a-z]\)\([A-Z]\)/\1_\l\2/g' <<<"$name") ;; esac
     grep -rqE --include='*.antt' "(^|[ ;])pub (record )?$name( |\$)" crates || { echo "no $name in crates"; return 1; }
   done <"$work/facts"
 }
