@@ -11,7 +11,8 @@ use Rattle.words.proofs.Word.{by_test}
 use Rattle.capability.specs.Capability.{integer}
 use Rattle.capability.specs.declared.Capability.{Capability}
 use Rattle.instructions.specs.declared.Csr.TheVariants.{Mstatus, Mcause, Mtval, Mshwm}
-use Rattle.state.specs.Layout.{capability_words, general_count, capability_count, control_start, pcc_index, mtcc_index, mepcc_index, scr_index, csr_index, time_index}
+use Rattle.state.specs.Layout.{capability_words, general_count, capability_count, control_start, pcc_index, mtcc_index, mepcc_index, scr_index, csr_index}
+use Rattle.state.specs.Layout.{time_index}
 use Rattle.state.specs.Addresses.{vector_alignment, return_alignment}
 use Rattle.state.specs.Registers.{capability_at, set_capability, write_register, pcc_of}
 use Rattle.state.specs.Marks.{cleared, below_mark, marked}
@@ -28,7 +29,8 @@ use Rattle.authority_laws.proofs.Closed.{Carried, Files}
 -- ---- a capability read after a write
 
 -- a word that is none of its three
-read_beside : (l : List ℕ) (p v i : ℕ) → (i * capability_words ≤ p → i * capability_words + capability_words ≤ p) → capability_at (set l p v) i ≡ capability_at l i
+read_beside : (l : List ℕ) (p v i : ℕ) → (i * capability_words ≤ p → i * capability_words + capability_words ≤ p) → capability_at (set l p v) i
+    ≡ capability_at l i
 unfolding capability_at
 read_beside l p v i b =
     rw (
@@ -78,7 +80,8 @@ module _ (P : Capability → Type 0) where
   pub file_register : (l : List ℕ) (rd : ℕ) (c : Capability) → P c → Files P l → Files P (write_register l rd c)
   unfolding write_register
   file_register l rd c p h =
-      cond_holds (Files P) (eqb (rd % general_count) 0) l (set_capability l (rd % general_count) c) h (file_capability l (rd % general_count) c (omega arith) p h)
+      cond_holds (Files P) (eqb (rd % general_count) 0) l (set_capability l (rd % general_count) c) h
+          (file_capability l (rd % general_count) c (omega arith) p h)
 
   -- the mark and time
   file_moved : (a : ℕ) (l : List ℕ) → Files P l → Files P (marked a l)

@@ -15,7 +15,8 @@ pub data PackedVisits (board : Board) (revoked mem : List ℕ) : (calls granule 
 -- The theorem of the pass, of calls from C (law `packed_claim`).
 pub record PackedClaim (board : Board) (revoked mem before : List ℕ) : Type 0 where
   -- where the first call is not refused, none is, and they come to the end, after as many calls as there are granules
-  pub comes_to_end : visit_refusal board revoked mem before 0 ≡ 0 → ((after : List ℕ) × PackedVisits board revoked mem (granules_in (length mem)) 0 before after)
+  pub comes_to_end : visit_refusal board revoked mem before 0 ≡ 0
+      → ((after : List ℕ) × PackedVisits board revoked mem (granules_in (length mem)) 0 before after)
   -- what any full pass leaves, and how many calls it was
   pub sweeps : (calls : ℕ) (after : List ℕ) → PackedVisits board revoked mem calls 0 before after → Swept board revoked mem before after
   pub one_each : (calls : ℕ) (after : List ℕ) → PackedVisits board revoked mem calls 0 before after → calls ≡ granules_in (length mem)

@@ -1,11 +1,13 @@
 -- Which addresses give a metadata word the same bounds: those of one block, and at exponent 24 all. Assumes nothing.
-use Rattle.std.proofs.Common.{◌≡◌, ℕ, ◌+◌, ◌-◌, ◌*◌, ◌/◌, ◌%◌, ◌^◌, ◌<◌, ◌≤◌, Bool, true, false, ◌&&◌, ◌||◌, eqb, ◌⊎◌, ◌↔◌, sym, refl, ap, ◌∙◌, inl, inr, eq-zero-or-pos, mul-div_cancel, arith, pow_pos, eq-eqb, eqb-true}
+use Rattle.std.proofs.Common.{◌≡◌, ℕ, ◌+◌, ◌-◌, ◌*◌, ◌/◌, ◌%◌, ◌^◌, ◌<◌, ◌≤◌, Bool, true, false, ◌&&◌, ◌||◌, eqb, ◌⊎◌, ◌↔◌, sym, refl, ap, ◌∙◌, inl, inr}
+use Rattle.std.proofs.Common.{eq-zero-or-pos, mul-div_cancel, arith, pow_pos, eq-eqb, eqb-true}
 use Rattle.metadata.specs.Word.{scale_of, top_of, base_of}
 use Rattle.metadata.proofs.Words.{scale_lt, top_lt, base_lt}
 use Rattle.bounds.specs.Bounds.{less, mid_of, up_of, low_of, high_of, low_at, high_at, exponent_of}
 use Rattle.bounds.proofs.Exponent.{Exponent, exponent_of_lem, exponent_le}
 use Rattle.bounds.proofs.Program.{Test, test}
-use Rattle.bounds.proofs.Decode.{whole_space, unit_below, many, block_of, block_up, low_block, high_block, low_at_lem, high_at_lem, Stands, units_many, units_few}
+use Rattle.bounds.proofs.Decode.{whole_space, unit_below, many, block_of, block_up, low_block, high_block, low_at_lem, high_at_lem, Stands, units_many}
+use Rattle.bounds.proofs.Decode.{units_few}
 
 -- both bounds at b are those at a
 abbrev pub Same : (e T B a b : ℕ) → Type 0
@@ -122,7 +124,8 @@ either_equal a b c d = (λ h. to ((either (eqb a b) (eqb c d)).0 h), λ h. (eith
 
 pub same_test : (a b w : ℕ) → a < 2 ^ 32 → b < 2 ^ 32
     → eqb (low_at b w) (low_at a w) && eqb (high_at b w) (high_at a w)
-    ≡ (eqb (exponent_of (scale_of w)) 24 || eqb (block_of (b / 2 ^ exponent_of (scale_of w)) (base_of w)) (block_of (a / 2 ^ exponent_of (scale_of w)) (base_of w)))
+    ≡ (eqb (exponent_of (scale_of w)) 24 || eqb (block_of (b / 2 ^ exponent_of (scale_of w)) (base_of w))
+    (block_of (a / 2 ^ exponent_of (scale_of w)) (base_of w)))
 same_test a b w ha hb =
     let s = same_blocks a b w ha hb in
     let e : ℕ = exponent_of (scale_of w) in

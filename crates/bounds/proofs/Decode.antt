@@ -1,6 +1,7 @@
 -- The bounds in units of 2^e: the definitions are those of whole numbers, and what a cut's own fields and any other fields decode to.
 -- Assumes nothing.
-use Rattle.std.proofs.Common.{◌≡◌, ℕ, ◌+◌, ◌-◌, ◌*◌, ◌/◌, ◌%◌, ◌^◌, ◌<◌, ◌≤◌, ◌⊎◌, ap, ◌∙◌, inl, inr, add_assoc, mul-le-mul_right, div-lt_iff_lt-mul, mul-lt-mul_of_pos_right, arith, pow_pos, pow_mono, pow-add}
+use Rattle.std.proofs.Common.{◌≡◌, ℕ, ◌+◌, ◌-◌, ◌*◌, ◌/◌, ◌%◌, ◌^◌, ◌<◌, ◌≤◌, ◌⊎◌, ap, ◌∙◌, inl, inr, add_assoc, mul-le-mul_right, div-lt_iff_lt-mul}
+use Rattle.std.proofs.Common.{mul-lt-mul_of_pos_right, arith, pow_pos, pow_mono, pow-add}
 use native.Mathlib.Nat.{div-div-eq-div-mul, mod-add-mod, mul-add-mod_self_right}
 use lib.Arith.{digits_mod}
 use Rattle.bounds.specs.Bounds.{less, mid_of, up_of, low_of, high_of}

@@ -1,5 +1,6 @@
 -- Powers of 2 as the functions use them, the tests h and t, and limits of the cut's fields. Assumes nothing.
-use Rattle.std.proofs.Common.{◌≡◌, ℕ, ◌+◌, ◌-◌, ◌*◌, ◌%◌, ◌^◌, ◌<◌, ◌≤◌, Bool, true, false, cond, ltb, ◌⊎◌, sym, refl, ap, ◌∙◌, inl, inr, one-mul, arith, pow_mono, shl_exact, ltb-false, ltb-true}
+use Rattle.std.proofs.Common.{◌≡◌, ℕ, ◌+◌, ◌-◌, ◌*◌, ◌%◌, ◌^◌, ◌<◌, ◌≤◌, Bool, true, false, cond, ltb, ◌⊎◌, sym, refl, ap, ◌∙◌, inl, inr, one-mul, arith}
+use Rattle.std.proofs.Common.{pow_mono, shl_exact, ltb-false, ltb-true}
 use Rattle.bounds.specs.Bounds.{less}
 use Rattle.bounds.specs.Cutting.{cut_exponent, scale_field, cut_base, cut_top}
 use Rattle.bounds.proofs.Exponent.{cut_exponent_lem, field_small}

@@ -1,5 +1,6 @@
 -- Rounding to multiples of a unit, and units that divide one another. Assumes nothing.
-use Rattle.std.proofs.Common.{◌≡◌, ℕ, zero, ◌+◌, ◌-◌, ◌*◌, ◌/◌, ◌^◌, ◌<◌, ◌≤◌, ap, mul-le-mul_right, mul_assoc, div-lt_iff_lt-mul, le-div_iff_mul-le, sub-add_cancel, div-mul-le_self, arith, pow-add}
+use Rattle.std.proofs.Common.{◌≡◌, ℕ, zero, ◌+◌, ◌-◌, ◌*◌, ◌/◌, ◌^◌, ◌<◌, ◌≤◌, ap, mul-le-mul_right, mul_assoc, div-lt_iff_lt-mul, le-div_iff_mul-le}
+use Rattle.std.proofs.Common.{sub-add_cancel, div-mul-le_self, arith, pow-add}
 use native.Mathlib.Nat.{lt-div-mul-add}
 
 -- x over p, rounded down: k * p ≤ x exactly for the k up to it

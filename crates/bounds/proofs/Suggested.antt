@@ -1,6 +1,7 @@
 -- The cut's exponent is the one that the length's leading zeros propose, or the next: less than it leaves the length alone above 511 units, and the next
 -- leaves it at most 256. Assumes nothing.
-use Rattle.std.proofs.Common.{◌≡◌, ℕ, suc, ◌+◌, ◌-◌, ◌*◌, ◌/◌, ◌^◌, ◌<◌, ◌≤◌, true, false, ◌⊎◌, ap, inl, inr, mul-le-mul_right, eq-zero-or-pos, eq-or-lt_of_le, div-mul-le_self, arith, pow_pos, pow_mono, pow-add, le-leb}
+use Rattle.std.proofs.Common.{◌≡◌, ℕ, suc, ◌+◌, ◌-◌, ◌*◌, ◌/◌, ◌^◌, ◌<◌, ◌≤◌, true, false, ◌⊎◌, ap, inl, inr, mul-le-mul_right, eq-zero-or-pos, eq-or-lt_of_le}
+use Rattle.std.proofs.Common.{div-mul-le_self, arith, pow_pos, pow_mono, pow-add, le-leb}
 use native.Mathlib.Nat.{suc_inj, lt-div-mul-add}
 use borrow.Author.Tests.{lt-leb}
 use lib.Count.{count_leading_zeros, leading_of_zero, leading_top}

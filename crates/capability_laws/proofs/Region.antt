@@ -12,7 +12,8 @@ use lib.Pow.{pow_pos}
 use Rattle.metadata.specs.Word.{scale_of, top_of, base_of}
 use Rattle.metadata.proofs.Words.{scale_lt, top_lt, base_lt}
 use Rattle.bounds.specs.Bounds.{less, low_of, high_of, low_at, high_at, exponent_of, Expressible, Contains}
-use Rattle.bounds.specs.Cutting.{floor_at, ceil_at, round_down, round_up, fits_at, cut_exponent, cut_base, cut_top, with_cut, unrounded, cut_low, cut_high, cut_exact}
+use Rattle.bounds.specs.Cutting.{floor_at, ceil_at, round_down, round_up, fits_at, cut_exponent, cut_base, cut_top, with_cut, unrounded, cut_low, cut_high}
+use Rattle.bounds.specs.Cutting.{cut_exact}
 use Rattle.bounds.proofs.Rounding.{floor_ge, ceil_ge, ceil_le, floor_nest, ceil_nest, pow_split}
 use Rattle.bounds.proofs.Exponent.{Exponent, exponent_of_lem, exponent_of_field, exponent_le, cut_exponent_lem, IsLeast, least}
 use Rattle.bounds.proofs.Program.{test}
@@ -162,7 +163,8 @@ module _ (base end : ℕ) (word : base < 2 ^ 32) (order : base ≤ end) (top : e
         to = rw cut_high_lem (le_trans (ceil_nest end _ (pow_pos e) (pow_pos (cut_exponent base end)) s) r.to);
       }
 
-  pub cut_inside : (a w : ℕ) → a < 2 ^ 32 → Contains (low_at a w) (high_at a w) base end → Contains (low_at a w) (high_at a w) (cut_low base end) (cut_high base end)
+  pub cut_inside : (a w : ℕ) → a < 2 ^ 32 → Contains (low_at a w) (high_at a w) base end → Contains (low_at a w) (high_at a w) (cut_low base end)
+      (cut_high base end)
   unfolding low_at high_at
   cut_inside a w ha k =
       inside_fields (exponent_of (scale_of w)) (top_of w) (base_of w) a (exponent_of_lem (scale_of w) (scale_lt w)) (top_lt w) (base_lt w) ha k.from k.to

@@ -1,5 +1,6 @@
 -- The mark and time, read after what records them: each write changes its own words alone. Assumes nothing.
-use Rattle.std.proofs.Common.{◌≡◌, ℕ, ◌+◌, ◌*◌, ◌/◌, ◌%◌, ◌^◌, ◌<◌, ◌≤◌, Bool, true, false, cond, ◌&&◌, ltb, leb, List, length, get_or, set, sym, refl, ◌∙◌, arith, length-set, get_or-set_other, get_or-set_same, ltb-true}
+use Rattle.std.proofs.Common.{◌≡◌, ℕ, ◌+◌, ◌*◌, ◌/◌, ◌%◌, ◌^◌, ◌<◌, ◌≤◌, Bool, true, false, cond, ◌&&◌, ltb, leb, List, length, get_or, set, sym, refl, ◌∙◌}
+use Rattle.std.proofs.Common.{arith, length-set, get_or-set_other, get_or-set_same, ltb-true}
 use Rattle.instructions.specs.declared.Csr.{Csr}
 use Rattle.instructions.specs.declared.Csr.TheVariants.{Mstatus, Mcause, Mtval, Mshwm, Mshwmb}
 use Rattle.state.specs.Layout.{register_words, csr_index, time_index, compare_index}
@@ -29,7 +30,8 @@ unfolding time_of ticked
 ticked_time l h =
     let low : List ℕ = set l time_index (next_time l % 2 ^ 32) in
     let p : get_or (set low (time_index + 1) (next_time l / 2 ^ 32)) time_index 0 ≡ next_time l % 2 ^ 32 =
-    get_or-set_other low (time_index + 1) time_index (next_time l / 2 ^ 32) 0 (λ e. omega arith) ∙ get_or-set_same l time_index (next_time l % 2 ^ 32) 0 (omega arith) in
+    get_or-set_other low (time_index + 1) time_index (next_time l / 2 ^ 32) 0 (λ e. omega arith) ∙ get_or-set_same l time_index (next_time l % 2 ^ 32) 0
+        (omega arith) in
     let q : get_or (set low (time_index + 1) (next_time l / 2 ^ 32)) (time_index + 1) 0 ≡ next_time l / 2 ^ 32 =
     get_or-set_same low (time_index + 1) (next_time l / 2 ^ 32) 0 (simp length-set (omega arith)) in
     rw (p, q) (omega arith)

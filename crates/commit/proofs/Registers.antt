@@ -1,12 +1,14 @@
 -- A rule of each word of the register file that every write keeps holds after an effect. Assumes nothing.
-use Rattle.std.proofs.Common.{◌≡◌, ℕ, ◌+◌, ◌*◌, ◌/◌, ◌%◌, ◌^◌, ◌<◌, ◌≤◌, Bool, true, false, cond, eqb, ltb, List, length, get_or, set, sym, refl, subst, arith, get_or-set_other, get_or-set_same, ltb-false, ltb-true, eqb-true}
+use Rattle.std.proofs.Common.{◌≡◌, ℕ, ◌+◌, ◌*◌, ◌/◌, ◌%◌, ◌^◌, ◌<◌, ◌≤◌, Bool, true, false, cond, eqb, ltb, List, length, get_or, set, sym, refl, subst, arith}
+use Rattle.std.proofs.Common.{get_or-set_other, get_or-set_same, ltb-false, ltb-true, eqb-true}
 use lib.Seq.{set_out}
 use borrow.Author.Tests.{eqb-false}
 use Rattle.words.proofs.Word.{by_test}
 use Rattle.capability.specs.Capability.{move_of}
 use Rattle.capability.specs.declared.Capability.{Capability}
 use Rattle.instructions.specs.declared.Csr.TheVariants.{Mstatus, Mcause, Mtval, Mshwm}
-use Rattle.state.specs.Layout.{capability_words, general_count, capability_count, control_start, pcc_index, mtcc_index, mepcc_index, csr_index, scr_index, time_index}
+use Rattle.state.specs.Layout.{capability_words, general_count, capability_count, control_start, pcc_index, mtcc_index, mepcc_index, csr_index, scr_index}
+use Rattle.state.specs.Layout.{time_index}
 use Rattle.state.specs.Registers.{capability_at, pcc_of, mstatus_of, set_capability, write_register}
 use Rattle.state.specs.Addresses.{next_address, vector_alignment, return_alignment, legalized}
 use Rattle.state.specs.Status.{trap_status}

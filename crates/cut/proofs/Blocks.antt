@@ -1,6 +1,7 @@
 -- A block taken in pieces leads to the state of all its bytes, and the answers of the reads and writes decide what a turn comes to.
 -- Assumes nothing.
-use Rattle.std.proofs.Common.{◌≡◌, ℕ, zero, suc, ◌+◌, ◌≤◌, min, true, false, List, [], ◌++◌, length, take, drop, refl, sym, ap, ◌∙◌, ◌⊎◌, inl, inr, arith, Result, Ok, Err, OnOk, is_ok, is_err, zero-add, length-append}
+use Rattle.std.proofs.Common.{◌≡◌, ℕ, zero, suc, ◌+◌, ◌≤◌, min, true, false, List, [], ◌++◌, length, take, drop, refl, sym, ap, ◌∙◌, ◌⊎◌, inl, inr, arith}
+use Rattle.std.proofs.Common.{Result, Ok, Err, OnOk, is_ok, is_err, zero-add, length-append}
 use borrow.Author.Tests.{le-leb}
 use lib.Seq.{take-add, take_all, take-append_seam}
 use Rattle.std.specs.declared.io.Error.{Error}

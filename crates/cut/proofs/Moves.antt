@@ -1,6 +1,7 @@
 -- What a turn and a run do to the bytes that a reader has left and those that a writer holds.
 -- Assumes nothing.
-use Rattle.std.proofs.Common.{◌≡◌, ℕ, zero, suc, ◌+◌, ◌<◌, ◌≤◌, min, List, [], ◌++◌, length, take, drop, refl, sym, ap, ◌∙◌, arith, Result, Ok, Err, None, Some, append-nil}
+use Rattle.std.proofs.Common.{◌≡◌, ℕ, zero, suc, ◌+◌, ◌<◌, ◌≤◌, min, List, [], ◌++◌, length, take, drop, refl, sym, ap, ◌∙◌, arith, Result, Ok, Err, None}
+use Rattle.std.proofs.Common.{Some, append-nil}
 use lib.Seq.{take-add, take_all}
 use Rattle.std.specs.declared.option.Option.{Option}
 use Rattle.std.specs.Io.{ReadsAtMost}

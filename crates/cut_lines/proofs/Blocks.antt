@@ -1,6 +1,7 @@
 -- A block taken byte by byte: how many bytes are taken, and what the loop over them keeps.
 -- Assumes nothing.
-use Rattle.std.proofs.Common.{◌≡◌, ℕ, suc, ◌+◌, ◌-◌, ◌<◌, ◌≤◌, Bool, true, false, cond, ltb, List, [], ◌∷◌, ◌++◌, length, get_or, take, drop, refl, ap, ◌∙◌, append-nil, add-one, arith, take-append-drop, drop_of_length-le, drop-cons, take-suc, le-ltb, lt-ltb}
+use Rattle.std.proofs.Common.{◌≡◌, ℕ, suc, ◌+◌, ◌-◌, ◌<◌, ◌≤◌, Bool, true, false, cond, ltb, List, [], ◌∷◌, ◌++◌, length, get_or, take, drop, refl, ap, ◌∙◌}
+use Rattle.std.proofs.Common.{append-nil, add-one, arith, take-append-drop, drop_of_length-le, drop-cons, take-suc, le-ltb, lt-ltb}
 use Rattle.cut_lines.specs.Scanning.{stepped, step_text, scanned, scan_text, taken, Processed}
 use Rattle.text.specs.Writing.{Puts, Placed}
 use Rattle.text.proofs.Putting.{placed, placed_none, placed_then, placed_length}
@@ -35,7 +36,8 @@ text_more : (s : Scan) (l : List ℕ) (i : ℕ) → i < length l
 unfolding scan_text
 text_more s l i h =
     rw (add-one i, take-suc l i 0 h)
-    (text_append s (take i l) (get_or l i 0 ∷ []) ∙ ap (λ (t : List ℕ). scan_text s (take i l) ++ t) (append-nil (step_text (scanned s (take i l)) (get_or l i 0))))
+    (text_append s (take i l) (get_or l i 0 ∷ []) ∙ ap (λ (t : List ℕ). scan_text s (take i l) ++ t)
+        (append-nil (step_text (scanned s (take i l)) (get_or l i 0))))
 
 taken_turn : (s : Scan) (l : List ℕ) (i room : ℕ) → i < length l → longest ≤ room
     → taken s (drop i l) room ≡ suc (taken (stepped s (get_or l i 0)) (drop (i + 1) l) (room - length (step_text s (get_or l i 0))))

@@ -3,7 +3,8 @@
 use Rattle.std.proofs.Common.{◌≡◌, ℕ, List, [], ◌∷◌, ◌++◌, refl}
 use Rattle.metadata.specs.Word.{scale_of, top_of, base_of, with_bounds}
 use Rattle.bounds.specs.Bounds.{exponent_of, low_of, high_of, low_at, high_at}
-use Rattle.bounds.specs.Cutting.{floor_at, ceil_at, fits_at, first_fit, cut_exponent, scale_field, cut_base, cut_top, with_cut, cut_low, cut_high, cut_exact, cut_of}
+use Rattle.bounds.specs.Cutting.{floor_at, ceil_at, fits_at, first_fit, cut_exponent, scale_field, cut_base, cut_top, with_cut, cut_low, cut_high, cut_exact}
+use Rattle.bounds.specs.Cutting.{cut_of}
 use Rattle.text.specs.Digits.{digit_of, all_digits, number_from, glyph, digits, places_within, places_of, decimal}
 use Rattle.text.specs.Writing.{tab, newline}
 use Rattle.cut_lines.specs.Lines.{header_text, bad_text}
@@ -26,8 +27,10 @@ line2 = 50 ∷ tab ∷ 98 ∷ 97 ∷ 100 ∷ tab ∷ 54 ∷ newline ∷ []
 
 -- the second request has no newline
 pub example : text_of (request1 ++ (newline ∷ request2)) ≡ header_text ++ line1 ++ line2
-unfolding text_of lines_of start_line lines_text line_text well_formed requested cut_text digit_of all_digits number_from glyph digits places_within places_of decimal
-    cut_of cut_low cut_high cut_exact with_cut cut_top cut_base scale_field cut_exponent first_fit fits_at ceil_at floor_at low_at high_at low_of high_of exponent_of with_bounds
+unfolding text_of lines_of start_line lines_text line_text well_formed requested cut_text digit_of all_digits number_from glyph digits places_within places_of
+    decimal
+    cut_of cut_low cut_high cut_exact with_cut cut_top cut_base scale_field cut_exponent first_fit fits_at ceil_at floor_at low_at high_at low_of high_of
+        exponent_of with_bounds
     scale_of top_of base_of
 example = refl
 

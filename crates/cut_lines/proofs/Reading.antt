@@ -1,6 +1,8 @@
 -- A line read byte by byte: the state after its bytes tells what is written for it.
 -- Assumes nothing.
-use Rattle.std.proofs.Common.{◌≡◌, ℕ, zero, suc, ◌+◌, ◌*◌, ◌/◌, ◌%◌, ◌^◌, ◌<◌, ◌≤◌, Bool, true, false, cond, ◌&&◌, eqb, ltb, List, [], ◌∷◌, length, get_or, take, drop, sym, refl, ap, ◌∙◌, add-zero, zero-add, add-one, arith, length-drop, drop_of_length-le, length-take-le, drop-cons, ltb-false, ltb-true, lt-ltb, eq-eqb, ne_eqb, eqb-true}
+use Rattle.std.proofs.Common.{◌≡◌, ℕ, zero, suc, ◌+◌, ◌*◌, ◌/◌, ◌%◌, ◌^◌, ◌<◌, ◌≤◌, Bool, true, false, cond, ◌&&◌, eqb, ltb, List, [], ◌∷◌, length, get_or}
+use Rattle.std.proofs.Common.{take, drop, sym, refl, ap, ◌∙◌, add-zero, zero-add, add-one, arith, length-drop, drop_of_length-le, length-take-le, drop-cons}
+use Rattle.std.proofs.Common.{ltb-false, ltb-true, lt-ltb, eq-eqb, ne_eqb, eqb-true}
 use mathlib.Core.Bool.{and-true, and-false, and_assoc, and-eq-true_iff}
 use Rattle.text.specs.Digits.{digit_of, is_digit, all_digits, number_from, number_of}
 use Rattle.text.specs.Writing.{tab}
@@ -91,7 +93,8 @@ value_with_lem : (p v x b : ℕ) → expected p b ≡ true → x ≡ v % 2 ^ 64 
 unfolding expected value_with
 value_with_lem p v x b h e = go (eqb p 8) h
   where
-    go : (t : Bool) → cond t (eqb b tab) (is_digit b && ltb p 17) ≡ true → cond t x ((x * 2 ^ 4) % 2 ^ 64 + digit_of b) ≡ cond t v (v * 16 + digit_of b) % 2 ^ 64
+    go : (t : Bool) → cond t (eqb b tab) (is_digit b && ltb p 17) ≡ true → cond t x ((x * 2 ^ 4) % 2 ^ 64 + digit_of b) 
+        ≡ cond t v (v * 16 + digit_of b) % 2 ^ 64
     go true k = e
     go false k = digit_mod v x (digit_of b) (digit_lt b ((and-eq-true_iff (is_digit b) (ltb p 17)).0 k).0) e
 

@@ -1,5 +1,6 @@
 -- Where PCC passes the checks for four bytes and they are in memory, the fetch finds what stands there, whichever its length. Assumes nothing.
-use Rattle.std.proofs.Common.{◌≡◌, ℕ, ◌+◌, ◌-◌, ◌%◌, ◌<◌, ◌≤◌, Bool, true, false, cond, not, ◌&&◌, leb, List, length, sym, refl, true≢false, arith, le-leb, leb-true}
+use Rattle.std.proofs.Common.{◌≡◌, ℕ, ◌+◌, ◌-◌, ◌%◌, ◌<◌, ◌≤◌, Bool, true, false, cond, not, ◌&&◌, leb, List, length, sym, refl, true≢false, arith, le-leb}
+use Rattle.std.proofs.Common.{leb-true}
 use Rattle.words.specs.Words.{le_bytes}
 use Rattle.metadata.specs.Rights.{EX}
 use Rattle.capability.specs.Capability.{low, high, covers, grants, sealed, tagged}

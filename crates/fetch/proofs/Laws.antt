@@ -1,5 +1,6 @@
 -- What is fetched: what holds of every fault, of the long word there and of the half there holds of the fetch. Assumes nothing.
-use Rattle.std.proofs.Common.{◌≡◌, ℕ, ◌+◌, ◌-◌, ◌%◌, ◌^◌, ◌<◌, ◌≤◌, Bool, true, false, cond, not, ◌&&◌, eqb, leb, List, length, refl, subst, arith, eqb-true, leb-true}
+use Rattle.std.proofs.Common.{◌≡◌, ℕ, ◌+◌, ◌-◌, ◌%◌, ◌^◌, ◌<◌, ◌≤◌, Bool, true, false, cond, not, ◌&&◌, eqb, leb, List, length, refl, subst, arith, eqb-true}
+use Rattle.std.proofs.Common.{leb-true}
 use Rattle.words.specs.Words.{le_bytes, wrap}
 use Rattle.words.proofs.Word.{by_test}
 use Rattle.metadata.specs.Rights.{EX}
@@ -39,7 +40,8 @@ module _ (pcc : Capability) (start : ℕ) (mem : List ℕ) where
   module _ (P : Fetched → Type 0) (fault : (n v : ℕ) → n < 2 ^ 32 → (pcc.address < 2 ^ 32 → v < 2 ^ 32) → P (Fault n v))
       (long : Reached pcc start mem long_bytes → is_long half_there ≡ true → P (Long long_there))
       (half : Reached pcc start mem half_bytes → is_long half_there ≡ false → P (Half half_there)) where
-    second_holds : Reached pcc start mem half_bytes → is_long half_there ≡ true → P (second_of pcc long_there (leb (pcc.address - start + long_bytes) (length mem)))
+    second_holds : Reached pcc start mem half_bytes → is_long half_there ≡ true
+        → P (second_of pcc long_there (leb (pcc.address - start + long_bytes) (length mem)))
     unfolding second_of shut_out
     second_holds r t =
         by_test (in_bounds pcc pcc.address long_bytes)

@@ -1,14 +1,17 @@
 -- Each instruction that the decoder gives: made again of what is listed of it, it is the word that it was decoded from; it has a row; and its operands are
 -- words. One law a format, and the decoder's own tests, walked by search: a row more needs no line here.
-use Rattle.std.proofs.Common.{◌≡◌, ℕ, ◌+◌, ◌*◌, ◌/◌, ◌%◌, ◌^◌, ◌<◌, ◌≤◌, Bool, true, false, cond, ◌&&◌, eqb, ltb, get_or, sym, refl, ap, ◌∙◌, arith, eq-eqb, ne_eqb, eqb-true}
+use Rattle.std.proofs.Common.{◌≡◌, ℕ, ◌+◌, ◌*◌, ◌/◌, ◌%◌, ◌^◌, ◌<◌, ◌≤◌, Bool, true, false, cond, ◌&&◌, eqb, ltb, get_or, sym, refl, ap, ◌∙◌, arith, eq-eqb}
+use Rattle.std.proofs.Common.{ne_eqb, eqb-true}
 use mathlib.Core.Bool.{false≢true}
 use borrow.Author.Tests.{eqb-false}
 use Rattle.words.specs.Words.{wrap}
 use Rattle.words.proofs.Word.{by_test, sign_extend_word}
 use Rattle.instructions.specs.Fields.{opcode, rd_of, funct3, rs1_of, rs2_of, funct7, upper12, immediate_i, immediate_s, immediate_b, immediate_u, immediate_j}
 use Rattle.instructions.specs.Fields.{offset_aui}
-use Rattle.instructions.specs.Decode.{naming_of, load_of, store_of, fence_of, alu_of, shift_left_of, shift_right_of, op_imm_of, op32_of, multiply_of, op_by_of, op_of, lui_of}
-use Rattle.instructions.specs.Decode.{auipcc_of, auicgp_of, jal_of, branch_of, jalr_of, csr_register_of, csr_immediate_of, csr_of, whole_of, system_of, special_of}
+use Rattle.instructions.specs.Decode.{naming_of, load_of, store_of, fence_of, alu_of, shift_left_of, shift_right_of, op_imm_of, op32_of, multiply_of, op_by_of}
+use Rattle.instructions.specs.Decode.{op_of, lui_of}
+use Rattle.instructions.specs.Decode.{auipcc_of, auicgp_of, jal_of, branch_of, jalr_of, csr_register_of, csr_immediate_of, csr_of, whole_of, system_of}
+use Rattle.instructions.specs.Decode.{special_of}
 use Rattle.instructions.specs.Decode.{source_dest_of, combine_of, two_source_of, capability_of, decode_of}
 use Rattle.instructions.specs.declared.Alu.{Alu}
 use Rattle.instructions.specs.declared.Csr.{Csr}
@@ -243,7 +246,8 @@ module _ (w : ℕ) where
   unfolding jal_of instruction_shape jump_shape is_legal fixed_bits formats
   jal o = search (naming, row_j) depth 40
 
-  alu_immediate : opcode w ≡ 0x13 → (funct3 w ≡ 1 → ⊥) → (funct3 w ≡ 5 → ⊥) → Good w w (Integer (OpImm (alu_of (funct3 w)) (rd_of w) (rs1_of w) (immediate_i w)))
+  alu_immediate : opcode w ≡ 0x13 → (funct3 w ≡ 1 → ⊥) → (funct3 w ≡ 5 → ⊥)
+      → Good w w (Integer (OpImm (alu_of (funct3 w)) (rd_of w) (rs1_of w) (immediate_i w)))
   unfolding alu_of instruction_shape integer_shape is_legal fixed_bits formats
   alu_immediate o p q =
       let Q : Alu → Type 0 = λ a. Good w w (Integer (OpImm a (rd_of w) (rs1_of w) (immediate_i w))) in

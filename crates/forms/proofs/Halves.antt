@@ -5,7 +5,8 @@ use Rattle.words.specs.Words.{sign_extend}
 use Rattle.choices.proofs.Every.{every, every_at}
 use Rattle.short_forms.specs.Fields.{immediate_wide, offset_word, offset_double, immediate_six, immediate_sixteens, immediate_upper, offset_jump, offset_branch}
 use Rattle.short_forms.specs.Fields.{offset_load_word, offset_load_double, offset_store_word, offset_store_double}
-use Rattle.short_forms.specs.Forms.{addi4spn_of, quadrant0, addi16sp_of, upper_of, two_of, arithmetic_of, quadrant1, slli_of, lwsp_of, ldsp_of, moves_of, adds_of}
+use Rattle.short_forms.specs.Forms.{addi4spn_of, quadrant0, addi16sp_of, upper_of, two_of, arithmetic_of, quadrant1, slli_of, lwsp_of, ldsp_of, moves_of}
+use Rattle.short_forms.specs.Forms.{adds_of}
 use Rattle.short_forms.specs.Forms.{registers_of, quadrant2, short_of}
 use Rattle.forms.specs.ShortShapes.{short_shape}
 use Rattle.forms.specs.Rows.{fixed_bits, formats}

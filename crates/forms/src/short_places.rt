@@ -1,6 +1,7 @@
 // Operands of halves in their places, a function a format. Of each field its low bits.
 ghost use Rattle.std.specs.Prelude.{◌≡◌};
-ghost use Rattle.forms.specs.Encoding.{place_wide, place_word, place_double, place_six, place_six_eight, place_sixteens, place_eights, place_jump, place_branch};
+ghost use Rattle.forms.specs.Encoding.{place_wide, place_word, place_double, place_six, place_six_eight, place_sixteens, place_eights, place_jump};
+ghost use Rattle.forms.specs.Encoding.{place_branch};
 ghost use Rattle.forms.specs.Encoding.{place_load_word, place_load_double, place_store_word, place_store_double, place_full, short_place_of};
 
 fn place_wide(b: u32, c: u32) -> u32

@@ -50,19 +50,22 @@ guarded_runs = refl
 -- nothing may store from 0x20000020 on; c1 is the first that may from 0x2000001F on; and PCC, number 16, the first that may load there
 pub guarded_nowhere : reach_answer 0x20000000 (query_of 0x20000020 0x20 (2 ^ SD)) 0 guarded ≡ Nowhere
 unfolding guarded reach_answer reach_refusal asked_refusal first_reach capability_is reaches_into first_of good_memory good_bits good_tags good_zero good_words
-    set_capability set_bytes le_bytes bit_at capability_at capability_in tagged sound low high rights low_at high_at low_of high_of exponent_of scale_of top_of base_of
+    set_capability set_bytes le_bytes bit_at capability_at capability_in tagged sound low high rights low_at high_at low_of high_of exponent_of scale_of top_of
+        base_of
     rights_of permissions_of
 guarded_nowhere = refl
 
 pub guarded_found : reach_answer 0x20000000 (query_of 0x2000001F 0x21 (2 ^ SD)) 0 guarded ≡ Found 1
 unfolding guarded reach_answer reach_refusal asked_refusal first_reach capability_is reaches_into first_of good_memory good_bits good_tags good_zero good_words
-    set_capability set_bytes le_bytes bit_at capability_at capability_in tagged sound low high rights low_at high_at low_of high_of exponent_of scale_of top_of base_of
+    set_capability set_bytes le_bytes bit_at capability_at capability_in tagged sound low high rights low_at high_at low_of high_of exponent_of scale_of top_of
+        base_of
     rights_of permissions_of
 guarded_found = refl
 
 pub guarded_loads : reach_answer 0x20000000 (query_of 0x20000020 0x20 (2 ^ LD)) 0 guarded ≡ Found 16
 unfolding guarded reach_answer reach_refusal asked_refusal first_reach capability_is reaches_into first_of good_memory good_bits good_tags good_zero good_words
-    set_capability set_bytes le_bytes bit_at capability_at capability_in tagged sound low high rights low_at high_at low_of high_of exponent_of scale_of top_of base_of
+    set_capability set_bytes le_bytes bit_at capability_at capability_in tagged sound low high rights low_at high_at low_of high_of exponent_of scale_of top_of
+        base_of
     rights_of permissions_of
 guarded_loads = refl
 
@@ -87,5 +90,6 @@ guarded_stores = (refl, refl)
 
 -- one that stores past bounds, as the second instruction asks
 pub loose_store_shut_out : Stays 32 guarded (apply_effect board.start long_bytes (Store Sw 32 42) guarded) → ⊥
-unfolding guarded apply_effect ticked time_of below_mark marked cleared write_register advanced set_capability capability_at stored retagged set_bytes with_bit put_bit
+unfolding guarded apply_effect ticked time_of below_mark marked cleared write_register advanced set_capability capability_at stored retagged set_bytes with_bit
+    put_bit
 loose_store_shut_out s = omega (arith, s.same_byte)

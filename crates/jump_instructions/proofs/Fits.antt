@@ -27,7 +27,8 @@ use Rattle.jump_instructions.specs.Jumps.{link_of, aligned, jal_effect, jalr_eff
 targeted : (r cause target : ℕ) (e : Effect) → Word target → FitsEffect e → FitsEffect (checked r cause (aligned target e))
 unfolding aligned
 targeted r cause target e t h =
-    checked_fits r cause (aligned target e) (cond_holds FitsEffect (eqb (target % target_alignment) 0) e (Trap fetch_misaligned target) h (tt, (omega arith, t)))
+    checked_fits r cause (aligned target e) (cond_holds FitsEffect (eqb (target % target_alignment) 0) e (Trap fetch_misaligned target) h
+        (tt, (omega arith, t)))
 
 -- in each edition MIE alone changes
 status_fits : (edition t m : ℕ) → Word m → Word (jump_status edition t m)

@@ -20,7 +20,8 @@ use Rattle.jump_instructions.specs.Jumps.{link_of, aligned, jal_effect, jalr_eff
 targeted : (P : Effect → Type 0) (r cause target : ℕ) (e : Effect) → ((n v : ℕ) → P (Trap n v)) → P e → P (checked r cause (aligned target e))
 unfolding aligned
 targeted P r cause target e t h =
-    checked_holds P r cause (aligned target e) t (cond_holds P (eqb (target % target_alignment) 0) e (Trap fetch_misaligned target) h (t fetch_misaligned target))
+    checked_holds P r cause (aligned target e) t (cond_holds P (eqb (target % target_alignment) 0) e (Trap fetch_misaligned target) h
+        (t fetch_misaligned target))
 
 -- what holds of a jump to each target, and of an advance, holds of a branch
 branched : (P : Effect → Type 0) (takes : Bool) (target : ℕ) (regs : List ℕ) → P (taken_effect target regs) → P Advance → P (branch_effect takes target regs)

@@ -1,5 +1,7 @@
 -- The bytes of any words are read as these words; so what assembles lists as the same text.
-use Rattle.std.proofs.Common.{◌≡◌, ℕ, zero, suc, ◌+◌, ◌*◌, ◌/◌, ◌%◌, ◌^◌, ◌<◌, ◌≤◌, true, eqb, ltb, List, [], ◌∷◌, ◌++◌, length, get_or, drop, sym, refl, ap, ◌∙◌, append_assoc, append-nil, add-zero, arith, length-append, drop_of_length-le, get_or-append-add, eq-eqb, ne_eqb, eqb-true, le-leb}
+use Rattle.std.proofs.Common.{◌≡◌, ℕ, zero, suc, ◌+◌, ◌*◌, ◌/◌, ◌%◌, ◌^◌, ◌<◌, ◌≤◌, true, eqb, ltb, List, [], ◌∷◌, ◌++◌, length, get_or, drop, sym, refl, ap}
+use Rattle.std.proofs.Common.{◌∙◌, append_assoc, append-nil, add-zero, arith, length-append, drop_of_length-le, get_or-append-add, eq-eqb, ne_eqb, eqb-true}
+use Rattle.std.proofs.Common.{le-leb}
 use borrow.Author.Tests.{eqb-false}
 use Rattle.words.proofs.Word.{by_test}
 use Rattle.text.specs.Digits.{minus}

@@ -135,7 +135,8 @@ module _ (board : Board) (revoked : List ℕ) (s : State) where
   module _ (after : State) (b : Bool) (good : 0 ≡ step_refusal board revoked s) (retired : b ≡ retires (effect_at board revoked s))
       (left : after ≡ step_of board revoked s) where
     -- of an answer that is Retired or Trapped as the effect says
-    step_done : (a : StepAnswer) → a ≡ cond b StepAnswer.Retired StepAnswer.Trapped → step_number a ≡ 0 → step_retired a ≡ cond b 1 0 → step_trapped a ≡ cond b 0 1
+    step_done : (a : StepAnswer) → a ≡ cond b StepAnswer.Retired StepAnswer.Trapped → step_number a ≡ 0 → step_retired a ≡ cond b 1 0 → step_trapped a
+        ≡ cond b 0 1
         → StepPromise board revoked s after a
     unfolding step_answer step_after
     step_done a q n r t =
@@ -266,7 +267,8 @@ counts_le (suc n) board revoked r =
     (omega (arith, i, p), omega (arith, i, q))
 
 -- a refused run has both counts 0, another at most the steps allowed
-run_counts_le : (n : ℕ) (board : Board) (revoked : List ℕ) (s : State) → (retired_by n board revoked s ≤ most_steps) × (trapped_by n board revoked s ≤ most_steps)
+run_counts_le : (n : ℕ) (board : Board) (revoked : List ℕ) (s : State) → (retired_by n board revoked s ≤ most_steps)
+    × (trapped_by n board revoked s ≤ most_steps)
 run_counts_le n board revoked s = go (eqb (refusal_of n board revoked s) 0) refl
   where
     go : (a : Bool) → eqb (refusal_of n board revoked s) 0 ≡ a

@@ -36,7 +36,8 @@ module _ (board : Board) (revoked : List ℕ) (s : State) (report : board.editio
   unfolding effect_in
   report_effect_at_lem =
       ap (λ (e : Effect). trap_or (fetched_in board s) e)
-      (report_effect_lem (length_in (fetched_in board s)) (instruction_in (fetched_in board s)) (word_in (fetched_in board s)) s.regs (seen board revoked s) report)
+      (report_effect_lem (length_in (fetched_in board s)) (instruction_in (fetched_in board s)) (word_in (fetched_in board s)) s.regs (seen board revoked s)
+          report)
 
   pub report_step_lem : step_of board revoked s ≡ report_step board revoked s
   unfolding step_of

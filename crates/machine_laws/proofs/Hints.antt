@@ -71,7 +71,8 @@ ticked_other l i p q =
     by_test (ltb i time_index) (λ t. ticked_below l i (ltb-true i time_index t)) (λ t. ticked_above l i (above (ltb-false i time_index t)))
   where
     above : time_index ≤ i → time_index + 2 ≤ i
-    above h = by_test (ltb i (time_index + 2)) (λ t. let b = ltb-true i (time_index + 2) t in absurd (q (omega (arith, p)))) (λ t. ltb-false i (time_index + 2) t)
+    above h = by_test (ltb i (time_index + 2)) (λ t. let b = ltb-true i (time_index + 2) t in absurd (q (omega (arith, p))))
+        (λ t. ltb-false i (time_index + 2) t)
 
 -- what stores nothing and only moves on
 alone : (start n : ℕ) (x : Stored) (l : List ℕ) (s : State) → x ≡ nothing → l ≡ advanced n s.regs

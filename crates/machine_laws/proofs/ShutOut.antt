@@ -17,7 +17,8 @@ use Rattle.commit.specs.Commit.{retires}
 use Rattle.execution.specs.Step.{effect_at}
 use Rattle.state.specs.declared.Board.{Board}
 use Rattle.machine.specs.Refusals.{refusal_of, most_steps}
-use Rattle.machine.specs.Run.{step_refusal, retired_of, trapped_of, step_trapped, step_answer, step_after, StepPromise, run_answer, run_after, RunPromise, step_number}
+use Rattle.machine.specs.Run.{step_refusal, retired_of, trapped_of, step_trapped, step_answer, step_after, StepPromise, run_answer, run_after, RunPromise}
+use Rattle.machine.specs.Run.{step_number}
 use Rattle.machine.specs.Run.{ran, ran_from}
 use Rattle.machine.specs.Run.{step_retired, run_number, run_retired, run_trapped}
 use Rattle.machine.specs.declared.StepAnswer.{StepAnswer}

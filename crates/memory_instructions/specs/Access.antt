@@ -13,7 +13,8 @@ use Rattle.instructions.specs.declared.MemoryInstruction.TheVariants as Instruct
 use Rattle.state.specs.Registers.{register_at, integer_at}
 use Rattle.state.specs.Lent.{Lent}
 use Rattle.state.specs.Memory.{load_width, store_width, place_of, capability_in, revocation_at, granule_bytes}
-use Rattle.state.specs.Checks.{checked, fail_if, access_cause, in_bounds, no_cause, tag_cause, seal_cause, bounds_cause, load_cause, store_cause, store_capability_cause}
+use Rattle.state.specs.Checks.{checked, fail_if, access_cause, in_bounds, no_cause, tag_cause, seal_cause, bounds_cause, load_cause, store_cause}
+use Rattle.state.specs.Checks.{store_capability_cause}
 use Rattle.state.specs.Checks.{store_local_cause}
 use Rattle.state.specs.Checks.{load_misaligned, load_fault, store_misaligned, store_fault}
 use Rattle.state.specs.declared.Board.{Board}

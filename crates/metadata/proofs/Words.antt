@@ -4,7 +4,8 @@ use Prim.Native.Nat.{ℕ, ◌+◌, ◌*◌, ◌/◌, ◌%◌, ◌^◌, ◌<◌}
 use native.Mathlib.Nat.{mod-mod}
 use native.Mathlib.Omega.{arith}
 use lib.Pow.{split, mod-pow-add}
-use Rattle.metadata.specs.Word.{reserved_of, permissions_of, type_of, scale_of, top_of, base_of, fields_of, word_of, Fit, with_permissions, with_type, with_bounds}
+use Rattle.metadata.specs.Word.{reserved_of, permissions_of, type_of, scale_of, top_of, base_of, fields_of, word_of, Fit, with_permissions, with_type}
+use Rattle.metadata.specs.Word.{with_bounds}
 
 -- ---- limits of the fields
 

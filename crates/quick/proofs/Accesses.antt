@@ -1,6 +1,7 @@
 -- Where an authority reaches the bytes of an aligned access, no check fails and the place is in memory: the effect is the plain one of its instruction, and
 -- the turn leaves what it leaves. Where a turn leaves all as it is, a load stores nothing, and a store at its own place or nowhere. Assumes nothing.
-use Rattle.std.proofs.Common.{◌≡◌, ℕ, ◌+◌, ◌-◌, ◌*◌, ◌/◌, ◌%◌, ◌^◌, ◌<◌, ◌≤◌, Bool, true, false, cond, not, ◌&&◌, eqb, leb, List, length, get_or, sym, refl, ap, ◌∙◌, arith, eq-eqb, ne_eqb, le-leb, leb-false, leb-true}
+use Rattle.std.proofs.Common.{◌≡◌, ℕ, ◌+◌, ◌-◌, ◌*◌, ◌/◌, ◌%◌, ◌^◌, ◌<◌, ◌≤◌, Bool, true, false, cond, not, ◌&&◌, eqb, leb, List, length, get_or, sym, refl}
+use Rattle.std.proofs.Common.{ap, ◌∙◌, arith, eq-eqb, ne_eqb, le-leb, leb-false, leb-true}
 use lib.Pow.{split}
 use Rattle.words.specs.Words.{wrap, set_bytes, put_bit, bit_at, with_bit}
 use Rattle.words.proofs.Bits.{with_bit_is, bit_at_bit}

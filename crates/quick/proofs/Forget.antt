@@ -1,6 +1,7 @@
 -- What is kept of the entries: after a store and what it clears each entry that is left is one of the memory after it. The five slots that are cleared are
 -- those of every four bytes at an even address that a store in one granule can touch. Assumes nothing.
-use Rattle.std.proofs.Common.{◌≡◌, ℕ, zero, suc, ◌+◌, ◌-◌, ◌/◌, ◌%◌, ◌<◌, ◌≤◌, Bool, true, false, cond, ◌&&◌, eqb, ltb, ◌⊎◌, List, [], ◌∷◌, length, get_or, set, refl, ◌∙◌, inl, inr, arith, get_or-set_other, get_or-set_same, ltb-false, ltb-true, eqb-true, le-leb}
+use Rattle.std.proofs.Common.{◌≡◌, ℕ, zero, suc, ◌+◌, ◌-◌, ◌/◌, ◌%◌, ◌<◌, ◌≤◌, Bool, true, false, cond, ◌&&◌, eqb, ltb, ◌⊎◌, List, [], ◌∷◌, length, get_or}
+use Rattle.std.proofs.Common.{set, refl, ◌∙◌, inl, inr, arith, get_or-set_other, get_or-set_same, ltb-false, ltb-true, eqb-true, le-leb}
 use borrow.Author.Tests.{eqb-false}
 use Rattle.words.specs.Words.{set_bytes}
 use Rattle.words.proofs.Bytes.{length_set_bytes, get_d_set_bytes_other, le_bytes_same}

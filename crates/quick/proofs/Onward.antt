@@ -1,5 +1,6 @@
 -- Where PCC goes on it is itself at another address, so one word of it changes; a register, the mark and time have words of their own. Assumes nothing.
-use Rattle.std.proofs.Common.{◌≡◌, ℕ, zero, suc, ◌+◌, ◌*◌, ◌/◌, ◌%◌, ◌^◌, ◌<◌, ◌≤◌, Bool, true, false, cond, ◌&&◌, eqb, ltb, leb, List, [], ◌∷◌, length, get_or, set, sym, refl, ap, ◌∙◌, arith, length-set, get_or-set_other, get_or-set_same, ltb-false, ltb-true, ne_eqb, eqb-true}
+use Rattle.std.proofs.Common.{◌≡◌, ℕ, zero, suc, ◌+◌, ◌*◌, ◌/◌, ◌%◌, ◌^◌, ◌<◌, ◌≤◌, Bool, true, false, cond, ◌&&◌, eqb, ltb, leb, List, [], ◌∷◌, length}
+use Rattle.std.proofs.Common.{get_or, set, sym, refl, ap, ◌∙◌, arith, length-set, get_or-set_other, get_or-set_same, ltb-false, ltb-true, ne_eqb, eqb-true}
 use borrow.Author.Tests.{eqb-false}
 use Rattle.words.specs.Words.{wrap}
 use Rattle.words.proofs.Word.{by_test}
@@ -61,10 +62,12 @@ pub ticked_carry : (l : List ℕ) → get_or l time_index 0 ≡ 4294967295 → g
 unfolding ticked time_of
 ticked_carry l e h =
     let w = carried (get_or l (time_index + 1) 0) h in
-    let kept : get_or (set l time_index 0) (time_index + 1) 0 ≡ get_or l (time_index + 1) 0 = get_or-set_other l time_index (time_index + 1) 0 0 (λ q. omega arith) in
+    let kept : get_or (set l time_index 0) (time_index + 1) 0 ≡ get_or l (time_index + 1) 0 = get_or-set_other l time_index (time_index + 1) 0 0
+        (λ q. omega arith) in
     rw (e, w.0, w.1, kept) refl
 
-pub ticked_low : (l : List ℕ) → get_or l time_index 0 < 4294967295 → get_or l (time_index + 1) 0 < 2 ^ 32 → ticked l ≡ set l time_index (get_or l time_index 0 + 1)
+pub ticked_low : (l : List ℕ) → get_or l time_index 0 < 4294967295 → get_or l (time_index + 1) 0 < 2 ^ 32 → ticked l
+    ≡ set l time_index (get_or l time_index 0 + 1)
 unfolding ticked time_of
 ticked_low l e h =
     let w = uncarried (get_or l time_index 0) (get_or l (time_index + 1) 0) e h in
@@ -77,7 +80,8 @@ pub stays_on : (l : List ℕ) (to j : ℕ) → (j ≡ 48 → ⊥) → (j ≡ tim
 unfolding ticked
 stays_on l to j h p q =
     let r = set l 48 to in
-    get_or-set_other (set r time_index (next_time r % 2 ^ 32)) (time_index + 1) j (next_time r / 2 ^ 32) 0 q ∙ get_or-set_other r time_index j (next_time r % 2 ^ 32) 0 p
+    get_or-set_other (set r time_index (next_time r % 2 ^ 32)) (time_index + 1) j (next_time r / 2 ^ 32) 0 q ∙ get_or-set_other r time_index j
+        (next_time r % 2 ^ 32) 0 p
     ∙ get_or-set_other l 48 j to 0 h
 
 pub stays_written : (l : List ℕ) (at j : ℕ) (c : Capability) → at ≤ 45 → 48 ≤ j → get_or (written_at at c l) j 0 ≡ get_or l j 0

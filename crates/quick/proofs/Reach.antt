@@ -1,6 +1,7 @@
 -- A row that is filled for a capability inside its own bounds is good, since every address of its range has those bounds; and what is in a good row is
 -- reached: every check passes, in memory. Assumes nothing.
-use Rattle.std.proofs.Common.{◌≡◌, ℕ, ◌+◌, ◌%◌, ◌^◌, ◌<◌, ◌≤◌, Bool, true, false, not, ◌&&◌, eqb, leb, List, length, get_or, set, sym, refl, ◌∙◌, arith, length-set, get_or-set_other, get_or-set_same, le-ltb, lt-ltb, eq-eqb, eqb-true, le-leb}
+use Rattle.std.proofs.Common.{◌≡◌, ℕ, ◌+◌, ◌%◌, ◌^◌, ◌<◌, ◌≤◌, Bool, true, false, not, ◌&&◌, eqb, leb, List, length, get_or, set, sym, refl, ◌∙◌, arith}
+use Rattle.std.proofs.Common.{length-set, get_or-set_other, get_or-set_same, le-ltb, lt-ltb, eq-eqb, eqb-true, le-leb}
 use borrow.Author.Tests.{eqb-false}
 use Rattle.words.proofs.Word.{by_test}
 use Rattle.metadata.specs.Rights.{LD, SD}

@@ -1,5 +1,6 @@
 -- One step of the loop at an entry: PCC stands there, no interrupt is due, so the plain step does what the entry's instruction does. Assumes nothing.
-use Rattle.std.proofs.Common.{◌≡◌, ℕ, ◌+◌, ◌-◌, ◌*◌, ◌%◌, ◌^◌, ◌<◌, ◌≤◌, Bool, true, false, cond, ◌&&◌, eqb, leb, ◌⊎◌, List, length, get_or, sym, refl, ap, ◌∙◌, ap₂, inl, inr, arith}
+use Rattle.std.proofs.Common.{◌≡◌, ℕ, ◌+◌, ◌-◌, ◌*◌, ◌%◌, ◌^◌, ◌<◌, ◌≤◌, Bool, true, false, cond, ◌&&◌, eqb, leb, ◌⊎◌, List, length, get_or, sym, refl, ap}
+use Rattle.std.proofs.Common.{◌∙◌, ap₂, inl, inr, arith}
 use borrow.Author.Tests.{lt-leb}
 use Rattle.words.specs.Words.{wrap, le_bytes}
 use Rattle.metadata.specs.Rights.{bit}

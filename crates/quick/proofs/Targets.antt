@@ -1,5 +1,6 @@
 -- A jump to what PCC reaches passes its checks, so that its effect is PCC at the target. Assumes nothing.
-use Rattle.std.proofs.Common.{◌≡◌, ℕ, ◌+◌, ◌*◌, ◌/◌, ◌%◌, ◌^◌, ◌<◌, Bool, true, false, not, ◌&&◌, eqb, List, length, get_or, sym, refl, ap, ◌∙◌, true≢false, arith, eq-eqb}
+use Rattle.std.proofs.Common.{◌≡◌, ℕ, ◌+◌, ◌*◌, ◌/◌, ◌%◌, ◌^◌, ◌<◌, Bool, true, false, not, ◌&&◌, eqb, List, length, get_or, sym, refl, ap, ◌∙◌, true≢false}
+use Rattle.std.proofs.Common.{arith, eq-eqb}
 use Rattle.words.specs.Words.{wrap}
 use Rattle.metadata.specs.Rights.{EX}
 use Rattle.metadata.specs.Word.{type_of}
@@ -167,7 +168,8 @@ module _ (c : Capability) (start size to : ℕ) (r : Reached EX start size (with
 
   pub jalr_inside : (n edition rd rs1 offset : ℕ) (regs : List ℕ) → shut edition rd rs1 offset c ≡ false → to % 2 ≡ 0
       → jalr_effect n edition rd rs1 offset to c regs
-      ≡ Jump rd (link_of n edition (pcc_of regs) (mstatus_of regs)) (move_of (with_object_type c 0) to) (jump_status edition (type_of c.metadata) (mstatus_of regs))
+      ≡ Jump rd (link_of n edition (pcc_of regs) (mstatus_of regs)) (move_of (with_object_type c 0) to)
+          (jump_status edition (type_of c.metadata) (mstatus_of regs))
   unfolding jalr_effect jalr_cause checked aligned
   jalr_inside n edition rd rs1 offset regs z k = rw (open_tagged, z, open_granted, open_inside, eq-eqb (to % 2) 0 k) refl
 

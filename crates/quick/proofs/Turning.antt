@@ -1,5 +1,6 @@
 -- One way round the loop: a step of the machine, made by a turn or plainly, keeps what the loop keeps. Assumes nothing.
-use Rattle.std.proofs.Common.{◌≡◌, ℕ, zero, suc, ◌+◌, ◌-◌, ◌*◌, ◌%◌, ◌^◌, ◌<◌, ◌≤◌, Bool, true, false, cond, eqb, List, length, get_or, set, replicate, sym, refl, ap, ◌∙◌, subst, true≢false, arith, length-set, ne_eqb}
+use Rattle.std.proofs.Common.{◌≡◌, ℕ, zero, suc, ◌+◌, ◌-◌, ◌*◌, ◌%◌, ◌^◌, ◌<◌, ◌≤◌, Bool, true, false, cond, eqb, List, length, get_or, set, replicate, sym}
+use Rattle.std.proofs.Common.{refl, ap, ◌∙◌, subst, true≢false, arith, length-set, ne_eqb}
 use Rattle.watch.specs.declared.Watch.{Watch}
 use Rattle.capability.specs.declared.Capability.{Capability}
 use Rattle.operations.specs.declared.Operation.{Operation}

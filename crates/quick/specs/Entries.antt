@@ -1,6 +1,7 @@
 -- Decoded code that is kept: what an entry is, what a store leaves of the entries, and how long no step needs more than its entry. Document 02, 14. Assumes
 -- nothing.
-use Rattle.std.specs.Prelude.{◌≡◌, ℕ, ◌+◌, ◌-◌, ◌*◌, ◌/◌, ◌%◌, ◌^◌, ◌<◌, ◌≤◌, Bool, true, false, cond, ◌&&◌, ◌⊎◌, List, length, set, ◌==◌, ◌≢◌, nat_lt, slice_index, slice_index_or, slice_set}
+use Rattle.std.specs.Prelude.{◌≡◌, ℕ, ◌+◌, ◌-◌, ◌*◌, ◌/◌, ◌%◌, ◌^◌, ◌<◌, ◌≤◌, Bool, true, false, cond, ◌&&◌, ◌⊎◌, List, length, set, ◌==◌, ◌≢◌, nat_lt}
+use Rattle.std.specs.Prelude.{slice_index, slice_index_or, slice_set}
 use Rattle.words.specs.Words.{wrap, le_bytes}
 use Rattle.metadata.specs.Rights.{bit}
 use Rattle.metadata.specs.Rights.{EX}

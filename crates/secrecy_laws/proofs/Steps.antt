@@ -45,7 +45,8 @@ set_bytes_same : (n : ℕ) (a b : List ℕ) (i v j : ℕ) → length a ≡ lengt
 unfolding set_bytes
 set_bytes_same zero a b i v j l e = e
 set_bytes_same (suc n) a b i v j l e =
-    set_same (set_bytes n a i v) (set_bytes n b i v) (i + n) _ j (length_set_bytes n a i v ∙ l ∙ sym (length_set_bytes n b i v)) (set_bytes_same n a b i v j l e)
+    set_same (set_bytes n a i v) (set_bytes n b i v) (i + n) _ j (length_set_bytes n a i v ∙ l ∙ sym (length_set_bytes n b i v))
+        (set_bytes_same n a b i v j l e)
 
 -- a byte that was written, whatever was there
 set_bytes_over : (n : ℕ) (a b : List ℕ) (i v j : ℕ) → length a ≡ length b → i + n ≤ length a → i ≤ j → j < i + n
@@ -92,7 +93,8 @@ retagged_clear mem tags n i tag g z f = go (leb (i + n) (length mem))
     go false = z
 
 -- where bytes are stored
-retagged_zero : (mem tags : List ℕ) (n i : ℕ) → i + n ≤ length mem → i / granule_bytes < 8 * length tags → bit_at (retagged mem tags n i 0) (i / granule_bytes) ≡ 0
+retagged_zero : (mem tags : List ℕ) (n i : ℕ) → i + n ≤ length mem → i / granule_bytes < 8 * length tags → bit_at (retagged mem tags n i 0) (i / granule_bytes)
+    ≡ 0
 unfolding retagged
 retagged_zero mem tags n i m l = rw (le-leb (i + n) (length mem) m) (bit_at_put_bit_same tags (i / granule_bytes) 0 l)
 
@@ -274,7 +276,8 @@ module _ (hidden : ℕ → Bool) (board : Board) (revoked : List ℕ) (a b : Sta
   unfolding step_of
   step_settled w g h = rw (next_alike, met_alike) (applied_settled a b alike.same_size alike.same_tag_size board.start moved effect w g h)
 
-  pub step_where_differed : Within (length a.mem) (stored_by (effect_at board revoked b)) → WhereDiffered a b (step_of board revoked a) (step_of board revoked b)
+  pub step_where_differed : Within (length a.mem) (stored_by (effect_at board revoked b)) → WhereDiffered a b (step_of board revoked a)
+      (step_of board revoked b)
   step_where_differed w =
       record {
         byte = step_byte;

@@ -62,13 +62,16 @@ one_runs = refl
 -- what may load there stands there alone: outside the range there is nothing, in all of the state granule 4, place 25
 pub one_clear : outside_answer 0x20000000 (query_of 0x20000020 0x20 (2 ^ LD)) 0 one ≡ Nowhere
 unfolding one outside_answer outside_refusal reach_refusal asked_refusal first_outside passes_outside first_of capability_is reaches_into good_memory good_bits
-    good_tags good_zero good_words set_capability set_bytes le_bytes bit_at capability_at capability_in tagged sound low high rights low_at high_at low_of high_of
+    good_tags good_zero good_words set_capability set_bytes le_bytes bit_at capability_at capability_in tagged sound low high rights low_at high_at low_of
+        high_of
     exponent_of scale_of top_of base_of rights_of permissions_of
 one_clear = refl
 
 pub one_holds : reach_answer 0x20000000 (query_of 0x20000020 0x20 (2 ^ LD)) 0 one ≡ Found 25
-unfolding one reach_answer reach_refusal asked_refusal first_reach first_of capability_is reaches_into good_memory good_bits good_tags good_zero good_words set_capability
-    set_bytes le_bytes bit_at capability_at capability_in tagged sound low high rights low_at high_at low_of high_of exponent_of scale_of top_of base_of rights_of
+unfolding one reach_answer reach_refusal asked_refusal first_reach first_of capability_is reaches_into good_memory good_bits good_tags good_zero good_words
+    set_capability
+    set_bytes le_bytes bit_at capability_at capability_in tagged sound low high rights low_at high_at low_of high_of exponent_of scale_of top_of base_of
+        rights_of
     permissions_of
 one_holds = refl
 
@@ -108,8 +111,10 @@ pub one_told : ((ran_from 3 board revoked one).retired ≡ 2) × ((ran_from 3 bo
     × (get_or one.mem 40 0 ≡ 0) × (get_or (ran_from 3 board revoked one).at.mem 40 0 ≡ 42)
 unfolding one iterate one_more step_of met_of interrupted time_of compare_of ticked cleared below_mark marked effect_in trap_or length_in
     instruction_in word_in fetch_of fetched_at stands_of second_of effect_of apply_effect retires set_capability write_register advanced trapped retagged
-    stored loaded_value load_at load_effect store_at store_effect load_capability_effect memory_effect checked access_cause place_of capability_in capability_at integer_at
-    load_of store_of capability_of decode_of immediate_i immediate_s low high rights sealed tagged covers same_bounds move_of legalized trap_status exponent_of low_of
+    stored loaded_value load_at load_effect store_at store_effect load_capability_effect memory_effect checked access_cause place_of capability_in
+        capability_at integer_at
+    load_of store_of capability_of decode_of immediate_i immediate_s low high rights sealed tagged covers same_bounds move_of legalized trap_status exponent_of
+        low_of
     high_of low_at high_at rights_of permissions_of type_of scale_of top_of base_of sign_extend le_bytes set_bytes bit_at with_bit put_bit
 one_told = (refl, refl, refl, refl)
 
@@ -127,20 +132,26 @@ alone_runs = refl
 
 -- granule 4 alone has authority over the second half: nothing outside it has, though integrity counts it
 pub alone_unread : outside_answer 0x20000000 (query_of 0x20000020 0x20 (2 ^ LD)) 0 alone ≡ Nowhere
-unfolding alone outside_answer outside_refusal reach_refusal asked_refusal first_outside passes_outside first_of capability_is reaches_into good_memory good_bits
-    good_tags good_zero good_words set_capability set_bytes le_bytes bit_at capability_at capability_in tagged sound low high rights low_at high_at low_of high_of
+unfolding alone outside_answer outside_refusal reach_refusal asked_refusal first_outside passes_outside first_of capability_is reaches_into good_memory
+    good_bits
+    good_tags good_zero good_words set_capability set_bytes le_bytes bit_at capability_at capability_in tagged sound low high rights low_at high_at low_of
+        high_of
     exponent_of scale_of top_of base_of rights_of permissions_of
 alone_unread = refl
 
 pub alone_unwritten : outside_answer 0x20000000 (query_of 0x20000020 0x20 (2 ^ SD)) 0 alone ≡ Nowhere
-unfolding alone outside_answer outside_refusal reach_refusal asked_refusal first_outside passes_outside first_of capability_is reaches_into good_memory good_bits
-    good_tags good_zero good_words set_capability set_bytes le_bytes bit_at capability_at capability_in tagged sound low high rights low_at high_at low_of high_of
+unfolding alone outside_answer outside_refusal reach_refusal asked_refusal first_outside passes_outside first_of capability_is reaches_into good_memory
+    good_bits
+    good_tags good_zero good_words set_capability set_bytes le_bytes bit_at capability_at capability_in tagged sound low high rights low_at high_at low_of
+        high_of
     exponent_of scale_of top_of base_of rights_of permissions_of
 alone_unwritten = refl
 
 pub alone_counted : reach_answer 0x20000000 (query_of 0x20000020 0x20 (2 ^ SD)) 0 alone ≡ Found 25
-unfolding alone reach_answer reach_refusal asked_refusal first_reach first_of capability_is reaches_into good_memory good_bits good_tags good_zero good_words set_capability
-    set_bytes le_bytes bit_at capability_at capability_in tagged sound low high rights low_at high_at low_of high_of exponent_of scale_of top_of base_of rights_of
+unfolding alone reach_answer reach_refusal asked_refusal first_reach first_of capability_is reaches_into good_memory good_bits good_tags good_zero good_words
+    set_capability
+    set_bytes le_bytes bit_at capability_at capability_in tagged sound low high rights low_at high_at low_of high_of exponent_of scale_of top_of base_of
+        rights_of
     permissions_of
 alone_counted = refl
 
@@ -175,8 +186,10 @@ open_other = changed_alike one_open
 
 -- the search finds it, and c2 tells one from the other after one step: they do not run alike
 pub open_found : outside_answer 0x20000000 (query_of 0x20000020 0x20 (2 ^ LD)) 0 one_open ≡ Found 1
-unfolding one_open outside_answer outside_refusal reach_refusal asked_refusal first_outside passes_outside first_of capability_is reaches_into good_memory good_bits
-    good_tags good_zero good_words set_capability set_bytes le_bytes bit_at capability_at capability_in tagged sound low high rights low_at high_at low_of high_of
+unfolding one_open outside_answer outside_refusal reach_refusal asked_refusal first_outside passes_outside first_of capability_is reaches_into good_memory
+    good_bits
+    good_tags good_zero good_words set_capability set_bytes le_bytes bit_at capability_at capability_in tagged sound low high rights low_at high_at low_of
+        high_of
     exponent_of scale_of top_of base_of rights_of permissions_of
 open_found = refl
 

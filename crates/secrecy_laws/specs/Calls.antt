@@ -6,7 +6,8 @@ use Rattle.state.specs.Effects.{Stored, stored_by}
 use Rattle.state.specs.declared.Board.{Board}
 use Rattle.execution.specs.Step.{effect_at}
 use Rattle.machine.specs.Refusals.{refusal_of}
-use Rattle.machine.specs.Run.{step_answer, step_after, run_answer, run_after, ran_from, step_number, step_retired, step_trapped, run_number, run_retired, run_trapped}
+use Rattle.machine.specs.Run.{step_answer, step_after, run_answer, run_after, ran_from, step_number, step_retired, step_trapped, run_number, run_retired}
+use Rattle.machine.specs.Run.{run_trapped}
 use Rattle.machine.specs.Watching.{watch_left}
 use Rattle.machine.specs.declared.StepAnswer.{StepAnswer}
 use Rattle.machine.specs.declared.RunAnswer.{RunAnswer}

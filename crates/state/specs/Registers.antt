@@ -8,7 +8,8 @@ use Rattle.state.specs.Layout.{capability_words, general_count, pcc_index, csr_i
 
 -- capability i of the register file, and the register file with another there
 unfoldable pub capability_at : (regs : List ℕ) → (i : ℕ) → Capability
-capability_at regs i = capability (slice_index regs (i * capability_words)) (slice_index regs (i * capability_words + 1)) (slice_index regs (i * capability_words + 2))
+capability_at regs i = capability (slice_index regs (i * capability_words)) (slice_index regs (i * capability_words + 1))
+    (slice_index regs (i * capability_words + 2))
 
 unfoldable pub set_capability : (regs : List ℕ) → (i : ℕ) → Capability → List ℕ
 set_capability regs i c =

@@ -198,7 +198,8 @@ module _ (board : Board) (revoked mem before : List ℕ) (g : ℕ) where
       go false b = refl
 
   -- so the answer and the tags are all that is to be shown
-  pub visit_promised : (after : List ℕ) (answer : SweepAnswer) → answer ≡ visit_answer board revoked mem before g → after ≡ tags_after board revoked mem before g
+  pub visit_promised : (after : List ℕ) (answer : SweepAnswer) → answer ≡ visit_answer board revoked mem before g → after ≡ tags_after board revoked mem before
+      g
       → VisitPromise board revoked mem g before after answer
   visit_promised after answer a t = record {
     answer_is = a;

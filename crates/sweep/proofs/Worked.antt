@@ -29,7 +29,8 @@ visits_hold = tt
 module _ (after : List ℕ) (answer : SweepAnswer) (p : VisitPromise board (4 ∷ []) (holding object) 1 (2 ∷ []) after answer) where
   -- one that leaves the tag
   pub idle_shut_out : after ≡ 2 ∷ [] → ⊥
-  unfolding visit_refusal tags_after swept_tags good_memory good_window good_bits revoked_value revocation_at capability_in revocable tagged low rights low_at low_of
+  unfolding visit_refusal tags_after swept_tags good_memory good_window good_bits revoked_value revocation_at capability_in revocable tagged low rights low_at
+      low_of
       exponent_of rights_of permissions_of scale_of top_of base_of le_bytes set_bytes bit_at with_bit put_bit
   idle_shut_out e = omega (arith, ap (λ (t : List ℕ). get_or t 0 0) e, ap (λ (t : List ℕ). get_or t 0 0) p.tags_are)
 

@@ -1,5 +1,4 @@
 -- The worked touches are the definition's. Assumes nothing.
-use mathlib.Core.List.{List}
 use lib.Dec.{T}
 use Rattle.watch.specs.Watch.{hits, one_more_hit, range_touched, touched_at}
 use Rattle.watch.specs.Worked.{told, touches}

@@ -1,5 +1,6 @@
 -- Laws of one bit of a list of bytes: what was put is read back, and no other bit changes.
-use Rattle.std.proofs.Common.{◌≡◌, ℕ, ◌+◌, ◌-◌, ◌*◌, ◌/◌, ◌%◌, ◌^◌, ◌<◌, ◌≤◌, eqb, ltb, List, length, get_or, sym, refl, ap, ◌∙◌, subst, mul-le-mul_right, mod-lt, arith, length-set, get_or-set_other, get_or-set_same, pow_pos, pow-add, shr-shr, shr_lt, ltb-false, ltb-true, eqb-true}
+use Rattle.std.proofs.Common.{◌≡◌, ℕ, ◌+◌, ◌-◌, ◌*◌, ◌/◌, ◌%◌, ◌^◌, ◌<◌, ◌≤◌, eqb, ltb, List, length, get_or, sym, refl, ap, ◌∙◌, subst, mul-le-mul_right}
+use Rattle.std.proofs.Common.{mod-lt, arith, length-set, get_or-set_other, get_or-set_same, pow_pos, pow-add, shr-shr, shr_lt, ltb-false, ltb-true, eqb-true}
 use native.Mathlib.Nat.{lt-div-mul-add}
 use lib.Seq.{set_out}
 use lib.Pow.{high, low, field, mod-mod-pow}

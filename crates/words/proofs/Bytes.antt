@@ -1,5 +1,6 @@
 -- Laws of n little-endian bytes, once over n: what a store keeps, and what is read back.
-use Rattle.std.proofs.Common.{◌≡◌, ℕ, zero, suc, ◌+◌, ◌*◌, ◌/◌, ◌%◌, ◌^◌, ◌<◌, ◌≤◌, eqb, ltb, List, length, get_or, set, refl, ◌∙◌, mul-le-mul_right, arith, length-set, get_or-set_other, get_or-set_same, pow-add, ltb-false, ltb-true, eqb-true}
+use Rattle.std.proofs.Common.{◌≡◌, ℕ, zero, suc, ◌+◌, ◌*◌, ◌/◌, ◌%◌, ◌^◌, ◌<◌, ◌≤◌, eqb, ltb, List, length, get_or, set, refl, ◌∙◌, mul-le-mul_right, arith}
+use Rattle.std.proofs.Common.{length-set, get_or-set_other, get_or-set_same, pow-add, ltb-false, ltb-true, eqb-true}
 use lib.Seq.{set_out}
 use lib.Pow.{mod-pow-add}
 use borrow.Author.Tests.{eqb-false}

@@ -1,6 +1,7 @@
 -- The halves of a product, once for all readings of its factors: an integer of 64 bits is its two words, and the product is one. What a high half has
 -- to do with the unsigned one, which the code computes.
-use Rattle.std.proofs.Common.{◌≡◌, ℕ, zero, suc, ◌+◌, ◌-◌, ◌*◌, ◌/◌, ◌%◌, ◌^◌, ◌<◌, ◌≤◌, Bool, true, false, cond, leb, ℤ, pos, negsuc, ◌+ℤ◌, ◌*ℤ◌, neg_ℤ, sym, refl, ap, ◌∙◌, subst, mul-le-mul, arith}
+use Rattle.std.proofs.Common.{◌≡◌, ℕ, zero, suc, ◌+◌, ◌-◌, ◌*◌, ◌/◌, ◌%◌, ◌^◌, ◌<◌, ◌≤◌, Bool, true, false, cond, leb, ℤ, pos, negsuc, ◌+ℤ◌, ◌*ℤ◌, neg_ℤ, sym}
+use Rattle.std.proofs.Common.{refl, ap, ◌∙◌, subst, mul-le-mul, arith}
 use lib.IntN.{neg_ℤ-+ℤ, -ℤ-+ℤ_cancel}
 use lib.Signed.{shr_z}
 use Rattle.words.specs.declared.Reading.{Reading}

@@ -1,6 +1,7 @@
 -- Quotient and remainder, once for both readings: sizes are divided, the signs come together again in divisor * quotient, and what fits its reading is read
 -- back from its word. One quotient does not fit: the most negative word by minus one.
-use Rattle.std.proofs.Common.{◌≡◌, ℕ, ◌+◌, ◌-◌, ◌*◌, ◌/◌, ◌%◌, ◌^◌, ◌<◌, Bool, true, false, eqb, leb, ℤ, ◌+ℤ◌, ◌*ℤ◌, sym, refl, ap, ◌∙◌, subst, mod-lt, mul-le-mul_left, zero-mul, div-le_self, div-mul-le_self, arith, ne_eqb, eqb-true}
+use Rattle.std.proofs.Common.{◌≡◌, ℕ, ◌+◌, ◌-◌, ◌*◌, ◌/◌, ◌%◌, ◌^◌, ◌<◌, Bool, true, false, eqb, leb, ℤ, ◌+ℤ◌, ◌*ℤ◌, sym, refl, ap, ◌∙◌, subst, mod-lt}
+use Rattle.std.proofs.Common.{mul-le-mul_left, zero-mul, div-le_self, div-mul-le_self, arith, ne_eqb, eqb-true}
 use native.Mathlib.Nat.{mod-le, div-add-mod}
 use lib.IntN.{zero-*ℤ, +ℤ_idl}
 use borrow.Author.Tests.{eqb-false}
@@ -119,7 +120,8 @@ divided_by_zero r a h =
     let e = (by_zero r a).1 in
     record {
       as_words = omega (arith, e, zero-mul (quotient_of r a 0));
-      as_integers = λ _. rw (readings.value_of_zero r, e) (ap (λ (z : ℤ). z +ℤ value_of r a) (zero-*ℤ (value_of r (quotient_of r a 0))) ∙ +ℤ_idl (value_of r a));
+      as_integers = λ _. rw (readings.value_of_zero r, e) (ap (λ (z : ℤ). z +ℤ value_of r a) (zero-*ℤ (value_of r (quotient_of r a 0)))
+          ∙ +ℤ_idl (value_of r a));
       smaller = λ d. absurd (d refl);
       same_sign = λ _. ap (is_negative r) e;
     }

@@ -1,5 +1,6 @@
 -- Integers by sign and size, and the word of one: it is read back where it fits its reading, and sums and products of integers are those of words.
-use Rattle.std.proofs.Common.{◌≡◌, ℕ, zero, suc, ◌+◌, ◌-◌, ◌*◌, ◌/◌, ◌%◌, ◌^◌, ◌<◌, ◌≤◌, Bool, true, false, leb, ℤ, pos, negsuc, ◌+ℤ◌, ◌*ℤ◌, sym, refl, ap, ◌∙◌, true≢false, mul_comm, mul-zero, zero-mul, arith, le-leb, leb-false, leb-true}
+use Rattle.std.proofs.Common.{◌≡◌, ℕ, zero, suc, ◌+◌, ◌-◌, ◌*◌, ◌/◌, ◌%◌, ◌^◌, ◌<◌, ◌≤◌, Bool, true, false, leb, ℤ, pos, negsuc, ◌+ℤ◌, ◌*ℤ◌, sym, refl, ap}
+use Rattle.std.proofs.Common.{◌∙◌, true≢false, mul_comm, mul-zero, zero-mul, arith, le-leb, leb-false, leb-true}
 use lib.IntN.{neg_ℤ-+ℤ}
 use borrow.Author.Tests.{lt-leb}
 use Rattle.words.specs.Words.{wrap}

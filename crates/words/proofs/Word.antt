@@ -1,5 +1,6 @@
 -- Each result is a word, and the signed order is the signed order.
-use Rattle.std.proofs.Common.{◌≡◌, ℕ, ◌+◌, ◌*◌, ◌/◌, ◌%◌, ◌^◌, ◌<◌, ◌≤◌, Bool, true, false, ltb, refl, mod-lt, mod-eq_of_lt, arith, pow_pos, pow_mono, ltb-false, ltb-true, le-ltb, lt-ltb}
+use Rattle.std.proofs.Common.{◌≡◌, ℕ, ◌+◌, ◌*◌, ◌/◌, ◌%◌, ◌^◌, ◌<◌, ◌≤◌, Bool, true, false, ltb, refl, mod-lt, mod-eq_of_lt, arith, pow_pos, pow_mono}
+use Rattle.std.proofs.Common.{ltb-false, ltb-true, le-ltb, lt-ltb}
 use native.Mathlib.Nat.{mod-le}
 use lib.Pow.{shr_le}
 use Rattle.words.specs.Words.{sign_extend, sll_of, srl_of, sra_of, flip, less_signed, slt_of, sltu_of}

@@ -9,4 +9,5 @@ returns-then-edition-eq-LATER_EDITION c = simp (c.choose.ensures.0, eq-eqb _ _ c
 
 pub returns-else-edition-eq-LATER_EDITION : goal.returns-else-edition-eq-LATER_EDITION
 unfolding link_type
-returns-else-edition-eq-LATER_EDITION c = simp (c.choose-else-edition-eq-LATER_EDITION.ensures.0, ne_eqb _ _ c.if-edition-eq-LATER_EDITION.false, c.mie_of-enabled.ensures)
+returns-else-edition-eq-LATER_EDITION c = simp (c.choose-else-edition-eq-LATER_EDITION.ensures.0, ne_eqb _ _ c.if-edition-eq-LATER_EDITION.false,
+    c.mie_of-enabled.ensures)

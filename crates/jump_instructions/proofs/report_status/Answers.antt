@@ -9,7 +9,8 @@ returns-then-t-eq-SENTRY_DISABLING c = simp (c.with_mie.ensures, eq-eqb _ _ c.if
 
 pub returns-then-t-eq-SENTRY_ENABLING : goal.returns-then-t-eq-SENTRY_ENABLING
 unfolding report_status
-returns-then-t-eq-SENTRY_ENABLING c = simp (c.with_mie-then-t-eq-SENTRY_ENABLING.ensures, ne_eqb _ _ c.if-t-eq-SENTRY_DISABLING.false, eq-eqb _ _ c.if-t-eq-SENTRY_ENABLING.true)
+returns-then-t-eq-SENTRY_ENABLING c = simp (c.with_mie-then-t-eq-SENTRY_ENABLING.ensures, ne_eqb _ _ c.if-t-eq-SENTRY_DISABLING.false,
+    eq-eqb _ _ c.if-t-eq-SENTRY_ENABLING.true)
 
 pub returns : goal.returns
 unfolding report_status

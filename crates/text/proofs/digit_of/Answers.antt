@@ -16,7 +16,12 @@ pub returns-in-97-to-102 : goal.returns-in-97-to-102
 unfolding digit_of
 returns-in-97-to-102 c =
     let b = c.args.b in (
-      simp (le-ltb b 48 c.in-97-to-102.if-b-lt48-own.false, le-ltb b 58 c.in-97-to-102.if-b-lt58-own.false, le-ltb b 97 c.in-97-to-102.if-b-lt97-own.false, lt-ltb b 103 c.in-97-to-102.if-b-lt103-own.true),
+      simp (
+        le-ltb b 48 c.in-97-to-102.if-b-lt48-own.false,
+        le-ltb b 58 c.in-97-to-102.if-b-lt58-own.false,
+        le-ltb b 97 c.in-97-to-102.if-b-lt97-own.false,
+        lt-ltb b 103 c.in-97-to-102.if-b-lt103-own.true,
+      ),
       search rules,
     )
 
@@ -29,14 +34,21 @@ returns-in_default c = (simp (lt-ltb c.args.b 48 c.in_default.if-b-lt48-own.true
 pub returns-in_default-2 : goal.returns-in_default-2
 unfolding digit_of
 returns-in_default-2 c =
-    let b = c.args.b in
-    (simp (le-ltb b 48 c.in_default.if-b-lt48-own.false, le-ltb b 58 c.in_default.if-b-lt58-own.false, lt-ltb b 97 c.in_default.if-b-lt97-own.true), search rules)
+    let b = c.args.b in (
+      simp (le-ltb b 48 c.in_default.if-b-lt48-own.false, le-ltb b 58 c.in_default.if-b-lt58-own.false, lt-ltb b 97 c.in_default.if-b-lt97-own.true),
+      search rules,
+    )
 
 -- above `f`
 pub returns-in_default-3 : goal.returns-in_default-3
 unfolding digit_of
 returns-in_default-3 c =
     let b = c.args.b in (
-      simp (le-ltb b 48 c.in_default.if-b-lt48-own.false, le-ltb b 58 c.in_default.if-b-lt58-own.false, le-ltb b 97 c.in_default.if-b-lt97-own.false, le-ltb b 103 c.in_default.if-b-lt103-own.false),
+      simp (
+        le-ltb b 48 c.in_default.if-b-lt48-own.false,
+        le-ltb b 58 c.in_default.if-b-lt58-own.false,
+        le-ltb b 97 c.in_default.if-b-lt97-own.false,
+        le-ltb b 103 c.in_default.if-b-lt103-own.false,
+      ),
       search rules,
     )

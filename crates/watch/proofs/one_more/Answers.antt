@@ -1,5 +1,4 @@
 -- Below the last number one more, at it no more: the one test.
-use borrow.Author.Rules.{rules}
 use borrow.Author.Tests.{lt-ltb, le-ltb}
 use Rattle.watch.specs.Watch.{one_more_hit}
 use Rattle.watch.proofs.one_more.Goals as goal

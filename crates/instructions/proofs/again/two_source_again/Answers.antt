@@ -1,5 +1,4 @@
 -- The two numbers that are no rows, and the rows.
-use borrow.Author.Rules.{rules}
 use borrow.Author.Tests.{ne_eqb}
 use Rattle.instructions.specs.Decode.{two_source_of}
 use Rattle.instructions.proofs.again.two_source_again.Goals as goal

@@ -1,5 +1,4 @@
 -- The row that is selected, or none; or the second source is no register.
-use borrow.Author.Rules.{rules}
 use Rattle.instructions.proofs.Rows.{row_is, row_none, row_illegal}
 use Rattle.instructions.proofs.capabilities.two_sources.Goals as goal
 

@@ -1,6 +1,5 @@
 -- The sum of the parts is below 2^13; the rest is the sign extension.
 use Rattle.instructions.specs.Fields.{immediate_b}
-use borrow.Author.Rules.{rules}
 use Rattle.instructions.proofs.fields.imm_b.Goals as goal
 
 pub sign_extend-requires : goal.sign_extend-requires

@@ -1,6 +1,5 @@
 -- The sum of the parts is below 2^21; the rest is the sign extension.
 use Rattle.instructions.specs.Fields.{immediate_j}
-use borrow.Author.Rules.{rules}
 use Rattle.instructions.proofs.fields.imm_j.Goals as goal
 
 pub sign_extend-requires : goal.sign_extend-requires

@@ -1,6 +1,5 @@
 -- The two parts of the field joined, then sign-extended.
 use Rattle.instructions.specs.Fields.{immediate_s}
-use borrow.Author.Rules.{rules}
 use Rattle.instructions.proofs.fields.imm_s.Goals as goal
 
 pub sign_extend-requires : goal.sign_extend-requires

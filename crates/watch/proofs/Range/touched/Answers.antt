@@ -1,6 +1,5 @@
 -- Hit or missed.
 use mathlib.Core.Path.{sym, ◌∙◌}
-use borrow.Author.Rules.{rules}
 use Rattle.watch.specs.Watch.{range_touched}
 use Rattle.watch.proofs.Laws as laws
 use Rattle.watch.proofs.Range.touched.Goals as goal

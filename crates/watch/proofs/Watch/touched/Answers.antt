@@ -1,5 +1,4 @@
 -- Both empty; or each range for itself.
-use borrow.Author.Rules.{rules}
 use Rattle.watch.specs.Watch.{touched_at}
 use Rattle.watch.proofs.Laws as laws
 use Rattle.watch.proofs.Watch.touched.Goals as goal
