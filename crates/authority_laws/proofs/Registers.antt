@@ -81,7 +81,7 @@ module _ (P : Capability → Type 0) where
   unfolding write_register
   file_register l rd c p h =
       cond_holds (Files P) (eqb (rd % general_count) 0) l (set_capability l (rd % general_count) c) h
-          (file_capability l (rd % general_count) c (omega arith) p h)
+      (file_capability l (rd % general_count) c (omega arith) p h)
 
   -- the mark and time
   file_moved : (a : ℕ) (l : List ℕ) → Files P l → Files P (marked a l)

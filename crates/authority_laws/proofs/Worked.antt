@@ -75,9 +75,9 @@ unfolding worked run_after iterate one_more refusal_of good_memory good_tags goo
     stored_capability revoked_value filtered load_capability_at load_capability_effect store_capability_check store_capability_at store_capability_effect
     memory_effect capability_effect checked access_cause place_of capability_in revocation_at capability_at integer_at load_of store_of capability_of decode_of
     immediate_i immediate_s lose_global lose_mutable lose_tag loaded_of revocable low high rights sealed tagged covers same_bounds move_of set_bounds_of
-        floor_at
+    floor_at
     ceil_at fits_at first_fit cut_exponent scale_field cut_base cut_top with_cut with_bounds exponent_of low_of high_of low_at high_at rights_of permissions_of
-        type_of
+    type_of
     scale_of top_of base_of sign_extend le_bytes set_bytes bit_at with_bit put_bit
 computed = record { in_c3 = refl; in_memory = refl; size_is = refl }
 

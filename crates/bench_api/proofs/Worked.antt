@@ -31,10 +31,10 @@ pub storing_counts : StoringCounts
 unfolding storing put before watch_left watched_by touched_at range_touched hits one_more_hit refusal_of good_memory good_tags good_zero good_words good_window
     good_bits
     good_edition sound sound_if_tagged good_bounds met_of interrupted time_of compare_of cleared below_mark marked effect_in trap_or length_in instruction_in
-        word_in
+    word_in
     fetch_of fetched_at stands_of second_of effect_of set_capability store_at store_effect memory_effect checked access_cause place_of capability_at integer_at
-        store_of
+    store_of
     decode_of immediate_s low high rights sealed tagged covers exponent_of low_of high_of low_at high_at rights_of permissions_of type_of scale_of top_of
-        base_of
+    base_of
     sign_extend le_bytes set_bytes
 storing_counts = record { first_is = refl; second_is = refl }

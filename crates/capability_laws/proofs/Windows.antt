@@ -58,7 +58,7 @@ module _ (base end a : ℕ) (word : base < 2 ^ 32) (order : base ≤ end) (sane 
   stays (inl z) = rw z (few_same (cut_top base end) (cut_base base end) base a (cut_top_lt base end) (cut_base_lt base end) word new)
   stays (inr w) =
       same_block (cut_exponent base end) (cut_top base end) (cut_base base end) base a (exponent_le (cut_exponent_lem base end)) (cut_base_lt base end)
-          (window.0 w)
+      (window.0 w)
 
   pub stayed : Exponent (cut_exponent base end) → Same (cut_exponent base end) (cut_top base end) (cut_base base end) base a
       → (cut_exponent base end ≡ 24) ⊎ ((cut_low base end ≤ a) × (a < cut_low base end + 2 ^ (cut_exponent base end + 9)))

@@ -9,7 +9,7 @@ use Rattle.state.specs.Memory.{granule_bytes}
 use Rattle.state.specs.Effects.{Stored, nothing, bytes, whole, stored_by, Within, StoresWithin, GoodTag, GoodEffect}
 use Rattle.state.specs.declared.Effect.{Effect}
 use Rattle.commit.specs.Commit.{stored, retagged, stored_capability, memory_after, tags_after, apply_effect}
-use Rattle.commit.specs.Touched.{SameMemory, OnlyAt, MemoryAfter}
+use Rattle.commit.specs.Touched.{MemoryAfter}
 use Rattle.commit.proofs.Views.{EachStored, each_stored}
 
 -- ---- what a store leaves

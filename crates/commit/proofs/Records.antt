@@ -1,12 +1,11 @@
 -- The mark and time, read after what records them: each write changes its own words alone. Assumes nothing.
-use Rattle.std.proofs.Common.{◌≡◌, ℕ, ◌+◌, ◌*◌, ◌/◌, ◌%◌, ◌^◌, ◌<◌, ◌≤◌, Bool, true, false, cond, ◌&&◌, ltb, leb, List, length, get_or, set, sym, refl, ◌∙◌}
+use Rattle.std.proofs.Common.{◌≡◌, ℕ, ◌+◌, ◌/◌, ◌%◌, ◌^◌, ◌<◌, ◌≤◌, Bool, true, false, cond, ◌&&◌, ltb, leb, List, length, get_or, set, refl, ◌∙◌}
 use Rattle.std.proofs.Common.{arith, length-set, get_or-set_other, get_or-set_same, ltb-true}
-use Rattle.instructions.specs.declared.Csr.{Csr}
-use Rattle.instructions.specs.declared.Csr.TheVariants.{Mstatus, Mcause, Mtval, Mshwm, Mshwmb}
+use Rattle.instructions.specs.declared.Csr.TheVariants.{Mshwm, Mshwmb}
 use Rattle.state.specs.Layout.{register_words, csr_index, time_index, compare_index}
 use Rattle.state.specs.Registers.{csr_at}
 use Rattle.state.specs.Marks.{cleared, below_mark, marked}
-use Rattle.state.specs.Timer.{time_of, compare_of, next_time, ticked}
+use Rattle.state.specs.Timer.{time_of, next_time, ticked}
 use Rattle.state.specs.Effects.{Stored, nothing, bytes, whole}
 use Rattle.commit.specs.Commit.{marked_by}
 
@@ -31,7 +30,7 @@ ticked_time l h =
     let low : List ℕ = set l time_index (next_time l % 2 ^ 32) in
     let p : get_or (set low (time_index + 1) (next_time l / 2 ^ 32)) time_index 0 ≡ next_time l % 2 ^ 32 =
     get_or-set_other low (time_index + 1) time_index (next_time l / 2 ^ 32) 0 (λ e. omega arith) ∙ get_or-set_same l time_index (next_time l % 2 ^ 32) 0
-        (omega arith) in
+    (omega arith) in
     let q : get_or (set low (time_index + 1) (next_time l / 2 ^ 32)) (time_index + 1) 0 ≡ next_time l / 2 ^ 32 =
     get_or-set_same low (time_index + 1) (next_time l / 2 ^ 32) 0 (simp length-set (omega arith)) in
     rw (p, q) (omega arith)

@@ -6,7 +6,7 @@
 // from. Where a reader's bytes are known and a writer's, as of those over memory, `cut_all` says
 // all that was written.
 //
-// `rt check cut` builds it as target/bin/cut: target/bin/cut < requests > cuts
+// `packaging/proved cut` builds it as target/bin/cut: target/bin/cut < requests > cuts
 #![tactic(auto)]
 
 ghost use Rattle.std.specs.Prelude.{◌≡◌, ◌≤◌, length, take, OnOk};

@@ -37,7 +37,7 @@ unfolding scan_text
 text_more s l i h =
     rw (add-one i, take-suc l i 0 h)
     (text_append s (take i l) (get_or l i 0 ∷ []) ∙ ap (λ (t : List ℕ). scan_text s (take i l) ++ t)
-        (append-nil (step_text (scanned s (take i l)) (get_or l i 0))))
+    (append-nil (step_text (scanned s (take i l)) (get_or l i 0))))
 
 taken_turn : (s : Scan) (l : List ℕ) (i room : ℕ) → i < length l → longest ≤ room
     → taken s (drop i l) room ≡ suc (taken (stepped s (get_or l i 0)) (drop (i + 1) l) (room - length (step_text s (get_or l i 0))))

@@ -30,7 +30,7 @@ pub example : text_of (request1 ++ (newline ∷ request2)) ≡ header_text ++ li
 unfolding text_of lines_of start_line lines_text line_text well_formed requested cut_text digit_of all_digits number_from glyph digits places_within places_of
     decimal
     cut_of cut_low cut_high cut_exact with_cut cut_top cut_base scale_field cut_exponent first_fit fits_at ceil_at floor_at low_at high_at low_of high_of
-        exponent_of with_bounds
+    exponent_of with_bounds
     scale_of top_of base_of
 example = refl
 

@@ -93,7 +93,7 @@ value_with_lem : (p v x b : ℕ) → expected p b ≡ true → x ≡ v % 2 ^ 64 
 unfolding expected value_with
 value_with_lem p v x b h e = go (eqb p 8) h
   where
-    go : (t : Bool) → cond t (eqb b tab) (is_digit b && ltb p 17) ≡ true → cond t x ((x * 2 ^ 4) % 2 ^ 64 + digit_of b) 
+    go : (t : Bool) → cond t (eqb b tab) (is_digit b && ltb p 17) ≡ true → cond t x ((x * 2 ^ 4) % 2 ^ 64 + digit_of b)
         ≡ cond t v (v * 16 + digit_of b) % 2 ^ 64
     go true k = e
     go false k = digit_mod v x (digit_of b) (digit_lt b ((and-eq-true_iff (is_digit b) (ltb p 17)).0 k).0) e

@@ -1,5 +1,5 @@
 -- Where PCC passes the checks for four bytes and they are in memory, the fetch finds what stands there, whichever its length. Assumes nothing.
-use Rattle.std.proofs.Common.{◌≡◌, ℕ, ◌+◌, ◌-◌, ◌%◌, ◌<◌, ◌≤◌, Bool, true, false, cond, not, ◌&&◌, leb, List, length, sym, refl, true≢false, arith, le-leb}
+use Rattle.std.proofs.Common.{◌≡◌, ℕ, ◌+◌, ◌-◌, ◌%◌, ◌≤◌, Bool, true, false, cond, not, ◌&&◌, leb, List, length, sym, refl, true≢false, arith, le-leb}
 use Rattle.std.proofs.Common.{leb-true}
 use Rattle.words.specs.Words.{le_bytes}
 use Rattle.metadata.specs.Rights.{EX}
@@ -11,7 +11,6 @@ use Rattle.state.specs.Checks.{in_bounds, access_cause, execute_cause}
 use Rattle.state.specs.declared.Place.TheVariants.{At}
 use Rattle.state.proofs.Laws.{place_from}
 use Rattle.fetch.specs.Fetch.{second_of, stands_of, fetched_at, fetch_of}
-use Rattle.fetch.specs.declared.Fetched.{Fetched}
 use Rattle.fetch.specs.declared.Fetched.TheVariants.{Long, Half}
 
 both : (a b : Bool) → (a && b) ≡ true → (a ≡ true) × (b ≡ true)

@@ -1,5 +1,5 @@
 -- What is fetched: what holds of every fault, of the long word there and of the half there holds of the fetch. Assumes nothing.
-use Rattle.std.proofs.Common.{◌≡◌, ℕ, ◌+◌, ◌-◌, ◌%◌, ◌^◌, ◌<◌, ◌≤◌, Bool, true, false, cond, not, ◌&&◌, eqb, leb, List, length, refl, subst, arith, eqb-true}
+use Rattle.std.proofs.Common.{◌≡◌, ℕ, ◌+◌, ◌-◌, ◌%◌, ◌^◌, ◌<◌, Bool, true, false, cond, not, ◌&&◌, eqb, leb, List, length, refl, subst, arith, eqb-true}
 use Rattle.std.proofs.Common.{leb-true}
 use Rattle.words.specs.Words.{le_bytes, wrap}
 use Rattle.words.proofs.Word.{by_test}

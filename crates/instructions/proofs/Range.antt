@@ -10,8 +10,10 @@ use Rattle.words.specs.Words.{sign_extend}
 use Rattle.words.proofs.Word.{by_test, sign_extend_word}
 use Rattle.instructions.specs.Range.{InRange, Register, Word, Even}
 use Rattle.instructions.specs.Fields.{opcode, rd_of, funct7, upper12, immediate_i, immediate_s, immediate_b, immediate_u, immediate_j, offset_aui}
-use Rattle.instructions.specs.Decode.{naming_of, load_of, store_of, fence_of, shift_left_of, shift_right_of, op_imm_of, op32_of, multiply_of, op_by_of, op_of, lui_of}
-use Rattle.instructions.specs.Decode.{auipcc_of, auicgp_of, jal_of, branch_of, jalr_of, csr_register_of, csr_immediate_of, csr_of, whole_of, system_of, special_of}
+use Rattle.instructions.specs.Decode.{naming_of, load_of, store_of, fence_of, shift_left_of, shift_right_of, op_imm_of, op32_of, multiply_of, op_by_of, op_of}
+use Rattle.instructions.specs.Decode.{lui_of}
+use Rattle.instructions.specs.Decode.{auipcc_of, auicgp_of, jal_of, branch_of, jalr_of, csr_register_of, csr_immediate_of, csr_of, whole_of, system_of}
+use Rattle.instructions.specs.Decode.{special_of}
 use Rattle.instructions.specs.Decode.{source_dest_of, combine_of, two_source_of, capability_of, decode_of}
 use Rattle.instructions.specs.declared.CsrKind.{CsrKind}
 use Rattle.instructions.specs.declared.Csr.{Csr}

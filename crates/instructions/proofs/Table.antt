@@ -5,8 +5,10 @@ use mathlib.Core.Path.{◌≡◌, refl}
 use mathlib.Core.List.{List, [], ◌∷◌, map}
 use Rattle.words.specs.Words.{sign_extend}
 use Rattle.instructions.specs.Fields.{immediate_i, immediate_s, immediate_b, immediate_u, immediate_j, offset_aui}
-use Rattle.instructions.specs.Decode.{load_of, store_of, fence_of, alu_of, multiply_of, shift_left_of, shift_right_of, op_imm_of, op32_of, op_by_of, op_of, lui_of}
-use Rattle.instructions.specs.Decode.{auipcc_of, auicgp_of, jal_of, branch_of, jalr_of, csr_register_of, csr_immediate_of, csr_of, whole_of, system_of, special_of}
+use Rattle.instructions.specs.Decode.{load_of, store_of, fence_of, alu_of, multiply_of, shift_left_of, shift_right_of, op_imm_of, op32_of, op_by_of, op_of}
+use Rattle.instructions.specs.Decode.{lui_of}
+use Rattle.instructions.specs.Decode.{auipcc_of, auicgp_of, jal_of, branch_of, jalr_of, csr_register_of, csr_immediate_of, csr_of, whole_of, system_of}
+use Rattle.instructions.specs.Decode.{special_of}
 use Rattle.instructions.specs.Decode.{source_dest_of, combine_of, two_source_of, capability_of, decode_of}
 use Rattle.instructions.specs.declared.Alu.TheVariants.{Add, Sub, Sll, Slt, Sltu, Xor, Srl, Sra, Or, And}
 use Rattle.instructions.specs.declared.MultiplyKind.TheVariants.{Mul, Mulh, Mulhsu, Mulhu}
@@ -193,7 +195,9 @@ table =
     []
 
 pub table_decodes : map (λ (r : Row). decode_of r.word) table ≡ map (λ (r : Row). r.means) table
-unfolding sign_extend immediate_i immediate_s immediate_b immediate_u immediate_j offset_aui load_of store_of fence_of alu_of multiply_of shift_left_of shift_right_of
-    op_imm_of op32_of op_by_of op_of lui_of auipcc_of auicgp_of jal_of branch_of jalr_of csr_register_of csr_immediate_of csr_of whole_of system_of special_of source_dest_of
+unfolding sign_extend immediate_i immediate_s immediate_b immediate_u immediate_j offset_aui load_of store_of fence_of alu_of multiply_of shift_left_of
+    shift_right_of
+    op_imm_of op32_of op_by_of op_of lui_of auipcc_of auicgp_of jal_of branch_of jalr_of csr_register_of csr_immediate_of csr_of whole_of system_of special_of
+    source_dest_of
     combine_of two_source_of capability_of decode_of
 table_decodes = refl

@@ -51,21 +51,21 @@ guarded_runs = refl
 pub guarded_nowhere : reach_answer 0x20000000 (query_of 0x20000020 0x20 (2 ^ SD)) 0 guarded ≡ Nowhere
 unfolding guarded reach_answer reach_refusal asked_refusal first_reach capability_is reaches_into first_of good_memory good_bits good_tags good_zero good_words
     set_capability set_bytes le_bytes bit_at capability_at capability_in tagged sound low high rights low_at high_at low_of high_of exponent_of scale_of top_of
-        base_of
+    base_of
     rights_of permissions_of
 guarded_nowhere = refl
 
 pub guarded_found : reach_answer 0x20000000 (query_of 0x2000001F 0x21 (2 ^ SD)) 0 guarded ≡ Found 1
 unfolding guarded reach_answer reach_refusal asked_refusal first_reach capability_is reaches_into first_of good_memory good_bits good_tags good_zero good_words
     set_capability set_bytes le_bytes bit_at capability_at capability_in tagged sound low high rights low_at high_at low_of high_of exponent_of scale_of top_of
-        base_of
+    base_of
     rights_of permissions_of
 guarded_found = refl
 
 pub guarded_loads : reach_answer 0x20000000 (query_of 0x20000020 0x20 (2 ^ LD)) 0 guarded ≡ Found 16
 unfolding guarded reach_answer reach_refusal asked_refusal first_reach capability_is reaches_into first_of good_memory good_bits good_tags good_zero good_words
     set_capability set_bytes le_bytes bit_at capability_at capability_in tagged sound low high rights low_at high_at low_of high_of exponent_of scale_of top_of
-        base_of
+    base_of
     rights_of permissions_of
 guarded_loads = refl
 

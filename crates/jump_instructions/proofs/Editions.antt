@@ -1,5 +1,5 @@
 -- Edition 0 is the report's jump. A return sentry is accepted by the return of the later edition alone, and there it is. Assumes nothing.
-use Rattle.std.proofs.Common.{◌≡◌, ℕ, ◌+◌, ◌*◌, Bool, true, false, cond, not, ◌&&◌, ◌||◌, eqb, leb, List, refl, arith, eq-eqb, eqb-true}
+use Rattle.std.proofs.Common.{◌≡◌, ℕ, Bool, true, false, cond, not, ◌&&◌, ◌||◌, eqb, leb, List, refl, eq-eqb, eqb-true}
 use Rattle.metadata.specs.Word.{type_of}
 use Rattle.metadata.specs.Rights.{EX}
 use Rattle.capability.specs.Capability.{grants, sealed, tagged}

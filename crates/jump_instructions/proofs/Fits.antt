@@ -28,7 +28,7 @@ targeted : (r cause target : ℕ) (e : Effect) → Word target → FitsEffect e 
 unfolding aligned
 targeted r cause target e t h =
     checked_fits r cause (aligned target e) (cond_holds FitsEffect (eqb (target % target_alignment) 0) e (Trap fetch_misaligned target) h
-        (tt, (omega arith, t)))
+    (tt, (omega arith, t)))
 
 -- in each edition MIE alone changes
 status_fits : (edition t m : ℕ) → Word m → Word (jump_status edition t m)

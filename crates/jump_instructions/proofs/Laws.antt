@@ -1,5 +1,5 @@
 -- No jump stores, and none sets a tag other than 0 or 1. Assumes nothing.
-use Rattle.std.proofs.Common.{◌≡◌, ℕ, ◌%◌, Bool, cond, eqb, List, arith}
+use Rattle.std.proofs.Common.{ℕ, ◌%◌, Bool, eqb, List, arith}
 use Rattle.capability.specs.Capability.{move_of}
 use Rattle.capability.specs.Sealing.{with_object_type}
 use Rattle.capability.specs.declared.Capability.{Capability}
@@ -12,7 +12,7 @@ use Rattle.state.specs.Addresses.{target_alignment, return_alignment}
 use Rattle.state.specs.Checks.{fetch_misaligned, checked}
 use Rattle.state.specs.Effects.{Storeless, GoodTag, GoodTags, GoodEffect}
 use Rattle.state.specs.declared.Effect.{Effect}
-use Rattle.state.specs.declared.Effect.TheVariants.{Advance, Jump, Trap}
+use Rattle.state.specs.declared.Effect.TheVariants.{Advance, Trap}
 use Rattle.state.proofs.Laws.{cond_holds, checked_holds, kept_good, capability_tag, register_tag, pcc_tag, legalized_tag}
 use Rattle.jump_instructions.specs.Jumps.{link_of, aligned, jal_effect, jalr_effect, taken_effect, branch_effect, mret_effect, jump_effect}
 
@@ -21,7 +21,7 @@ targeted : (P : Effect → Type 0) (r cause target : ℕ) (e : Effect) → ((n v
 unfolding aligned
 targeted P r cause target e t h =
     checked_holds P r cause (aligned target e) t (cond_holds P (eqb (target % target_alignment) 0) e (Trap fetch_misaligned target) h
-        (t fetch_misaligned target))
+    (t fetch_misaligned target))
 
 -- what holds of a jump to each target, and of an advance, holds of a branch
 branched : (P : Effect → Type 0) (takes : Bool) (target : ℕ) (regs : List ℕ) → P (taken_effect target regs) → P Advance → P (branch_effect takes target regs)

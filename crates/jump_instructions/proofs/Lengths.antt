@@ -1,5 +1,5 @@
 -- A jump's length stands in its link alone; and from an even PCC every decoded jump has an even target, so that the check of it never fails.
-use Rattle.std.proofs.Common.{◌≡◌, ℕ, ◌+◌, ◌*◌, ◌/◌, ◌%◌, Bool, true, false, cond, eqb, List, arith, eq-eqb}
+use Rattle.std.proofs.Common.{◌≡◌, ℕ, ◌+◌, ◌%◌, Bool, true, false, cond, eqb, List, arith, eq-eqb}
 use Rattle.words.specs.Words.{wrap}
 use Rattle.capability.specs.declared.Capability.{Capability}
 use Rattle.instructions.specs.Range.{JumpInRange}

@@ -1,5 +1,5 @@
 -- Jumps, branches and MRET, once over the editions. CHERIoT report, 7.5, 7.11 and 9.4 (CJAL, CJALR); RISC-V standards. Assumes nothing.
-use Rattle.std.specs.Prelude.{ℕ, ◌+◌, ◌-◌, ◌*◌, ◌/◌, ◌%◌, Bool, cond, not, ◌&&◌, ◌||◌, List, ◌==◌, nat_lt}
+use Rattle.std.specs.Prelude.{ℕ, ◌+◌, ◌*◌, ◌/◌, ◌%◌, Bool, cond, not, ◌&&◌, ◌||◌, List, ◌==◌, nat_lt}
 use Rattle.words.specs.Words.{wrap, less_signed}
 use Rattle.metadata.specs.Word.{type_of}
 use Rattle.metadata.specs.Rights.{EX}

@@ -19,9 +19,7 @@ use Rattle.machine.specs.Refusals.{sound_if_tagged, good_bounds, refusal_of}
 use Rattle.machine.specs.Run.{Ran, ran, one_more, iterate, ran_from, step_refusal, step_answer, step_after, StepPromise, run_answer, run_after, RunPromise}
 use Rattle.machine.specs.Run.{step_number, step_retired, step_trapped, run_number, run_retired, run_trapped, retired_by, trapped_by}
 use Rattle.machine.specs.declared.StepAnswer.{StepAnswer}
-use Rattle.machine.specs.declared.StepAnswer.TheVariants as StepAnswer
 use Rattle.machine.specs.declared.RunAnswer.{RunAnswer}
-use Rattle.machine.specs.declared.RunAnswer.TheVariants as RunAnswer
 
 -- one turn of the loop over the tag words
 pub tags_turn : (regs : List ℕ) (i : ℕ) → i < capability_count

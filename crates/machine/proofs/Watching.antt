@@ -1,5 +1,5 @@
 -- One turn of a run with what it keeps, and the promise of a run with a watch record. Assumes nothing.
-use Prim.Native.Nat.{ℕ, zero, suc, ◌+◌, ◌-◌, ◌%◌, ◌^◌, ◌≤◌, ◌<◌}
+use Prim.Native.Nat.{ℕ, zero, suc, ◌+◌, ◌-◌, ◌^◌, ◌≤◌, ◌<◌}
 use mathlib.Core.Path.{◌≡◌, refl, sym, ap, ◌∙◌}
 use mathlib.Core.Bool.{Bool, true, false, cond}
 use mathlib.Core.List.{List}
@@ -19,7 +19,6 @@ use Rattle.machine.specs.Refusals.{refusal_of}
 use Rattle.machine.specs.Run.{ran, iterate}
 use Rattle.machine.specs.Watching.{watch_step, watched_by, watch_left, WatchPromise, CountPromise, SameRanges}
 use Rattle.machine.specs.declared.RunAnswer.{RunAnswer}
-use Rattle.machine.specs.declared.RunAnswer.TheVariants as RunAnswer
 use Rattle.machine.proofs.Laws as laws
 
 -- one turn: what is kept of it, beside the state that it leaves

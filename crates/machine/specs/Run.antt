@@ -1,5 +1,5 @@
 -- The answers of a step and a run, and what they leave. Document 01, "Answers". Assumes nothing.
-use Rattle.std.specs.Prelude.{Bool, true, false, cond, List, ◌≡◌, ℕ, zero, suc, ◌+◌, eqb}
+use Rattle.std.specs.Prelude.{cond, List, ◌≡◌, ℕ, zero, suc, ◌+◌, eqb}
 use Rattle.state.specs.Lent.{State}
 use Rattle.state.specs.declared.Board.{Board}
 use Rattle.commit.specs.Commit.{retires}
@@ -8,7 +8,6 @@ use Rattle.machine.specs.Refusals.{refusal_of}
 use Rattle.machine.specs.declared.StepAnswer.{StepAnswer}
 use Rattle.machine.specs.declared.StepAnswer.TheVariants.{Retired, Trapped, Refused}
 use Rattle.machine.specs.declared.RunAnswer.{RunAnswer}
-use Rattle.machine.specs.declared.RunAnswer.TheVariants as RunAnswer
 
 -- ---- the paper's number and values of each answer; a refused call has both counts 0
 

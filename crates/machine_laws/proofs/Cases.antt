@@ -42,23 +42,23 @@ use Rattle.machine_laws.specs.Cases.{top_of_memory, untagged_load, environment_c
 pub cases_hold : Hold cases × Hold short_cases × Hold token_cases × Hold timer_cases
 unfolding holds found put before cases short_cases token_cases timer_cases top_of_memory untagged_load environment_call step_answer step_after refusal_of
     good_memory good_tags good_zero good_words good_window good_bits good_edition sound sound_if_tagged good_bounds step_of met_of interrupted time_of
-        compare_of ticked
+    compare_of ticked
     cleared below_mark marked csr_register_of csr_of csr_asked csr_written csr_writes csr_write csr_effect effect_in trap_or length_in instruction_in word_in
-        fetch_of
+    fetch_of
     fetched_at stands_of second_of shut_out short_of quadrant0 quadrant1 quadrant2 two_of arithmetic_of unless_hint immediate_wide jalr_cause accepts link_type
     report_status jump_status jalr_effect jalr_of is_sentry addi4spn_of moves_of registers_of immediate_six offset_jump long_form long_of word_r word_i word_j
-        capability_of
+    capability_of
     op32_of op_by_of op_of Derivations.capability_effect effect_of apply_effect retires set_capability write_register advanced trapped jumped with_csr stored
-        retagged
+    retagged
     stored_capability system_effect link_of aligned target_cause jal_effect jump_effect load_at load_effect store_at store_effect revoked_value filtered
     load_capability_at load_capability_effect store_capability_check store_capability_at store_capability_effect memory_effect Integers.alu_of
-        Integers.integer_effect
+    Integers.integer_effect
     checked access_cause system_access place_of capability_in revocation_at capability_at integer_at trap_status legalized load_of store_of alu_of op_imm_of
-        jal_of
+    jal_of
     whole_of system_of decode_of immediate_i immediate_s immediate_j lose_global lose_mutable lose_tag loaded_of revocable with_object_type low high rights
-        sealed
+    sealed
     tagged covers same_bounds move_of exponent_of low_of high_of low_at high_at rights_of permissions_of type_of scale_of top_of base_of with_type sign_extend
-        le_bytes
+    le_bytes
     set_bytes bit_at with_bit put_bit
 cases_hold = (
   tt & tt & tt & tt & tt & tt & tt & tt & tt & tt & tt & tt & end,

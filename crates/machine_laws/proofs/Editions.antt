@@ -37,7 +37,7 @@ module _ (board : Board) (revoked : List ℕ) (s : State) (report : board.editio
   report_effect_at_lem =
       ap (λ (e : Effect). trap_or (fetched_in board s) e)
       (report_effect_lem (length_in (fetched_in board s)) (instruction_in (fetched_in board s)) (word_in (fetched_in board s)) s.regs (seen board revoked s)
-          report)
+      report)
 
   pub report_step_lem : step_of board revoked s ≡ report_step board revoked s
   unfolding step_of

@@ -141,8 +141,11 @@ module _ (board : Board) (revoked : List ℕ) where
   -- a public run of 0 steps changes nothing, and counts 0 and 0
   pub run_of_none : (s : State) → step_refusal board revoked s ≡ 0 → (run_after 0 board revoked s ≡ s) × (run_answer 0 board revoked s ≡ RunAnswer.Ran 0 0)
   unfolding steps_after retired_in trapped_in
-  run_of_none s good = (run_after_lem 0 s good (λ k a b. absurd (omega arith)) (omega arith), run_answer_lem 0 s good (λ k a b. absurd (omega arith))
-      (omega arith))
+  run_of_none s good = (
+    run_after_lem 0 s good (λ k a b. absurd (omega arith)) (omega arith),
+    run_answer_lem 0 s good (λ k a b. absurd (omega arith))
+        (omega arith),
+  )
 
   -- ---- and only where none is
 

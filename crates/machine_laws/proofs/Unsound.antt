@@ -50,12 +50,12 @@ computed : Computed
 unfolding loader run_answer run_after step_after steps_after iterate one_more refusal_of good_memory good_tags good_zero good_words good_window good_bits
     good_edition
     sound sound_if_tagged good_bounds step_of met_of interrupted time_of compare_of ticked cleared below_mark marked effect_in trap_or length_in instruction_in
-        word_in
+    word_in
     fetch_of fetched_at stands_of second_of effect_of apply_effect retires set_capability write_register advanced revoked_value filtered load_capability_at
     load_capability_effect memory_effect Integers.alu_of Integers.integer_effect checked access_cause place_of capability_in revocation_at capability_at
-        integer_at load_of
+    integer_at load_of
     alu_of op_imm_of decode_of immediate_i lose_global lose_mutable lose_tag loaded_of revocable low high rights sealed tagged covers same_bounds move_of
-        exponent_of
+    exponent_of
     low_of high_of low_at high_at rights_of permissions_of type_of scale_of top_of base_of sign_extend le_bytes set_bytes bit_at with_bit put_bit
 computed =
     record { goes_on = refl; held = refl; written = refl; first_accepted = refl; next_refused = refl; unwritten = refl }

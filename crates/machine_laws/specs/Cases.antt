@@ -245,7 +245,7 @@ timer_cases =
     timed (integer 0x20000000) (integer 0) 8 (time_at 7 1 (compare_at 7 1 [])) 0x00000013 0
     (time_at 8 1 (trap (integer 0x20000000) 0x80000007 0))
     ∷ timed (execute 0x20000000) (integer 0) 8 (time_at 0xFFFFFFFF 0 (compare_at 0 1 [])) 0x00000013 1
-        (time_at 0 1 (register pcc_index (execute 0x20000004) []))
+    (time_at 0 1 (register pcc_index (execute 0x20000004) []))
     ∷ timed (execute 0x20000000) (integer 0) 0 (time_at 7 1 (compare_at 7 1 [])) 0x00000013 1 (time_at 8 1 (register pcc_index (execute 0x20000004) []))
     -- time wraps, in a step that traps too
     ∷ timed (execute 0x20000000) (integer 0) 0 (time_at 0xFFFFFFFF 0xFFFFFFFF []) 0x00000073 0 (time_at 0 0 [])

@@ -1,5 +1,5 @@
 -- Every capability and word that an instruction of this family loads or stores, and every address that a trap reports, fits. Assumes nothing.
-use Rattle.std.proofs.Common.{ℕ, not, List, length, arith}
+use Rattle.std.proofs.Common.{ℕ, not, List, arith}
 use Rattle.words.specs.Words.{Bytes, le_bytes}
 use Rattle.words.proofs.Word.{sign_extend_word}
 use Rattle.words.proofs.Bytes.{le_bytes_lt}

@@ -13,14 +13,13 @@ use Rattle.instructions.specs.declared.MemoryInstruction.{MemoryInstruction}
 use Rattle.instructions.specs.declared.MemoryInstruction.TheVariants as Instruction
 use Rattle.state.specs.Registers.{register_at}
 use Rattle.state.specs.Lent.{Lent}
-use Rattle.state.specs.Memory.{place_of, capability_in, store_width, revocation_at, granule_bytes}
+use Rattle.state.specs.Memory.{capability_in, store_width, revocation_at, granule_bytes}
 use Rattle.state.specs.Checks.{fail_if, access_cause, in_bounds, tag_cause, seal_cause, bounds_cause, store_cause, store_capability_cause, store_local_cause}
 use Rattle.state.specs.Effects.{StoresWithin, GoodTag, GoodTags, GoodEffect}
 use Rattle.state.specs.declared.Board.{Board}
 use Rattle.state.specs.declared.Place.{Place}
 use Rattle.state.specs.declared.Place.TheVariants.{At, Misaligned, Outside}
 use Rattle.state.specs.declared.Revocation.{Revocation}
-use Rattle.state.specs.declared.Revocation.TheVariants as Revocation
 use Rattle.state.proofs.Laws.{Placed, checked_holds, place_within, store_width_lem, granule_width, kept_good, register_tag, capability_in_tag}
 use Rattle.memory_instructions.specs.Access.{load_at, load_effect, store_at, store_effect, filtered, load_capability_at, load_capability_effect}
 use Rattle.memory_instructions.specs.Access.{store_capability_check, store_capability_at, store_capability_effect, memory_effect, revoked_by, revoked_value}

@@ -21,7 +21,6 @@ use Rattle.state.specs.declared.Board.{Board}
 use Rattle.state.specs.declared.Place.{Place}
 use Rattle.state.specs.declared.Place.TheVariants.{At, Misaligned, Outside}
 use Rattle.state.specs.declared.Revocation.{Revocation}
-use Rattle.state.specs.declared.Revocation.TheVariants as Revocation
 use Rattle.state.specs.declared.Effect.{Effect}
 use Rattle.state.specs.declared.Effect.TheVariants.{Write, Store, StoreCapability, Trap}
 

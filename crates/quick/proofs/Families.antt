@@ -62,7 +62,7 @@ module _ (regs after mem tags : List ℕ) (start m a n to : ℕ) (s : Stands reg
 
     pub turned_divide : (kind : DivideKind) (at from other rd rs1 rs2 : ℕ) → x ≡ Instruction.Integer (Divide kind rd rs1 rs2) → at ≡ rd % 16 * 3
         → from ≡ rs1 % 16 * 3 → other ≡ rs2 % 16 * 3 → after
-            ≡ went_on to (written_at at (integer (divided_of kind (get_or regs from 0) (get_or regs other 0))) regs)
+        ≡ went_on to (written_at at (integer (divided_of kind (get_or regs from 0) (get_or regs other 0))) regs)
         → Turns (effect_of n x word regs l)
     unfolding effect_of integer_effect integer_at
     turned_divide kind at from other rd rs1 rs2 e p f o h =

@@ -63,7 +63,7 @@ unfolding ticked time_of
 ticked_carry l e h =
     let w = carried (get_or l (time_index + 1) 0) h in
     let kept : get_or (set l time_index 0) (time_index + 1) 0 ≡ get_or l (time_index + 1) 0 = get_or-set_other l time_index (time_index + 1) 0 0
-        (λ q. omega arith) in
+    (λ q. omega arith) in
     rw (e, w.0, w.1, kept) refl
 
 pub ticked_low : (l : List ℕ) → get_or l time_index 0 < 4294967295 → get_or l (time_index + 1) 0 < 2 ^ 32 → ticked l
@@ -81,7 +81,7 @@ unfolding ticked
 stays_on l to j h p q =
     let r = set l 48 to in
     get_or-set_other (set r time_index (next_time r % 2 ^ 32)) (time_index + 1) j (next_time r / 2 ^ 32) 0 q ∙ get_or-set_other r time_index j
-        (next_time r % 2 ^ 32) 0 p
+    (next_time r % 2 ^ 32) 0 p
     ∙ get_or-set_other l 48 j to 0 h
 
 pub stays_written : (l : List ℕ) (at j : ℕ) (c : Capability) → at ≤ 45 → 48 ≤ j → get_or (written_at at c l) j 0 ≡ get_or l j 0

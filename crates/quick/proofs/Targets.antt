@@ -169,7 +169,7 @@ module _ (c : Capability) (start size to : ℕ) (r : Reached EX start size (with
   pub jalr_inside : (n edition rd rs1 offset : ℕ) (regs : List ℕ) → shut edition rd rs1 offset c ≡ false → to % 2 ≡ 0
       → jalr_effect n edition rd rs1 offset to c regs
       ≡ Jump rd (link_of n edition (pcc_of regs) (mstatus_of regs)) (move_of (with_object_type c 0) to)
-          (jump_status edition (type_of c.metadata) (mstatus_of regs))
+      (jump_status edition (type_of c.metadata) (mstatus_of regs))
   unfolding jalr_effect jalr_cause checked aligned
   jalr_inside n edition rd rs1 offset regs z k = rw (open_tagged, z, open_granted, open_inside, eq-eqb (to % 2) 0 k) refl
 

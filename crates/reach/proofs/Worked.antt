@@ -17,13 +17,13 @@ pub searches_told : told answer_of searches ≡ true
 unfolding told searches registers memory reach_answer reach_refusal asked_refusal first_reach first_of capability_is reaches_into good_memory good_bits
     good_tags
     good_zero good_words sound set_capability set_bytes le_bytes bit_at capability_at capability_in tagged low high rights low_at high_at low_of high_of
-        exponent_of
+    exponent_of
     scale_of top_of base_of rights_of permissions_of
 searches_told = refl
 
 pub outside_told : told answer_outside searches_outside ≡ true
 unfolding told searches_outside registers memory outside_answer outside_refusal reach_refusal asked_refusal first_outside passes_outside first_of capability_is
     reaches_into good_memory good_bits good_tags good_zero good_words sound set_capability set_bytes le_bytes bit_at capability_at capability_in tagged low
-        high rights
+    high rights
     low_at high_at low_of high_of exponent_of scale_of top_of base_of rights_of permissions_of
 outside_told = refl

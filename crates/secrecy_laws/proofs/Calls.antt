@@ -193,7 +193,7 @@ module _ (hidden : ℕ → Bool) where
       unfolding step_answer iterate
       step_answered =
           answered (step_refusal board revoked a) (step_refusal board revoked b) (refusal_alike hidden a b alike 1 board revoked) (λ n. StepAnswer.Refused n) _
-              _
+          _
           (λ z. ap (λ e. cond (retires e) StepAnswer.Retired StepAnswer.Trapped) (runs_of 1 0 z).same_next)
 
       step_left : Left a b (step_after board revoked a) (step_after board revoked b)

@@ -46,7 +46,7 @@ unfolding set_bytes
 set_bytes_same zero a b i v j l e = e
 set_bytes_same (suc n) a b i v j l e =
     set_same (set_bytes n a i v) (set_bytes n b i v) (i + n) _ j (length_set_bytes n a i v ∙ l ∙ sym (length_set_bytes n b i v))
-        (set_bytes_same n a b i v j l e)
+    (set_bytes_same n a b i v j l e)
 
 -- a byte that was written, whatever was there
 set_bytes_over : (n : ℕ) (a b : List ℕ) (i v j : ℕ) → length a ≡ length b → i + n ≤ length a → i ≤ j → j < i + n

@@ -63,7 +63,7 @@ one_runs = refl
 pub one_clear : outside_answer 0x20000000 (query_of 0x20000020 0x20 (2 ^ LD)) 0 one ≡ Nowhere
 unfolding one outside_answer outside_refusal reach_refusal asked_refusal first_outside passes_outside first_of capability_is reaches_into good_memory good_bits
     good_tags good_zero good_words set_capability set_bytes le_bytes bit_at capability_at capability_in tagged sound low high rights low_at high_at low_of
-        high_of
+    high_of
     exponent_of scale_of top_of base_of rights_of permissions_of
 one_clear = refl
 
@@ -71,7 +71,7 @@ pub one_holds : reach_answer 0x20000000 (query_of 0x20000020 0x20 (2 ^ LD)) 0 on
 unfolding one reach_answer reach_refusal asked_refusal first_reach first_of capability_is reaches_into good_memory good_bits good_tags good_zero good_words
     set_capability
     set_bytes le_bytes bit_at capability_at capability_in tagged sound low high rights low_at high_at low_of high_of exponent_of scale_of top_of base_of
-        rights_of
+    rights_of
     permissions_of
 one_holds = refl
 
@@ -112,9 +112,9 @@ pub one_told : ((ran_from 3 board revoked one).retired ≡ 2) × ((ran_from 3 bo
 unfolding one iterate one_more step_of met_of interrupted time_of compare_of ticked cleared below_mark marked effect_in trap_or length_in
     instruction_in word_in fetch_of fetched_at stands_of second_of effect_of apply_effect retires set_capability write_register advanced trapped retagged
     stored loaded_value load_at load_effect store_at store_effect load_capability_effect memory_effect checked access_cause place_of capability_in
-        capability_at integer_at
+    capability_at integer_at
     load_of store_of capability_of decode_of immediate_i immediate_s low high rights sealed tagged covers same_bounds move_of legalized trap_status exponent_of
-        low_of
+    low_of
     high_of low_at high_at rights_of permissions_of type_of scale_of top_of base_of sign_extend le_bytes set_bytes bit_at with_bit put_bit
 one_told = (refl, refl, refl, refl)
 
@@ -135,7 +135,7 @@ pub alone_unread : outside_answer 0x20000000 (query_of 0x20000020 0x20 (2 ^ LD))
 unfolding alone outside_answer outside_refusal reach_refusal asked_refusal first_outside passes_outside first_of capability_is reaches_into good_memory
     good_bits
     good_tags good_zero good_words set_capability set_bytes le_bytes bit_at capability_at capability_in tagged sound low high rights low_at high_at low_of
-        high_of
+    high_of
     exponent_of scale_of top_of base_of rights_of permissions_of
 alone_unread = refl
 
@@ -143,7 +143,7 @@ pub alone_unwritten : outside_answer 0x20000000 (query_of 0x20000020 0x20 (2 ^ S
 unfolding alone outside_answer outside_refusal reach_refusal asked_refusal first_outside passes_outside first_of capability_is reaches_into good_memory
     good_bits
     good_tags good_zero good_words set_capability set_bytes le_bytes bit_at capability_at capability_in tagged sound low high rights low_at high_at low_of
-        high_of
+    high_of
     exponent_of scale_of top_of base_of rights_of permissions_of
 alone_unwritten = refl
 
@@ -151,7 +151,7 @@ pub alone_counted : reach_answer 0x20000000 (query_of 0x20000020 0x20 (2 ^ SD)) 
 unfolding alone reach_answer reach_refusal asked_refusal first_reach first_of capability_is reaches_into good_memory good_bits good_tags good_zero good_words
     set_capability
     set_bytes le_bytes bit_at capability_at capability_in tagged sound low high rights low_at high_at low_of high_of exponent_of scale_of top_of base_of
-        rights_of
+    rights_of
     permissions_of
 alone_counted = refl
 
@@ -189,7 +189,7 @@ pub open_found : outside_answer 0x20000000 (query_of 0x20000020 0x20 (2 ^ LD)) 0
 unfolding one_open outside_answer outside_refusal reach_refusal asked_refusal first_outside passes_outside first_of capability_is reaches_into good_memory
     good_bits
     good_tags good_zero good_words set_capability set_bytes le_bytes bit_at capability_at capability_in tagged sound low high rights low_at high_at low_of
-        high_of
+    high_of
     exponent_of scale_of top_of base_of rights_of permissions_of
 open_found = refl
 

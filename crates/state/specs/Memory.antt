@@ -1,5 +1,5 @@
 -- Places in the lent memory, capabilities in it, and revocation. Document 01, "What is lent", "Loading capabilities". Assumes nothing.
-use Rattle.std.specs.Prelude.{ℕ, ◌+◌, ◌-◌, ◌/◌, ◌%◌, Bool, cond, ◌&&◌, List, ◌==◌, nat_le, nat_lt}
+use Rattle.std.specs.Prelude.{ℕ, ◌+◌, ◌-◌, ◌/◌, ◌%◌, cond, ◌&&◌, List, ◌==◌, nat_le, nat_lt}
 use Rattle.words.specs.Words.{le32, bit_at}
 use Rattle.capability.specs.Capability.{capability}
 use Rattle.capability.specs.declared.Capability.{Capability}
@@ -11,7 +11,6 @@ use Rattle.state.specs.declared.Board.{Board}
 use Rattle.state.specs.declared.Place.{Place}
 use Rattle.state.specs.declared.Place.TheVariants.{At, Misaligned, Outside}
 use Rattle.state.specs.declared.Revocation.{Revocation}
-use Rattle.state.specs.declared.Revocation.TheVariants as Revocation
 
 -- how many bytes a load or a store touches
 abbrev pub load_width : LoadKind → ℕ

@@ -1,5 +1,5 @@
 -- The register file, read and written. Document 01, "What is lent". Assumes nothing.
-use Rattle.std.specs.Prelude.{ℕ, ◌+◌, ◌*◌, ◌%◌, Bool, cond, List, ◌==◌, slice_index, slice_set}
+use Rattle.std.specs.Prelude.{ℕ, ◌+◌, ◌*◌, ◌%◌, cond, List, ◌==◌, slice_index, slice_set}
 use Rattle.capability.specs.Capability.{capability}
 use Rattle.capability.specs.declared.Capability.{Capability}
 use Rattle.instructions.specs.declared.Csr.{Csr}

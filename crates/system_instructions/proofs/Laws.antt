@@ -1,5 +1,5 @@
 -- No instruction of this family stores, and none sets a tag other than 0 or 1. Assumes nothing.
-use mathlib.Core.Bool.{Bool, cond}
+use mathlib.Core.Bool.{Bool}
 use mathlib.Core.List.{List}
 use Prim.Native.Nat.{ℕ, ◌%◌}
 use native.Mathlib.Omega.{arith}
@@ -18,7 +18,7 @@ use Rattle.state.specs.declared.Effect.{Effect}
 use Rattle.state.specs.declared.Effect.TheVariants.{Write, WriteScr, WriteCsr}
 use Rattle.state.specs.Addresses.{vector_alignment, return_alignment}
 use Rattle.state.proofs.Laws.{cond_holds, checked_holds, capability_tag, register_tag, legalized_tag, scr_place}
-use Rattle.system_instructions.specs.System.{csr_writes, csr_write, csr_effect, scr_value, special_write, special_effect, system_effect}
+use Rattle.system_instructions.specs.System.{csr_write, csr_effect, scr_value, special_write, special_effect, system_effect}
 
 write_storeless : (scr : Scr) (rd rs1 : ℕ) (old value : Capability) → Storeless (special_write scr rd rs1 old value)
 unfolding special_write

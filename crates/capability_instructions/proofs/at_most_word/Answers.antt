@@ -1,5 +1,5 @@
 -- Both arms are arithmetic: the number itself, or the largest word.
-use Rattle.std.proofs.Common.{arith, rules}
+use Rattle.std.proofs.Common.{arith}
 use Rattle.capability_instructions.proofs.at_most_word.Goals as goal
 
 pub returns-then-x : goal.returns-then-x

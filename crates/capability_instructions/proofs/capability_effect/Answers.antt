@@ -1,6 +1,5 @@
 -- An arm an instruction: its source read, derived as the callee promises, and written.
 use Rattle.capability_instructions.specs.Derivation.{capability_effect}
-use Rattle.std.proofs.Common.{rules}
 use Rattle.capability_instructions.proofs.capability_effect.Goals as goal
 
 -- AuiPcc

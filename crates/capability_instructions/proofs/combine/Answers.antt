@@ -1,5 +1,5 @@
 -- An arm an operation, each by its callee's promise; the difference of addresses by arithmetic modulo 2^32.
-use Rattle.std.proofs.Common.{ap, arith, rules}
+use Rattle.std.proofs.Common.{ap, arith}
 use Rattle.capability.specs.Capability.{integer}
 use Rattle.capability_instructions.specs.Derivation.{combined}
 use Rattle.capability_instructions.proofs.combine.Goals as goal

@@ -1,5 +1,4 @@
 -- The upper end of the region read.
-use Rattle.std.proofs.Common.{rules}
 use Rattle.capability_instructions.proofs.high_of.Goals as goal
 
 pub returns : goal.returns

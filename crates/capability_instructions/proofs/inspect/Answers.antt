@@ -1,6 +1,5 @@
 -- Ten inspections, each its callee's number or a field; length and top are cut to a word.
 use Rattle.capability_instructions.specs.Derivation.{inspected}
-use Rattle.std.proofs.Common.{rules}
 use Rattle.capability_instructions.proofs.inspect.Goals as goal
 
 pub returns-in-GetPerm : goal.returns-in-GetPerm

@@ -1,6 +1,5 @@
 -- Three comparisons joined, word by word.
 use Rattle.capability_instructions.specs.Derivation.{equal_exact}
-use Rattle.std.proofs.Common.{rules}
 use Rattle.capability_instructions.proofs.is_equal.Goals as goal
 
 pub returns : goal.returns

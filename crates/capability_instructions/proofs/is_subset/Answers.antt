@@ -1,6 +1,5 @@
 -- Four comparisons joined: both regions and both rights are read first, the rights compared by their common bits.
 use Rattle.capability_instructions.specs.Derivation.{subset}
-use Rattle.std.proofs.Common.{rules}
 use Rattle.capability_instructions.proofs.is_subset.Goals as goal
 
 pub returns : goal.returns

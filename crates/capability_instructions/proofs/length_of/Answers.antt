@@ -1,6 +1,5 @@
 -- The difference of the ends read, in 33 bits.
 use Rattle.capability_instructions.specs.Derivation.{length_of}
-use Rattle.std.proofs.Common.{rules}
 use Rattle.capability_instructions.proofs.length_of.Goals as goal
 
 pub returns : goal.returns

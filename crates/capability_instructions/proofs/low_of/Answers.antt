@@ -1,5 +1,4 @@
 -- The lower end of the region read.
-use Rattle.std.proofs.Common.{rules}
 use Rattle.capability_instructions.proofs.low_of.Goals as goal
 
 pub returns : goal.returns

@@ -1,5 +1,4 @@
 -- A move to the wrapped sum of address and increment.
-use Rattle.std.proofs.Common.{rules}
 use Rattle.capability_instructions.proofs.moved_by.Goals as goal
 
 pub returns : goal.returns

@@ -1,5 +1,4 @@
 -- The test as 0 or 1, and that as an integer.
-use Rattle.std.proofs.Common.{rules}
 use Rattle.capability_instructions.proofs.truth_of.Goals as goal
 
 pub returns : goal.returns

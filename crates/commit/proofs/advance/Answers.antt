@@ -1,6 +1,5 @@
 -- PCC read, moved by the instruction's bytes, and written.
 use Rattle.commit.specs.Commit.{advanced}
-use Rattle.std.proofs.Common.{rules}
 use Rattle.commit.proofs.advance.Goals as goal
 
 pub returns : goal.returns

@@ -1,5 +1,5 @@
 -- What is written, and then time.
-use Rattle.std.proofs.Common.{ap, rules}
+use Rattle.std.proofs.Common.{ap}
 use Rattle.state.specs.Lent.{State, state}
 use Rattle.state.specs.Timer.{ticked}
 use Rattle.commit.specs.Commit.{apply_effect}

@@ -1,6 +1,6 @@
 -- The three words are set last; what they stand on are the two capabilities, each read before anything was written.
 use Rattle.commit.specs.Commit.{trapped}
-use Rattle.std.proofs.Common.{◌∙◌, rules}
+use Rattle.std.proofs.Common.{◌∙◌}
 use Rattle.commit.proofs.enter_trap.Goals as goal
 
 pub returns : goal.returns

@@ -1,6 +1,5 @@
 -- Link, PCC and status: three writes, one after the other.
 use Rattle.commit.specs.Commit.{jumped}
-use Rattle.std.proofs.Common.{rules}
 use Rattle.commit.proofs.jump.Goals as goal
 
 pub returns : goal.returns

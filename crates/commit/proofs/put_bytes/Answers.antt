@@ -1,5 +1,4 @@
 -- An arm a width: each store sets as many bytes as its kind has.
-use Rattle.std.proofs.Common.{rules}
 use Rattle.commit.proofs.put_bytes.Goals as goal
 
 pub returns-in-Sb : goal.returns-in-Sb

@@ -1,5 +1,4 @@
 -- Three CSRs written in the definition's order.
-use Rattle.std.proofs.Common.{rules}
 use Rattle.commit.proofs.set_csrs.Goals as goal
 
 pub returns : goal.returns

@@ -1,5 +1,5 @@
 -- By the test for room: bytes set and the tag cleared, or both buffers as they were.
-use Rattle.std.proofs.Common.{rules, le-leb}
+use Rattle.std.proofs.Common.{le-leb}
 use borrow.Author.Tests.{lt-leb}
 use Rattle.commit.specs.Commit.{stored, retagged}
 use Rattle.commit.proofs.store.Goals as goal

@@ -1,5 +1,5 @@
 -- By the test for room: two words stored and the tag put, or both buffers as they were.
-use Rattle.std.proofs.Common.{rules, le-leb}
+use Rattle.std.proofs.Common.{le-leb}
 use borrow.Author.Tests.{lt-leb}
 use Rattle.commit.specs.Commit.{stored_capability, retagged}
 use Rattle.commit.proofs.store_capability.Goals as goal

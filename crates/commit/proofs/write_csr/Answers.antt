@@ -1,6 +1,5 @@
 -- The old word to its register, the new one to the CSR, then on.
 use Rattle.commit.specs.Commit.{with_csr}
-use Rattle.std.proofs.Common.{rules}
 use Rattle.commit.proofs.write_csr.Goals as goal
 
 pub returns : goal.returns

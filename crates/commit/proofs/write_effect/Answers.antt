@@ -1,7 +1,6 @@
 -- Each arm: what its writer leaves, and that the effect is that variant.
 use Rattle.commit.specs.Commit.{retires}
 use Rattle.commit.specs.Kept.{kept_after}
-use Rattle.std.proofs.Common.{rules}
 use Rattle.commit.proofs.write_effect.Goals as goal
 
 -- Advance

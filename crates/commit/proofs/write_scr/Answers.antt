@@ -1,6 +1,5 @@
 -- The old capability to its register, the new one to the special register's place, then on.
 use Rattle.commit.specs.Commit.{with_scr}
-use Rattle.std.proofs.Common.{rules}
 use Rattle.commit.proofs.write_scr.Goals as goal
 
 pub returns : goal.returns

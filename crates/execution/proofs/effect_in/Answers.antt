@@ -1,6 +1,5 @@
 -- What the callees give, one put into the next.
 use Rattle.execution.specs.Step.{effect_in}
-use borrow.Author.Rules.{rules}
 use Rattle.execution.proofs.effect_in.Goals as goal
 
 pub returns : goal.returns

@@ -1,6 +1,5 @@
 -- An arm a family, each with its family's promise; an illegal word is the last.
 use Rattle.execution.specs.Step.{effect_of}
-use borrow.Author.Rules.{rules}
 use Rattle.execution.proofs.execute.Goals as goal
 
 -- Integer

@@ -1,6 +1,5 @@
 -- One arm a case of the fetch.
 use Rattle.execution.specs.Step.{length_in}
-use borrow.Author.Rules.{rules}
 use Rattle.execution.proofs.length_in.Goals as goal
 
 pub returns-in-Fault : goal.returns-in-Fault

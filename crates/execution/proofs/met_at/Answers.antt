@@ -1,7 +1,6 @@
 -- By whether the interrupt is due.
 use mathlib.Core.Path.{sym, ◌∙◌}
 use Rattle.execution.specs.Step.{met_of}
-use borrow.Author.Rules.{rules}
 use Rattle.execution.proofs.met_at.Goals as goal
 
 pub returns-then-interrupt_due : goal.returns-then-interrupt_due

@@ -1,6 +1,5 @@
 -- One arm a case of the fetch.
 use Rattle.execution.specs.Step.{trap_or}
-use borrow.Author.Rules.{rules}
 use Rattle.execution.proofs.trap_or.Goals as goal
 
 pub returns-in-Fault : goal.returns-in-Fault

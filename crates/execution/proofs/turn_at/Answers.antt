@@ -1,5 +1,4 @@
 -- What the callees give, one put into the next.
-use borrow.Author.Rules.{rules}
 use Rattle.execution.proofs.turn_at.Goals as goal
 
 pub returns : goal.returns

@@ -1,6 +1,5 @@
 -- One arm a case of the fetch.
 use Rattle.execution.specs.Step.{word_in}
-use borrow.Author.Rules.{rules}
 use Rattle.execution.proofs.word_in.Goals as goal
 
 pub returns-in-Fault : goal.returns-in-Fault

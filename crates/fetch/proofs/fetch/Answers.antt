@@ -1,7 +1,6 @@
 -- The one test of the cause.
 use Rattle.words.proofs.Tests.{tests}
 use Rattle.fetch.specs.Fetch.{fetch_of}
-use Rattle.std.proofs.Common.{rules}
 use Rattle.fetch.proofs.fetch.Goals as goal
 
 pub returns-then-cause-eq-NO_CAUSE : goal.returns-then-cause-eq-NO_CAUSE

@@ -1,5 +1,5 @@
 -- Each return is a case of the place of PCC's address.
-use Rattle.std.proofs.Common.{◌∙◌, arith, rules}
+use Rattle.std.proofs.Common.{◌∙◌, arith}
 use Rattle.fetch.specs.Fetch.{fetched_at}
 use Rattle.fetch.proofs.Places.{found_misaligned, found_below, found_from_lem}
 use Rattle.fetch.proofs.fetched_at.Goals as goal

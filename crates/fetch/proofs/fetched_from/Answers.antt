@@ -1,5 +1,5 @@
 -- `found_there` with the room that the tests showed; the bytes of a lent slice are below 256.
-use Rattle.std.proofs.Common.{◌+◌, true, false, length, ◌∙◌, arith, rules, le-leb}
+use Rattle.std.proofs.Common.{◌+◌, true, false, length, ◌∙◌, arith, le-leb}
 use Rattle.short_forms.specs.Standing.{half_bytes, long_bytes}
 use borrow.Author.Tests.{lt-leb}
 use Rattle.fetch.proofs.Places.{found_there, found_outside}

@@ -1,6 +1,5 @@
 -- The two tests, in the order of the definition.
 use Rattle.fetch.specs.Fetch.{second_of}
-use Rattle.std.proofs.Common.{rules}
 use Rattle.fetch.proofs.second_half.Goals as goal
 
 pub returns-then-not-in_bounds : goal.returns-then-not-in_bounds

@@ -1,5 +1,5 @@
 -- The two numbers, by computation.
-use Rattle.std.proofs.Common.{refl, rules}
+use Rattle.std.proofs.Common.{refl}
 use Rattle.fetch.specs.Fetch.{shut_out}
 use Rattle.fetch.proofs.shut_out.Goals as goal
 

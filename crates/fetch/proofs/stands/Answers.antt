@@ -1,7 +1,6 @@
 -- The one test, decided by the arm.
 use Rattle.words.proofs.Tests.{tests}
 use Rattle.fetch.specs.Fetch.{stands_of}
-use Rattle.std.proofs.Common.{rules}
 use Rattle.fetch.proofs.stands.Goals as goal
 
 pub returns-in-3 : goal.returns-in-3

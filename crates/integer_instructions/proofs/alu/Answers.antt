@@ -1,5 +1,5 @@
 -- Ten operations, each its callee's word; the difference by arithmetic.
-use Rattle.std.proofs.Common.{arith, rules}
+use Rattle.std.proofs.Common.{arith}
 use Rattle.integer_instructions.specs.Integer.{alu_of}
 use Rattle.integer_instructions.proofs.alu.Goals as goal
 

@@ -1,6 +1,5 @@
 -- Quotient and remainder of the kind's reading, and of these the kind's part.
 use Rattle.integer_instructions.specs.Integer.{divided_of}
-use Rattle.std.proofs.Common.{rules}
 use Rattle.integer_instructions.proofs.divided.Goals as goal
 
 pub returns : goal.returns

@@ -1,6 +1,5 @@
 -- Each arm reads its sources, computes by its callee and writes one register; LUI computes nothing.
 use Rattle.integer_instructions.specs.Integer.{integer_effect}
-use Rattle.std.proofs.Common.{rules}
 use Rattle.integer_instructions.proofs.integer_effect.Goals as goal
 
 pub returns-in-Lui : goal.returns-in-Lui

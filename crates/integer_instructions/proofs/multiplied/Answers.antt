@@ -1,6 +1,5 @@
 -- One return a kind: the kind is told, and what is promised of its half is the clause of the definition.
 use Rattle.integer_instructions.specs.Integer.{multiplied_of}
-use Rattle.std.proofs.Common.{rules}
 use Rattle.integer_instructions.proofs.multiplied.Goals as goal
 
 -- Mul

@@ -1,6 +1,5 @@
 -- Each kind has its clause of the definition.
 use Rattle.integer_instructions.specs.Integer.{part_of}
-use Rattle.std.proofs.Common.{rules}
 use Rattle.integer_instructions.proofs.part.Goals as goal
 
 -- Div

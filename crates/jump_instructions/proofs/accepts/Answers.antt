@@ -1,6 +1,6 @@
 -- By the edition.
 use Rattle.jump_instructions.specs.Editions.{accepts}
-use Rattle.std.proofs.Common.{rules, eq-eqb, ne_eqb}
+use Rattle.std.proofs.Common.{eq-eqb, ne_eqb}
 use Rattle.jump_instructions.proofs.accepts.Goals as goal
 
 pub returns-then-edition-eq-LATER_EDITION : goal.returns-then-edition-eq-LATER_EDITION

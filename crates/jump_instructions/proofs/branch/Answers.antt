@@ -1,6 +1,5 @@
 -- Taken, the effect is the callee's; not taken, the instruction is passed by.
 use Rattle.jump_instructions.specs.Jumps.{branch_effect}
-use Rattle.std.proofs.Common.{rules}
 use Rattle.jump_instructions.proofs.branch.Goals as goal
 
 pub returns-then-takes : goal.returns-then-takes

@@ -1,5 +1,4 @@
 -- By the tests in their order: unsealed; no sentry; a sentry, by the offset.
-use Rattle.std.proofs.Common.{rules}
 use Rattle.jump_instructions.proofs.is_shut.Goals as goal
 
 pub returns-then-not-accepted : goal.returns-then-not-accepted

@@ -1,6 +1,5 @@
 -- Six comparisons, an arm each; the two signed ones by the signed order.
 use Rattle.jump_instructions.specs.Jumps.{taken}
-use Rattle.std.proofs.Common.{rules}
 use Rattle.jump_instructions.proofs.is_taken.Goals as goal
 
 pub returns-in-Beq : goal.returns-in-Beq

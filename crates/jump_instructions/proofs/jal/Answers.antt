@@ -1,6 +1,5 @@
 -- PCC and status read, link and target made of them, and the checks before the jump, each by its callee.
 use Rattle.jump_instructions.specs.Jumps.{jal_effect}
-use Rattle.std.proofs.Common.{rules}
 use Rattle.jump_instructions.proofs.jal.Goals as goal
 
 pub returns : goal.returns

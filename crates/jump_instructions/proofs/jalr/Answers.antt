@@ -1,6 +1,5 @@
 -- The target is unsealed, its type decides the status, and the causes come before the alignment; each by its callee.
 use Rattle.jump_instructions.specs.Jumps.{jalr_effect}
-use Rattle.std.proofs.Common.{rules}
 use Rattle.jump_instructions.proofs.jalr.Goals as goal
 
 pub returns : goal.returns

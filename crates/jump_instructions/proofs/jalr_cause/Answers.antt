@@ -1,6 +1,5 @@
 -- Tag, seal, EX and bounds, each tested by its callee; the first that fails gives the cause.
 use Rattle.jump_instructions.specs.Jumps.{jalr_cause}
-use Rattle.std.proofs.Common.{rules}
 use Rattle.jump_instructions.proofs.jalr_cause.Goals as goal
 
 pub returns : goal.returns

@@ -1,7 +1,6 @@
 -- An arm a kind of jump, its registers read first; for CJALR the sum is that of address and offset.
 use Rattle.jump_instructions.specs.Jumps.{jump_effect}
 use Rattle.state.proofs.Laws.{integer_is}
-use Rattle.std.proofs.Common.{rules}
 use Rattle.jump_instructions.proofs.jump_effect.Goals as goal
 
 -- Jal

@@ -1,6 +1,5 @@
 -- By the type: disabling; enabling; another.
 use Rattle.jump_instructions.specs.Editions.{later_status}
-use Rattle.std.proofs.Common.{rules}
 use Rattle.jump_instructions.proofs.later_status.Goals as goal
 
 pub returns-then-either : goal.returns-then-either

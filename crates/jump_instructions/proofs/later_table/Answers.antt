@@ -1,6 +1,6 @@
 -- By the pair of registers: a return; a call; another jump.
 use Rattle.jump_instructions.specs.Editions.{later_table}
-use Rattle.std.proofs.Common.{rules, eq-eqb, ne_eqb}
+use Rattle.std.proofs.Common.{eq-eqb, ne_eqb}
 use Rattle.jump_instructions.proofs.later_table.Goals as goal
 
 pub returns-then-both : goal.returns-then-both

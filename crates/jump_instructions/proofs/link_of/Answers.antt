@@ -1,6 +1,5 @@
 -- PCC moved past the instruction, then sealed with the edition's type.
 use Rattle.jump_instructions.specs.Jumps.{link_of}
-use Rattle.std.proofs.Common.{rules}
 use Rattle.jump_instructions.proofs.link_of.Goals as goal
 
 pub returns : goal.returns

@@ -1,6 +1,5 @@
 -- MEPCC made legal and the status put back, under the one check for system access.
 use Rattle.jump_instructions.specs.Jumps.{mret_effect}
-use Rattle.std.proofs.Common.{rules}
 use Rattle.jump_instructions.proofs.mret.Goals as goal
 
 pub returns : goal.returns

@@ -1,6 +1,5 @@
 -- PCC moved by the offset; bounds are checked before alignment.
 use Rattle.jump_instructions.specs.Jumps.{taken_effect}
-use Rattle.std.proofs.Common.{rules}
 use Rattle.jump_instructions.proofs.take.Goals as goal
 
 pub returns : goal.returns

@@ -1,6 +1,5 @@
 -- The cause is that of the bounds test, which the callee makes.
 use Rattle.jump_instructions.specs.Jumps.{target_cause}
-use Rattle.std.proofs.Common.{rules}
 use Rattle.jump_instructions.proofs.target_cause.Goals as goal
 
 pub returns : goal.returns

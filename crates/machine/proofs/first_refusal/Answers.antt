@@ -1,5 +1,4 @@
 -- Each return has the number of the first test that failed: those before it passed.
-use borrow.Author.Rules.{rules}
 use Rattle.machine.proofs.first_refusal.Goals as goal
 
 -- registers

@@ -1,14 +1,8 @@
 -- The loop keeps: what is left of the test from capability i on gives the whole test.
-use borrow.Author.Tests.{not-true, not-false}
-use borrow.Author.Rules.{rules}
-use Prim.Native.Nat.{◌+◌, ◌-◌, ◌≤◌, ◌<◌}
-use mathlib.Core.Path.{◌≡◌, sym, ◌∙◌}
-use mathlib.Core.Bool.{true, false}
-use native.Mathlib.Omega.{arith}
+use Prim.Native.Nat.{◌-◌, ◌≤◌}
+use mathlib.Core.Path.{◌≡◌}
 use Rattle.state.specs.Layout.{capability_count}
-use Rattle.state.specs.Registers.{capability_at}
-use Rattle.machine.specs.Refusals.{sound_if_tagged, good_bounds}
-use Rattle.machine.proofs.Laws as laws
+use Rattle.machine.specs.Refusals.{good_bounds}
 use Rattle.machine.proofs.good_bounds.Given as goal
 
 abbrev pub invariant-loop-i : goal.invariant-loop-i

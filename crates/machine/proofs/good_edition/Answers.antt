@@ -1,6 +1,5 @@
 -- Two comparisons, joined by the callee as the definition joins them.
 use Rattle.machine.specs.Refusals.{good_edition}
-use borrow.Author.Rules.{rules}
 use Rattle.machine.proofs.good_edition.Goals as goal
 
 pub returns : goal.returns

@@ -1,7 +1,6 @@
 -- Five tests in the definition's order: each early answer by the one that failed, the last by all before it.
 use Rattle.machine.specs.Refusals.{good_memory}
 use Rattle.words.proofs.Tests.{tests}
-use borrow.Author.Rules.{rules}
 use Rattle.machine.proofs.good_memory.Goals as goal
 
 pub returns-then-size-lt-BLOCK_BYTES : goal.returns-then-size-lt-BLOCK_BYTES

@@ -1,13 +1,8 @@
 -- The loop keeps: what is left of the test from capability i on gives the whole test.
-use borrow.Author.Tests.{le-leb, lt-leb}
-use borrow.Author.Rules.{rules}
-use Prim.Native.Nat.{◌+◌, ◌-◌, ◌*◌, ◌≤◌, ◌<◌}
-use lib.ListN.{get_or}
-use mathlib.Core.Path.{◌≡◌, sym, ◌∙◌}
-use native.Mathlib.Omega.{arith}
-use Rattle.state.specs.Layout.{capability_count, capability_words}
+use Prim.Native.Nat.{◌-◌, ◌≤◌}
+use mathlib.Core.Path.{◌≡◌}
+use Rattle.state.specs.Layout.{capability_count}
 use Rattle.machine.specs.Refusals.{good_tags}
-use Rattle.machine.proofs.Laws as laws
 use Rattle.machine.proofs.good_tags.Given as goal
 
 abbrev pub invariant-loop-i : goal.invariant-loop-i

@@ -2,7 +2,6 @@
 use borrow.Author.Tests.{eq-eqb, ne_eqb}
 use Rattle.words.proofs.Tests.{tests}
 use Rattle.machine.specs.Refusals.{good_window}
-use borrow.Author.Rules.{rules}
 use Rattle.machine.proofs.good_window.Goals as goal
 
 -- a start that is no multiple

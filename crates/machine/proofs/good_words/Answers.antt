@@ -1,6 +1,5 @@
 -- The tags' test was made by the callee; where it passes c0's answer is all.
 use Rattle.machine.specs.Refusals.{good_words}
-use borrow.Author.Rules.{rules}
 use Rattle.machine.proofs.good_words.Goals as goal
 
 pub returns-then-good_tags : goal.returns-then-good_tags

@@ -1,7 +1,6 @@
 -- Three words of c0 read in turn: the first that is not 0 decides, and the last is compared.
 use Rattle.machine.specs.Refusals.{good_zero}
 use borrow.Author.Tests.{eq-eqb, ne_eqb}
-use borrow.Author.Rules.{rules}
 use Rattle.machine.proofs.good_zero.Goals as goal
 
 pub returns-then-word_at-ne0 : goal.returns-then-word_at-ne0

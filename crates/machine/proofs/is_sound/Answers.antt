@@ -1,6 +1,5 @@
 -- The region read has its ends in order and within the address space.
 use Rattle.machine.specs.Refusals.{sound}
-use borrow.Author.Rules.{rules}
 use Rattle.machine.proofs.is_sound.Goals as goal
 
 pub returns : goal.returns

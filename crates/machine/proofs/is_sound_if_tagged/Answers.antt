@@ -1,6 +1,5 @@
 -- By the tag: with it the callee's answer, without it nothing is asked.
 use Rattle.machine.specs.Refusals.{sound_if_tagged}
-use borrow.Author.Rules.{rules}
 use Rattle.machine.proofs.is_sound_if_tagged.Goals as goal
 
 pub returns-then-is_tagged : goal.returns-then-is_tagged

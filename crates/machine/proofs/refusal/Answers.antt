@@ -1,8 +1,7 @@
 -- The seven tests are those of the definition; where they pass, the bounds decide.
-use mathlib.Core.Path.{◌≡◌, sym, ◌∙◌}
+use mathlib.Core.Path.{sym, ◌∙◌}
 use Rattle.machine.specs.Refusals.{good_bits}
 use Rattle.machine.proofs.Laws as laws
-use borrow.Author.Rules.{rules}
 use Rattle.machine.proofs.refusal.Goals as goal
 
 -- one of the seven fails

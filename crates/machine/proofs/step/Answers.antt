@@ -1,7 +1,6 @@
 -- Refused; or not refused, and the one turn of the loop retires or traps.
 use mathlib.Core.Path.{sym, ◌∙◌}
 use Rattle.machine.proofs.Laws as laws
-use borrow.Author.Rules.{rules}
 use Rattle.machine.proofs.step.Goals as goal
 
 pub returns-then-no-ne0 : goal.returns-then-no-ne0

@@ -1,12 +1,9 @@
 -- The loop keeps: what the steps that are left make of the buffers, counts and watch record is what all n make of the start.
-use borrow.Author.Rules.{rules}
-use Prim.Native.Nat.{◌-◌, ◌^◌, ◌≤◌, ◌<◌}
+use Prim.Native.Nat.{◌-◌, ◌^◌, ◌<◌}
 use mathlib.Core.Path.{◌≡◌, ◌∙◌}
 use native.Mathlib.Omega.{arith}
-use lib.ListN.{length}
-use Rattle.state.specs.Lent.{state}
 use Rattle.execution.proofs.Laws.{turn_leaves, turn_keeps}
-use Rattle.machine.specs.Run.{ran, iterate}
+use Rattle.machine.specs.Run.{iterate}
 use Rattle.machine.specs.Watching.{watched_by}
 use Rattle.machine.proofs.Watching as laws
 use Rattle.machine.proofs.take_watched.Goals as goal

@@ -1,7 +1,6 @@
 -- Refused; or not refused, and the loop's steps are the definition's.
 use mathlib.Core.Path.{sym, ◌∙◌}
 use Rattle.machine.proofs.Watching as laws
-use borrow.Author.Rules.{rules}
 use Rattle.machine.proofs.watched_run.Goals as goal
 
 pub returns-then-no-ne0 : goal.returns-then-no-ne0

@@ -1,6 +1,5 @@
 -- Loaded, then asked whether it is revoked, then its tag kept or not: three callees in a row.
 use Rattle.memory_instructions.specs.Access.{filtered}
-use Rattle.std.proofs.Common.{rules}
 use Rattle.memory_instructions.proofs.filter.Goals as goal
 
 pub returns : goal.returns

@@ -1,5 +1,4 @@
 -- Each return names the first test that failed: those before it passed.
-use Rattle.std.proofs.Common.{rules}
 use Rattle.memory_instructions.proofs.first_store_cause.Goals as goal
 
 -- untagged

@@ -1,5 +1,5 @@
 -- Each arm is the clause of what the bits say of the low bound.
-use Rattle.std.proofs.Common.{◌≡◌, ℕ, List, sym, ap, ◌∙◌, rules}
+use Rattle.std.proofs.Common.{◌≡◌, ℕ, List, sym, ap, ◌∙◌}
 use Rattle.bounds.specs.declared.Region.{Region}
 use Rattle.capability.specs.Capability.{low, high}
 use Rattle.capability.specs.declared.Capability.{Capability}

@@ -1,6 +1,5 @@
 -- Width, cause and place are the callees'; the load at that place is under the check.
 use Rattle.memory_instructions.specs.Access.{load_effect}
-use Rattle.std.proofs.Common.{rules}
 use Rattle.memory_instructions.proofs.load.Goals as goal
 
 pub returns : goal.returns

@@ -1,6 +1,5 @@
 -- By the place: two traps, or the value read there as an integer.
 use Rattle.memory_instructions.specs.Access.{load_at}
-use Rattle.std.proofs.Common.{rules}
 use Rattle.memory_instructions.proofs.load_at.Goals as goal
 
 pub returns-in-Misaligned : goal.returns-in-Misaligned

@@ -1,6 +1,5 @@
 -- As a load of eight bytes: cause and place are the callees', what is loaded there is under the check.
 use Rattle.memory_instructions.specs.Access.{load_capability_effect}
-use Rattle.std.proofs.Common.{rules}
 use Rattle.memory_instructions.proofs.load_capability.Goals as goal
 
 pub returns : goal.returns

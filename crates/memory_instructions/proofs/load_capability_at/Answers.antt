@@ -1,6 +1,5 @@
 -- By the place: two traps, or the capability there after the filter.
 use Rattle.memory_instructions.specs.Access.{load_capability_at}
-use Rattle.std.proofs.Common.{rules}
 use Rattle.memory_instructions.proofs.load_capability_at.Goals as goal
 
 pub returns-in-Misaligned : goal.returns-in-Misaligned

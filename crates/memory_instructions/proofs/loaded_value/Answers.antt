@@ -1,6 +1,5 @@
 -- Five kinds, each its load of bytes; the two signed ones are extended.
 use Rattle.memory_instructions.specs.Access.{loaded_value}
-use Rattle.std.proofs.Common.{rules}
 use Rattle.memory_instructions.proofs.loaded_value.Goals as goal
 
 pub returns-in-Lb : goal.returns-in-Lb

@@ -1,7 +1,6 @@
 -- An arm a kind of access: its registers read, the address summed, and the access by its callee.
 use Rattle.state.proofs.Laws.{integer_is}
 use Rattle.memory_instructions.specs.Access.{memory_effect}
-use Rattle.std.proofs.Common.{rules}
 use Rattle.memory_instructions.proofs.memory_effect.Goals as goal
 
 -- Load

@@ -1,6 +1,5 @@
 -- Width, cause and place are the callees'; the store at that place is under the check.
 use Rattle.memory_instructions.specs.Access.{store_effect}
-use Rattle.std.proofs.Common.{rules}
 use Rattle.memory_instructions.proofs.store.Goals as goal
 
 pub returns : goal.returns

@@ -1,6 +1,5 @@
 -- By the place: two traps, or the store of that kind, with nothing computed.
 use Rattle.memory_instructions.specs.Access.{store_at}
-use Rattle.std.proofs.Common.{rules}
 use Rattle.memory_instructions.proofs.store_at.Goals as goal
 
 pub returns-in-Misaligned : goal.returns-in-Misaligned

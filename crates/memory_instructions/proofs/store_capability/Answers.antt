@@ -1,6 +1,5 @@
 -- Its cause is one of its own, which also looks at the value; the store at its place is under that check.
 use Rattle.memory_instructions.specs.Access.{store_capability_effect}
-use Rattle.std.proofs.Common.{rules}
 use Rattle.memory_instructions.proofs.store_capability.Goals as goal
 
 pub returns : goal.returns

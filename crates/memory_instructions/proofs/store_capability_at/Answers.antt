@@ -1,6 +1,5 @@
 -- By the place: two traps, or the store of the capability as it is.
 use Rattle.memory_instructions.specs.Access.{store_capability_at}
-use Rattle.std.proofs.Common.{rules}
 use Rattle.memory_instructions.proofs.store_capability_at.Goals as goal
 
 pub returns-in-Misaligned : goal.returns-in-Misaligned

@@ -1,6 +1,5 @@
 -- The six tests are those of the definition.
 use Rattle.memory_instructions.specs.Access.{store_capability_check}
-use Rattle.std.proofs.Common.{rules}
 use Rattle.memory_instructions.proofs.store_capability_cause.Goals as goal
 
 pub returns : goal.returns

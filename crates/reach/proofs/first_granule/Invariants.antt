@@ -15,7 +15,7 @@ invariant-loop-p l =
     (capability_count ≤ l.p)
     × (l.p < 2 ^ 32)
     × (first_of (places_in (length l.mem) - l.p) (granule_passes l.q l.mem l.tags) l.p ≡ first_of (places_in (length l.mem) - l.from)
-        (granule_passes l.q l.mem l.tags) l.from)
+    (granule_passes l.q l.mem l.tags) l.from)
 
 abbrev pub decreases-loop-p : goal.decreases-loop-p
 decreases-loop-p l = places_in (length l.mem) - l.p

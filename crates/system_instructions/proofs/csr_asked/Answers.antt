@@ -1,6 +1,5 @@
 -- By the kind: the operand itself, or the old word with the operand's bits set or cleared.
 use Rattle.system_instructions.specs.System.{csr_asked}
-use borrow.Author.Rules.{rules}
 use Rattle.system_instructions.proofs.csr_asked.Goals as goal
 
 pub returns-in-Csrrw : goal.returns-in-Csrrw

@@ -1,6 +1,5 @@
 -- Old word, asked word and kept word in a row, each the callee's; the write is under the check of PCC.
 use Rattle.system_instructions.specs.System.{csr_effect}
-use borrow.Author.Rules.{rules}
 use Rattle.system_instructions.proofs.csr_effect.Goals as goal
 
 pub returns : goal.returns

@@ -1,6 +1,5 @@
 -- By whether there is a write.
 use Rattle.system_instructions.specs.System.{csr_write}
-use borrow.Author.Rules.{rules}
 use Rattle.system_instructions.proofs.csr_write.Goals as goal
 
 pub returns-then-writes : goal.returns-then-writes

@@ -1,6 +1,5 @@
 -- By the kind.
 use Rattle.system_instructions.specs.System.{csr_writes}
-use borrow.Author.Rules.{rules}
 use Rattle.system_instructions.proofs.csr_writes.Goals as goal
 
 pub returns-in-Csrrw : goal.returns-in-Csrrw

@@ -1,6 +1,5 @@
 -- By the CSR: mstatus keeps its other bits, the marks lose their low ones, the rest are as asked.
 use Rattle.system_instructions.specs.System.{csr_written}
-use borrow.Author.Rules.{rules}
 use Rattle.system_instructions.proofs.csr_written.Goals as goal
 
 pub returns-in-Mstatus : goal.returns-in-Mstatus

@@ -1,6 +1,5 @@
 -- By the register: MTCC and MEPCC are made legal, the other two are as they are.
 use Rattle.system_instructions.specs.System.{scr_value}
-use borrow.Author.Rules.{rules}
 use Rattle.system_instructions.proofs.scr_value.Goals as goal
 
 pub returns-in-Mtcc : goal.returns-in-Mtcc

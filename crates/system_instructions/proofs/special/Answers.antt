@@ -1,6 +1,5 @@
 -- Old and new value, each made legal for that register; the exchange is under the check of PCC.
 use Rattle.system_instructions.specs.System.{special_effect}
-use borrow.Author.Rules.{rules}
 use Rattle.system_instructions.proofs.special.Goals as goal
 
 pub returns : goal.returns

@@ -1,6 +1,5 @@
 -- Seven arms: two go on, two trap, and the accesses are their callees' with the operand read.
 use Rattle.system_instructions.specs.System.{system_effect}
-use borrow.Author.Rules.{rules}
 use Rattle.system_instructions.proofs.system_effect.Goals as goal
 
 pub returns-in-Fence : goal.returns-in-Fence

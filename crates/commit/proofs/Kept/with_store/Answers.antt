@@ -1,5 +1,4 @@
 -- The record touched; the count of traps stays.
-use Rattle.std.proofs.Common.{rules}
 use Rattle.commit.proofs.Kept.with_store.Goals as goal
 
 pub returns : goal.returns

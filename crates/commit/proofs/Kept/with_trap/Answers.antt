@@ -1,5 +1,4 @@
 -- One trap more by the wrapped sum; the record stays.
-use Rattle.std.proofs.Common.{rules}
 use Rattle.commit.proofs.Kept.with_trap.Goals as goal
 
 pub returns : goal.returns

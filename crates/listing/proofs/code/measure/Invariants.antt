@@ -8,7 +8,7 @@ use Rattle.listing.proofs.code.measure.Given as goal
 abbrev pub invariant-loop-at : goal.invariant-loop-at
 invariant-loop-at l =
     (l.at ≤ length l.code) × (end_at l.code l.at ≡ end_at l.code 0)
-        × (room_for l.room (length (text_of (words_at l.code l.at))) ≡ leb (length (listing_of l.code)) l.most)
+    × (room_for l.room (length (text_of (words_at l.code l.at))) ≡ leb (length (listing_of l.code)) l.most)
 
 abbrev pub decreases-loop-at : goal.decreases-loop-at
 decreases-loop-at l = length l.code - l.at

@@ -22,7 +22,7 @@ use Rattle.quick.proofs.steps.take_quick.Given as goal
 abbrev pub invariant-loop-k : goal.invariant-loop-k
 invariant-loop-k l =
     Running l.board l.revoked l.n (state l.initial.regs l.initial.mem l.initial.tags) l.initial.watch (state l.regs l.mem l.tags) l.code l.keys l.lens l.rows
-        l.low l.high l.base l.limit l.watch l.trapped l.k
+    l.low l.high l.base l.limit l.watch l.trapped l.k
     × (length l.regs ≡ length l.initial.regs) × (length l.mem ≡ length l.initial.mem) × (length l.tags ≡ length l.initial.tags)
 
 abbrev pub decreases-loop-k : goal.decreases-loop-k

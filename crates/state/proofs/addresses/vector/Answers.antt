@@ -1,6 +1,5 @@
 -- MTCC moved down to its alignment, which is the move that makes it legal.
 use Rattle.state.specs.Addresses.{legalized}
-use Rattle.std.proofs.Common.{rules}
 use Rattle.state.proofs.addresses.vector.Goals as goal
 
 pub returns : goal.returns

@@ -1,6 +1,5 @@
 -- Each return names the first check that failed: those before it passed.
 use Rattle.state.specs.Checks.{access_cause}
-use Rattle.std.proofs.Common.{rules}
 use Rattle.state.proofs.checks.access_cause.Goals as goal
 
 -- untagged

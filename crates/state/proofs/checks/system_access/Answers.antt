@@ -1,6 +1,5 @@
 -- SR among the rights read decides between the cause and none.
 use Rattle.state.specs.Checks.{system_access}
-use Rattle.std.proofs.Common.{rules}
 use Rattle.state.proofs.checks.system_access.Goals as goal
 
 pub returns-then-not-has : goal.returns-then-not-has

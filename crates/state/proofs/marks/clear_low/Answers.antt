@@ -1,5 +1,5 @@
 -- The same arithmetic.
-use Rattle.std.proofs.Common.{refl, rules}
+use Rattle.std.proofs.Common.{refl}
 use Rattle.state.specs.Marks.{cleared}
 use Rattle.state.proofs.marks.clear_low.Goals as goal
 

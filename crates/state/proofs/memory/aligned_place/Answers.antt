@@ -1,5 +1,5 @@
 -- Two comparisons: below the start is outside, and the end compared from there is the end compared from 0.
-use Rattle.std.proofs.Common.{◌+◌, arith, rules, le-leb}
+use Rattle.std.proofs.Common.{◌+◌, arith, le-leb}
 use borrow.Author.Tests.{lt-leb}
 use Rattle.state.proofs.memory.aligned_place.Goals as goal
 

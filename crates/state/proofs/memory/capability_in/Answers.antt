@@ -1,6 +1,5 @@
 -- Two words loaded and one bit of the tags.
 use Rattle.state.specs.Memory.{capability_in}
-use Rattle.std.proofs.Common.{rules}
 use Rattle.state.proofs.memory.capability_in.Goals as goal
 
 pub returns : goal.returns

@@ -1,5 +1,5 @@
 -- The remainder decides: 0 leaves where aligned bytes lie, else misaligned.
-use Rattle.std.proofs.Common.{rules, eq-eqb, ne_eqb}
+use Rattle.std.proofs.Common.{eq-eqb, ne_eqb}
 use Rattle.state.specs.Memory.{place_of}
 use Rattle.state.proofs.memory.place_of.Goals as goal
 

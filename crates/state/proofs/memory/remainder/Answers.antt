@@ -1,5 +1,5 @@
 -- By the width: 0 leaves the number, 1 nothing; 2, 4 and 8 are the same remainder written out.
-use Rattle.std.proofs.Common.{arith, rules}
+use Rattle.std.proofs.Common.{arith}
 use native.Mathlib.Nat.{mod-zero}
 use Rattle.state.proofs.memory.remainder.Goals as goal
 

@@ -1,5 +1,5 @@
 -- The window begins at or below the address in the last two, and it ends above the address in the last.
-use Rattle.std.proofs.Common.{◌+◌, arith, rules, le-ltb, lt-ltb, le-leb}
+use Rattle.std.proofs.Common.{◌+◌, arith, le-ltb, lt-ltb, le-leb}
 use borrow.Author.Tests.{lt-leb}
 use Rattle.state.specs.Memory.{window_at, revocation_at}
 use Rattle.state.proofs.memory.revocation_at.Goals as goal

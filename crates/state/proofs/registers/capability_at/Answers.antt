@@ -1,5 +1,5 @@
 -- Inside the file three plain reads are the definition's; else three reads with a default.
-use Rattle.std.proofs.Common.{refl, rules}
+use Rattle.std.proofs.Common.{refl}
 use Rattle.state.specs.Registers.{capability_at}
 use Rattle.state.proofs.registers.capability_at.Goals as goal
 

@@ -1,5 +1,4 @@
 -- The word read at the CSR's place.
-use Rattle.std.proofs.Common.{rules}
 use Rattle.state.proofs.registers.csr_at.Goals as goal
 
 pub returns : goal.returns

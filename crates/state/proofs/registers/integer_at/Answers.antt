@@ -1,6 +1,5 @@
 -- The word read at the register's address word.
 use Rattle.state.specs.Registers.{integer_at}
-use Rattle.std.proofs.Common.{rules}
 use Rattle.state.proofs.registers.integer_at.Goals as goal
 
 pub returns : goal.returns

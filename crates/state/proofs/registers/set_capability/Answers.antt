@@ -1,5 +1,5 @@
 -- Inside the file three plain writes, none of which changes its length; else three writes that may fall outside.
-use Rattle.std.proofs.Common.{refl, arith, length-set, rules}
+use Rattle.std.proofs.Common.{refl, arith, length-set}
 use Rattle.state.specs.Registers.{set_capability}
 use Rattle.state.proofs.registers.set_capability.Goals as goal
 

@@ -1,5 +1,4 @@
 -- The word put at the CSR's place.
-use Rattle.std.proofs.Common.{rules}
 use Rattle.state.proofs.registers.set_csr.Goals as goal
 
 pub returns : goal.returns

@@ -1,5 +1,5 @@
 -- Register 0 is not written; any other is set.
-use Rattle.std.proofs.Common.{rules, eq-eqb, ne_eqb}
+use Rattle.std.proofs.Common.{eq-eqb, ne_eqb}
 use Rattle.state.specs.Registers.{write_register}
 use Rattle.state.proofs.registers.write_register.Goals as goal
 

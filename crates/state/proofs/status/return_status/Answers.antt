@@ -1,6 +1,5 @@
 -- MIE from MPIE as read, then MPIE set: two bits one after the other.
 use Rattle.state.specs.Status.{return_status}
-use Rattle.std.proofs.Common.{rules}
 use Rattle.state.proofs.status.return_status.Goals as goal
 
 pub returns : goal.returns

@@ -1,6 +1,5 @@
 -- MPIE from MIE as read, then MIE cleared: two bits one after the other.
 use Rattle.state.specs.Status.{trap_status}
-use Rattle.std.proofs.Common.{rules}
 use Rattle.state.proofs.status.trap_status.Goals as goal
 
 pub returns : goal.returns

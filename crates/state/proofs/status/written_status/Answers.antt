@@ -1,6 +1,5 @@
 -- Both bits of the word asked for are read and put in place of the old ones.
 use Rattle.state.specs.Status.{written_status}
-use Rattle.std.proofs.Common.{rules}
 use Rattle.state.proofs.status.written_status.Goals as goal
 
 pub returns : goal.returns

@@ -1,6 +1,5 @@
 -- Its two words, read.
 use Rattle.state.specs.Timer.{compare_of}
-use Rattle.std.proofs.Common.{rules}
 use Rattle.state.proofs.timer.compare_of.Goals as goal
 
 pub returns : goal.returns

@@ -1,5 +1,5 @@
 -- Both tests where MIE is set; the first alone where it is not.
-use Rattle.std.proofs.Common.{rules, eq-eqb, ne_eqb}
+use Rattle.std.proofs.Common.{eq-eqb, ne_eqb}
 use Rattle.state.specs.Timer.{interrupted}
 use Rattle.state.proofs.timer.interrupt_due.Goals as goal
 

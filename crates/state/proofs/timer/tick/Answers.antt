@@ -1,6 +1,5 @@
 -- Both words of the next time, written.
 use Rattle.state.specs.Timer.{ticked}
-use Rattle.std.proofs.Common.{rules}
 use Rattle.state.proofs.timer.tick.Goals as goal
 
 pub returns : goal.returns

@@ -1,6 +1,5 @@
 -- Its two words, read.
 use Rattle.state.specs.Timer.{time_of}
-use Rattle.std.proofs.Common.{rules}
 use Rattle.state.proofs.timer.time_of.Goals as goal
 
 pub returns : goal.returns
