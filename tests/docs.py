@@ -39,7 +39,7 @@ LITERAL = re.compile(r'\s*\*?b?"[^"]*"[;,]?')
 # Names in backticks that are not of this repository, by what they are. One that no document uses is reported.
 ALLOWED = {
     "the kit's": """bit_and bit_or bit_xor get_or slice_index slice_set cond eqb leb ltb ensures requires rt u32::leading_zeros
-        wrapping_add_u32 wrapping_sub_u32 libc::read io::write_all""",
+        wrapping_add_u32 wrapping_sub_u32""",
     "the report's": "setCapBounds getCapLength",
     "words of a format, of an option or of a pattern": """c0 c15 word66 word72 mshwm mshwmb imm type cap explain _ STACK_END outside marked
         later exit astray waits stuck unhandled""",

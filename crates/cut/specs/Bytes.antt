@@ -1,5 +1,5 @@
--- What a turn and a whole run do to the bytes that a reader has left and those that a writer holds, where those are known. Of standard input and
--- standard output they are not, of a reader and a writer over memory they are.
+-- What a turn and a whole run do to the bytes that a reader has left and those that a writer holds, where those are known. Of the system's own
+-- two they are not, of a reader and a writer over memory they are.
 -- Assumes nothing.
 use Rattle.std.specs.Prelude.{◌≡◌, ℕ, ◌+◌, ◌^◌, ◌<◌, ⊤, List, [], ◌++◌, length, Option, IfSome}
 use Rattle.std.specs.Io.KnownBytes.{Appends, Consumes, IsAtEnd}
