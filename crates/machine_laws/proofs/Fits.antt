@@ -2,7 +2,7 @@
 use mathlib.Core.Path.{◌≡◌, refl}
 use mathlib.Core.Bool.{Bool, true, false, cond}
 use mathlib.Core.List.{List}
-use Prim.Native.Nat.{ℕ, zero, suc, ◌+◌, ◌-◌, ◌*◌, ◌%◌, ◌≤◌, ◌<◌}
+use Prim.Native.Nat.{ℕ, zero, suc, ◌+◌, ◌-◌, ◌*◌, ◌≤◌, ◌<◌}
 use native.Mathlib.Omega.{arith}
 use lib.Dec.{eqb}
 use borrow.Author.Tests.{eqb-true, eqb-false}
@@ -15,7 +15,6 @@ use Rattle.capability.proofs.Laws.{integer_good, move_good}
 use Rattle.instructions.specs.Range.{Word, InRange}
 use Rattle.instructions.specs.Decode.{decode_of}
 use Rattle.instructions.specs.declared.Instruction.{Instruction}
-use Rattle.instructions.specs.declared.Instruction.TheVariants as Instruction
 use Rattle.instructions.proofs.Range.{decoded_in_range}
 use Rattle.state.specs.Layout.{capability_words, capability_count, control_start, pcc_index, mtcc_index, mepcc_index, csr_index}
 use Rattle.instructions.specs.declared.Csr.TheVariants.{Mstatus}

@@ -24,11 +24,10 @@ use Rattle.machine.specs.Run.{step_retired, run_number, run_retired, run_trapped
 use Rattle.machine.specs.declared.StepAnswer.{StepAnswer}
 use Rattle.machine.specs.declared.StepAnswer.TheVariants.{Retired, Trapped, Refused}
 use Rattle.machine.specs.declared.RunAnswer.{RunAnswer}
-use Rattle.machine.specs.declared.RunAnswer.TheVariants as RunAnswer
 use Rattle.machine_laws.specs.Cases.{Case, board_in, put, before, top_of_memory, untagged_load, environment_call}
 use Rattle.machine_laws.specs.Steps.{steps_after, retired_in, trapped_in, SoundBetween}
 use Rattle.machine_laws.proofs.Refusals.{refused_step, refused_too, refused_run, too_many, not_too_many, good_of}
-use Rattle.machine_laws.proofs.Runs.{run_counts, run_after_lem, run_answer_lem, run_of_none}
+use Rattle.machine_laws.proofs.Runs.{run_counts, run_after_lem, run_answer_lem}
 use Rattle.machine_laws.proofs.Worked.{Worked, word_at_lem, top_worked, load_worked, call_worked}
 use Rattle.state.specs.Timer.{time_of}
 use Rattle.machine_laws.proofs.Timer.{time_after}

@@ -1,6 +1,6 @@
 -- Time counts steps, the mark falls, and where no interrupt is due a run is one without interrupts. By the words that an effect leaves alone. Assumes nothing.
-use mathlib.Core.Path.{◌≡◌, refl, sym, ap, ◌∙◌}
-use mathlib.Core.Bool.{Bool, true, false, cond, ◌&&◌}
+use mathlib.Core.Path.{◌≡◌, refl, ◌∙◌}
+use mathlib.Core.Bool.{Bool, true, false, ◌&&◌}
 use mathlib.Core.List.{List}
 use Prim.Native.Nat.{ℕ, zero, suc, ◌+◌, ◌%◌, ◌^◌, ◌≤◌, ◌<◌}
 use native.Mathlib.Omega.{arith}
@@ -12,7 +12,7 @@ use Rattle.capability.specs.Capability.{move_of}
 use Rattle.capability.specs.declared.Capability.{Capability}
 use Rattle.instructions.specs.declared.Csr.{Csr}
 use Rattle.instructions.specs.declared.Csr.TheVariants.{Mstatus, Mcause, Mtval, Mshwm, Mshwmb}
-use Rattle.state.specs.Layout.{capability_words, general_count, capability_count, register_words, pcc_index, mtcc_index, mepcc_index, csr_index, scr_index}
+use Rattle.state.specs.Layout.{capability_count, register_words, pcc_index, mepcc_index, csr_index, scr_index}
 use Rattle.state.specs.Layout.{time_index, compare_index}
 use Rattle.state.specs.Registers.{csr_at, mstatus_of, pcc_of}
 use Rattle.state.specs.Status.{MIE}
@@ -30,7 +30,7 @@ use Rattle.commit.proofs.Registers.{Holds, Rule, KeepsBeside, Keeps, result_kept
 use Rattle.commit.proofs.Lengths.{registers_long, written_long}
 use Rattle.commit.proofs.Records.{ticked_below, ticked_above, ticked_time, marked_other, mark_falls}
 use Rattle.execution.specs.Step.{length_in, fetched_in, met_of, effect_at, step_of}
-use Rattle.machine.specs.Run.{Ran, ran, one_more, iterate}
+use Rattle.machine.specs.Run.{Ran, one_more, iterate}
 use Rattle.machine_laws.specs.Timer.{step_untimed, iterate_untimed, IsMark, WritesMark}
 use Rattle.machine_laws.proofs.Kept.{lengths_stay}
 

@@ -1,7 +1,6 @@
 -- Bounds that are refused and that are not, computed; and a run that loads what a start may not hold: it goes on, where the second single step is refused.
 -- Document 02, 13. Assumes nothing.
-use mathlib.Core.Path.{◌≡◌, refl, ap, sym, ◌∙◌}
-use Prim.Native.Nat.{ℕ, ◌<◌}
+use mathlib.Core.Path.{◌≡◌, refl, ap}
 use native.Mathlib.Omega.{arith}
 use lib.Dec.{T}
 use Rattle.words.specs.Words.{sign_extend, le_bytes, set_bytes, bit_at, with_bit, put_bit}
@@ -13,7 +12,6 @@ use Rattle.capability.specs.declared.Capability.{Capability}
 use Rattle.capability.specs.Loading.{lose_global, lose_mutable, lose_tag, loaded_of, revocable}
 use Rattle.instructions.specs.Fields.{immediate_i}
 use Rattle.instructions.specs.Decode.{load_of, alu_of, op_imm_of, decode_of}
-use Rattle.state.specs.Layout.{capability_count}
 use Rattle.state.specs.Lent.{State}
 use Rattle.state.specs.Registers.{capability_at, integer_at, set_capability, write_register}
 use Rattle.state.specs.Marks.{cleared, below_mark, marked}

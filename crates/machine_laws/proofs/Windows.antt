@@ -1,7 +1,7 @@
 -- A window of all of memory is document 01's lookup and its lengths, so nothing else of the base has moved; an empty one is good wherever it starts in memory
 -- or at its end, and revokes nothing. Assumes nothing.
-use mathlib.Core.Path.{◌≡◌, refl, sym, ap, ◌∙◌}
-use mathlib.Core.Bool.{Bool, true, false, cond, ◌&&◌, true≢false}
+use mathlib.Core.Path.{◌≡◌, refl, ap}
+use mathlib.Core.Bool.{Bool, true, false, cond, ◌&&◌}
 use mathlib.Core.List.{List}
 use Prim.Native.Nat.{ℕ, ◌+◌, ◌-◌, ◌/◌, ◌%◌, ◌≤◌}
 use native.Mathlib.Omega.{arith}
@@ -13,13 +13,11 @@ use Rattle.capability.specs.Capability.{low}
 use Rattle.capability.specs.Loading.{revocable}
 use Rattle.capability.specs.declared.Capability.{Capability}
 use Rattle.state.specs.Lent.{State}
-use Rattle.state.specs.Memory.{granule_bytes, window_at, mark_of, revocation_at}
+use Rattle.state.specs.Memory.{granule_bytes, window_at, revocation_at}
 use Rattle.state.specs.declared.Board.{Board}
-use Rattle.state.specs.declared.Revocation.{Revocation}
 use Rattle.state.specs.declared.Revocation.TheVariants.{Outside, Clear, Marked}
 use Rattle.memory_instructions.specs.Access.{revoked_by, revoked_value}
 use Rattle.machine.specs.Refusals.{block_bytes, good_memory, good_window, good_bits}
-use Rattle.machine_laws.specs.Lent.{LentWindow}
 use Rattle.machine_laws.specs.Window.{WholeWindow, revoked_in_memory, bits_for_memory, told, lookups}
 use Rattle.machine_laws.proofs.Refusals.{memory_is, window_test}
 

@@ -1,5 +1,5 @@
 -- A half beside its long form. Document 02, 3. Assumes nothing.
-use Rattle.std.specs.Prelude.{◌≡◌, List, ℕ, get_or}
+use Rattle.std.specs.Prelude.{◌≡◌, List, ℕ}
 use Rattle.short_forms.specs.Long.{long_form}
 use Rattle.short_forms.specs.Standing.{half_bytes, long_bytes}
 use Rattle.state.specs.Registers.{pcc_of, mstatus_of}

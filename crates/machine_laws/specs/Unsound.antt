@@ -1,5 +1,5 @@
 -- Bounds on both sides of sound, and a start whose first instruction loads a value that is not. Document 02, 13. Assumes nothing.
-use Rattle.std.specs.Prelude.{Bool, true, false, cond, ◌&&◌, List, [], ◌∷◌, ℕ, ◌+◌, eqb, replicate}
+use Rattle.std.specs.Prelude.{Bool, true, cond, ◌&&◌, List, [], ◌∷◌, ℕ, eqb, replicate}
 use Rattle.words.specs.Words.{set32}
 use Rattle.capability.specs.Capability.{capability, low, high}
 use Rattle.capability.specs.declared.Capability.{Capability}

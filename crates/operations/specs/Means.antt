@@ -1,10 +1,8 @@
 -- What an operation of the second engine stands for: the instruction, and where its registers are. Document 02, 14. Assumes nothing.
 use Rattle.std.specs.Prelude.{◌≡◌, ℕ, ◌*◌, ◌%◌, ◌≤◌}
-use Rattle.instructions.specs.declared.Alu.{Alu}
 use Rattle.instructions.specs.declared.Alu.TheVariants.{Add}
 use Rattle.instructions.specs.declared.LoadKind.{LoadKind}
 use Rattle.instructions.specs.declared.LoadKind.TheVariants.{Lb, Lh, Lw, Lbu, Lhu}
-use Rattle.instructions.specs.declared.StoreKind.{StoreKind}
 use Rattle.instructions.specs.declared.StoreKind.TheVariants.{Sw}
 use Rattle.instructions.specs.declared.IntegerInstruction.TheVariants.{Lui, OpImm, Op, Multiply, Divide}
 use Rattle.instructions.specs.declared.JumpInstruction.TheVariants.{Jal, Jalr, Branch}
@@ -15,7 +13,6 @@ use Rattle.instructions.specs.declared.Combination.TheVariants.{SetAddr, IncAddr
 use Rattle.instructions.specs.declared.Instruction.{Instruction}
 use Rattle.instructions.specs.declared.Instruction.TheVariants.{Integer, Jump, Memory, Capability, System, Illegal}
 use Rattle.operations.specs.declared.Operation.{Operation}
-use Rattle.operations.specs.declared.Operation.TheVariants as Operation
 
 -- the place of a register's first word
 abbrev pub place_of : (r : ℕ) → ℕ

@@ -3,7 +3,7 @@
 use mathlib.Core.Path.{◌≡◌, refl, sym, ap, ◌∙◌}
 use mathlib.Core.Bool.{Bool, true, false, cond, not, ◌&&◌, true≢false}
 use mathlib.Core.List.{[]}
-use Prim.Native.Nat.{ℕ, ◌+◌, ◌-◌, ◌*◌, ◌/◌, ◌%◌, ◌^◌, ◌≤◌, ◌<◌}
+use Prim.Native.Nat.{ℕ, ◌+◌, ◌-◌, ◌*◌, ◌%◌, ◌^◌, ◌≤◌, ◌<◌}
 use native.Mathlib.Omega.{arith}
 use lib.Dec.{eqb, leb, ltb}
 use lib.ListN.{length}
@@ -14,15 +14,14 @@ use Rattle.state.specs.Layout.{register_words, capability_count}
 use Rattle.state.specs.Lent.{State}
 use Rattle.state.specs.Memory.{granule_bytes}
 use Rattle.state.specs.Checks.{fail_if}
-use Rattle.state.specs.declared.Board.{Board}
 use Rattle.machine.specs.Refusals.{block_bytes, most_memory, good_memory, good_bits, good_words}
 use Rattle.reach.specs.Reach.{end, places_in, first_of, passes_in, first_reach, board_at, asked_refusal, reach_refusal}
-use Rattle.reach.specs.Reach.{NoneBetween, FirstPlace, none_passes, first_passes, reach_number, reach_place, packed_reach}
-use Rattle.reach.specs.Outside.{in_range, is_hidden, passes_outside, first_outside, at_edges, outside_refusal, outside_answer, OutsidePromise}
+use Rattle.reach.specs.Reach.{NoneBetween, FirstPlace, none_passes, first_passes, reach_number, packed_reach}
+use Rattle.reach.specs.Outside.{is_hidden, passes_outside, first_outside, at_edges, outside_refusal, outside_answer, OutsidePromise}
 use Rattle.reach.specs.Outside.{place_behind, found_hidden}
 use Rattle.reach.specs.declared.Query.{Query}
 use Rattle.reach.specs.declared.ReachAnswer.{ReachAnswer}
-use Rattle.reach.specs.declared.ReachAnswer.TheVariants.{Found, Nowhere, Refused}
+use Rattle.reach.specs.declared.ReachAnswer.TheVariants.{Nowhere, Refused}
 use Rattle.reach.proofs.Search.{passed_over, passes_first, first_alike}
 use Rattle.reach.proofs.Laws.{is_nowhere, first_of_is, first_number, none_of, first_is, refusal_small}
 

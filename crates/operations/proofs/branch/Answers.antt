@@ -1,6 +1,5 @@
 -- An odd offset is plain; else the places are those of the registers.
 use mathlib.Core.Path.{refl}
-use borrow.Author.Rules.{rules}
 use Rattle.operations.proofs.Places.{placed}
 use Rattle.operations.proofs.branch.Goals as goal
 

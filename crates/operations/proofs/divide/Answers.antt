@@ -1,6 +1,5 @@
 -- What writes c0 is plain; any other register has its place.
 use mathlib.Core.Path.{refl}
-use borrow.Author.Rules.{rules}
 use Rattle.operations.proofs.Places.{placed, written}
 use Rattle.operations.proofs.divide.Goals as goal
 

@@ -1,6 +1,5 @@
 -- A jump that links no register: its place is 0, and its offset even.
 use mathlib.Core.Path.{refl, sym, ◌∙◌}
-use borrow.Author.Rules.{rules}
 use Rattle.operations.proofs.go.Goals as goal
 
 pub returns-in-0 : goal.returns-in-0

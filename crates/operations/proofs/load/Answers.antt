@@ -1,6 +1,5 @@
 -- The kind that the arm was told, or any other; a place is a register's.
 use mathlib.Core.Path.{refl}
-use borrow.Author.Rules.{rules}
 use Rattle.operations.proofs.Places.{placed}
 use Rattle.operations.proofs.load.Goals as goal
 

@@ -2,9 +2,8 @@
 use Prim.Native.Nat.{ℕ, ◌≤◌}
 use mathlib.Core.Path.{refl}
 use native.Mathlib.Omega.{arith}
-use Rattle.operations.specs.Means.{Place, AddsTo, to_register, to_pcc, to_global}
+use Rattle.operations.specs.Means.{Place, to_register, to_pcc, to_global}
 use Rattle.operations.proofs.Places.{placed}
-use borrow.Author.Rules.{rules}
 use Rattle.operations.proofs.of_capability.Goals as goal
 
 lower : {p : ℕ} → Place p → p ≤ 48

@@ -1,5 +1,4 @@
 -- Each case has its own function, which gives the operation of the instruction that the arm was told.
-use borrow.Author.Rules.{rules}
 use Rattle.operations.proofs.of_integer.Goals as goal
 
 pub returns-in-Lui : goal.returns-in-Lui

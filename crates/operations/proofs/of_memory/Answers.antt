@@ -1,5 +1,4 @@
 -- Where a case has its own function, that one gives the operation of the instruction that the arm was told.
-use borrow.Author.Rules.{rules}
 use Rattle.operations.proofs.of_memory.Goals as goal
 
 pub returns-in-Load : goal.returns-in-Load

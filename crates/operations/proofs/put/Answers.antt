@@ -1,6 +1,5 @@
 -- What writes c0 is plain; any other register has its place.
 use mathlib.Core.Path.{refl}
-use borrow.Author.Rules.{rules}
 use Rattle.operations.proofs.Places.{written}
 use Rattle.operations.proofs.put.Goals as goal
 

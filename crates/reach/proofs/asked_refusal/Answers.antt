@@ -2,7 +2,6 @@
 use borrow.Author.Tests.{lt-leb, le-leb, lt-ltb, le-ltb}
 use native.Mathlib.Omega.{arith}
 use Rattle.reach.specs.Reach.{places_in, asked_refusal}
-use borrow.Author.Rules.{rules}
 use Rattle.reach.proofs.asked_refusal.Goals as goal
 
 pub returns-then-q-gt-ALL_RIGHTS : goal.returns-then-q-gt-ALL_RIGHTS

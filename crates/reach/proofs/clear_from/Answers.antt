@@ -1,7 +1,6 @@
 -- A clear byte of tags, a granule that counts, and one that does not.
 use native.Mathlib.Omega.{arith}
 use Rattle.reach.specs.Search.{clear_from}
-use borrow.Author.Rules.{rules}
 use Rattle.reach.proofs.clear_from.Goals as goal
 
 pub returns-then-is_byte_clear : goal.returns-then-is_byte_clear

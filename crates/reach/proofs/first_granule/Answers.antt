@@ -1,12 +1,10 @@
 -- The loop keeps: the search from place p on gives the whole search.
 use borrow.Author.Rules.{rules}
-use Prim.Native.Nat.{◌-◌, ◌^◌, ◌≤◌, ◌<◌}
+use Prim.Native.Nat.{◌-◌}
 use mathlib.Core.Path.{◌≡◌, refl, sym, ◌∙◌}
 use native.Mathlib.Omega.{arith}
 use lib.ListN.{length}
-use Rattle.state.specs.Layout.{capability_count}
 use Rattle.reach.specs.Reach.{places_in, first_of}
-use Rattle.reach.specs.Search.{granule_passes}
 use Rattle.reach.proofs.Search as laws
 use Rattle.reach.proofs.first_granule.Goals as goal
 

@@ -1,12 +1,10 @@
 -- The loop keeps: the search from place p on gives the whole search; behind the registers it is that of memory.
 use borrow.Author.Rules.{rules}
-use Prim.Native.Nat.{◌-◌, ◌^◌, ◌<◌}
-use mathlib.Core.Path.{◌≡◌, refl, sym, ◌∙◌}
+use mathlib.Core.Path.{refl, sym, ◌∙◌}
 use native.Mathlib.Omega.{arith}
 use lib.ListN.{length}
-use Rattle.state.specs.Layout.{capability_count}
 use Rattle.state.specs.Lent.{state}
-use Rattle.reach.specs.Reach.{places_in, first_of, passes_in, first_reach}
+use Rattle.reach.specs.Reach.{places_in, first_reach}
 use Rattle.reach.proofs.Search as laws
 use Rattle.reach.proofs.first_place.Goals as goal
 

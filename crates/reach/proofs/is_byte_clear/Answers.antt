@@ -1,6 +1,5 @@
 -- The definition, of the byte as it was read.
 use Rattle.reach.specs.Search.{byte_clear}
-use borrow.Author.Rules.{rules}
 use Rattle.reach.proofs.is_byte_clear.Goals as goal
 
 pub returns : goal.returns

@@ -1,7 +1,6 @@
 -- Refused; or not refused, so that memory is no longer than it may be.
 use mathlib.Core.Path.{sym, ◌∙◌}
 use Rattle.reach.proofs.Laws as laws
-use borrow.Author.Rules.{rules}
 use Rattle.reach.proofs.reach.Goals as goal
 
 pub returns-then-no-ne0 : goal.returns-then-no-ne0

@@ -3,7 +3,6 @@ use borrow.Author.Tests.{not-true, not-false, eq-eqb, ne_eqb}
 use mathlib.Core.Path.{sym, ◌∙◌}
 use Rattle.reach.specs.Reach.{reaches_into}
 use Rattle.reach.proofs.Laws as laws
-use borrow.Author.Rules.{rules}
 use Rattle.reach.proofs.reaches.Goals as goal
 
 pub returns-then-not-is_tagged : goal.returns-then-not-is_tagged

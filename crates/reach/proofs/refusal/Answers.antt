@@ -1,7 +1,6 @@
 -- A number of a step that is refused here too; else what is asked decides.
 use mathlib.Core.Path.{sym, ◌∙◌}
 use Rattle.reach.proofs.Laws as laws
-use borrow.Author.Rules.{rules}
 use Rattle.reach.proofs.refusal.Goals as goal
 
 pub returns-then-both : goal.returns-then-both

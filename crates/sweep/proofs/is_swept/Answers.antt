@@ -1,7 +1,6 @@
 -- What has no tag is not taken by the test; of the rest the test itself is asked.
 use mathlib.Core.Path.{sym, ◌∙◌}
 use Rattle.sweep.proofs.Laws.{untagged_stays}
-use borrow.Author.Rules.{rules}
 use Rattle.sweep.proofs.is_swept.Goals as goal
 
 -- no tag

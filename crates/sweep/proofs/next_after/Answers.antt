@@ -1,7 +1,6 @@
 -- The next number compared with the count of granules: the last, or the next.
 use Rattle.words.proofs.Tests.{tests}
 use Rattle.sweep.specs.Visits.{next_after}
-use borrow.Author.Rules.{rules}
 use Rattle.sweep.proofs.next_after.Goals as goal
 
 pub returns-then-next-size : goal.returns-then-next-size

@@ -1,7 +1,6 @@
 -- The four tests are those of the definition; the third by the lengths that it goes by.
 use Rattle.machine.proofs.Laws.{bits_by_lengths}
 use Rattle.sweep.specs.Visits.{visit_refusal}
-use borrow.Author.Rules.{rules}
 use Rattle.sweep.proofs.refusal.Goals as goal
 
 pub returns : goal.returns

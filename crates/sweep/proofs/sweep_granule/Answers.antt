@@ -1,7 +1,6 @@
 -- Where the granule is to be swept its bit is put to 0; else the tags stay.
 use mathlib.Core.Path.{sym, ◌∙◌}
 use Rattle.sweep.specs.Visits.{swept_tags}
-use borrow.Author.Rules.{rules}
 use Rattle.sweep.proofs.sweep_granule.Goals as goal
 
 -- the tag goes

@@ -1,7 +1,6 @@
 -- Refused; or not refused, so that the granule is one of memory, and its number small.
 use mathlib.Core.Path.{sym, ◌∙◌}
 use Rattle.sweep.proofs.Laws as laws
-use borrow.Author.Rules.{rules}
 use Rattle.sweep.proofs.visit.Goals as goal
 
 pub returns-then-no-ne0 : goal.returns-then-no-ne0

@@ -1,5 +1,4 @@
 -- The definition, of the end as it was read.
-use borrow.Author.Rules.{rules}
 use Rattle.reach.proofs.outside.is_at_edges.Goals as goal
 
 pub returns : goal.returns

@@ -1,5 +1,4 @@
 -- By the cases of what was found.
-use borrow.Author.Rules.{rules}
 use Rattle.reach.proofs.outside.is_found_hidden.Goals as goal
 
 pub returns-in-Found : goal.returns-in-Found

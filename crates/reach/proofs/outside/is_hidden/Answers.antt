@@ -1,6 +1,5 @@
 -- A register is none; of a granule the definition.
 use borrow.Author.Tests.{lt-leb, le-leb}
-use borrow.Author.Rules.{rules}
 use Rattle.reach.proofs.outside.is_hidden.Goals as goal
 
 pub returns-then-place-lt-CAPABILITY_COUNT : goal.returns-then-place-lt-CAPABILITY_COUNT

@@ -3,7 +3,6 @@ use mathlib.Core.Path.{ap, ◌∙◌}
 use native.Mathlib.Omega.{arith}
 use Rattle.reach.specs.Reach.{packed_reach}
 use Rattle.reach.proofs.Passing as passing
-use borrow.Author.Rules.{rules}
 use Rattle.reach.proofs.outside.oddersnow_reach_outside.Goals as goal
 
 pub pack-requires : goal.pack-requires

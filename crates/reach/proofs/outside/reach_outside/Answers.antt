@@ -3,7 +3,6 @@ use borrow.Author.Tests.{not-true, not-false}
 use mathlib.Core.Path.{sym, ◌∙◌}
 use Rattle.reach.proofs.Laws as laws
 use Rattle.reach.proofs.Passing as passing
-use borrow.Author.Rules.{rules}
 use Rattle.reach.proofs.outside.reach_outside.Goals as goal
 
 pub returns-then-no-ne0 : goal.returns-then-no-ne0
