@@ -7,7 +7,6 @@ use Rattle.instructions.specs.declared.Alu.TheVariants.{Add}
 use Rattle.instructions.specs.declared.MultiplyKind.{MultiplyKind}
 use Rattle.instructions.specs.declared.DivideKind.{DivideKind}
 use Rattle.instructions.specs.declared.BranchKind.{BranchKind}
-use Rattle.instructions.specs.declared.JumpInstruction.TheVariants.{Jal, Jalr}
 use Rattle.instructions.specs.declared.LoadKind.{LoadKind}
 use Rattle.instructions.specs.declared.LoadKind.TheVariants.{Lw}
 use Rattle.instructions.specs.declared.StoreKind.{StoreKind}
@@ -15,14 +14,10 @@ use Rattle.instructions.specs.declared.StoreKind.TheVariants.{Sw}
 use Rattle.instructions.specs.declared.Instruction.{Instruction}
 use Rattle.instructions.specs.declared.MemoryInstruction.{MemoryInstruction}
 use Rattle.instructions.specs.declared.MemoryInstruction.TheVariants as Access
-use Rattle.instructions.specs.declared.Instruction.TheVariants as Instruction
 use Rattle.operations.specs.Means.{Placed}
 use Rattle.operations.specs.declared.Operation.{Operation}
-use Rattle.operations.specs.declared.Operation.TheVariants as Operation
 use Rattle.state.specs.Lent.{State, state, lent}
 use Rattle.state.specs.declared.Board.{Board}
-use Rattle.state.specs.declared.Effect.{Effect}
-use Rattle.jump_instructions.specs.Jumps.{jump_effect}
 use Rattle.integer_instructions.specs.Integer.{alu_of, multiplied_of, divided_of}
 use Rattle.capability_instructions.specs.Derivation.{moved_by}
 use Rattle.memory_instructions.specs.Access.{memory_effect}

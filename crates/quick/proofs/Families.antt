@@ -9,9 +9,8 @@ use Rattle.instructions.specs.declared.DivideKind.{DivideKind}
 use Rattle.instructions.specs.declared.Inspection.TheVariants.{GetAddr}
 use Rattle.instructions.specs.declared.Combination.TheVariants.{SetAddr, IncAddr}
 use Rattle.instructions.specs.declared.Instruction.{Instruction}
-use Rattle.instructions.specs.declared.Instruction.TheVariants as Instruction
 use Rattle.instructions.specs.declared.IntegerInstruction.TheVariants.{Lui, OpImm, Op, Multiply, Divide}
-use Rattle.instructions.specs.declared.CapabilityInstruction.TheVariants.{AuiPcc, AuiCgp, IncAddrImm, SetBoundsImm, Move, Inspect, Combine}
+use Rattle.instructions.specs.declared.CapabilityInstruction.TheVariants.{SetBoundsImm, Move, Inspect, Combine}
 use Rattle.state.specs.Registers.{capability_at, integer_at}
 use Rattle.state.specs.Lent.{Lent, state}
 use Rattle.state.specs.declared.Effect.{Effect}

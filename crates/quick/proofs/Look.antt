@@ -1,5 +1,5 @@
 -- What `look` finds: the four bytes at PCC's address, in memory and allowed, are a long word or start with a half, and PCC is itself after it. Assumes nothing.
-use Rattle.std.proofs.Common.{◌≡◌, ℕ, ◌+◌, ◌-◌, ◌%◌, ◌^◌, ◌<◌, Bool, true, false, cond, eqb, List, length, sym, refl, ap, ◌∙◌, arith, eq-eqb, ne_eqb}
+use Rattle.std.proofs.Common.{◌≡◌, ℕ, ◌+◌, ◌-◌, ◌%◌, ◌^◌, ◌<◌, true, false, List, length, sym, refl, ap, ◌∙◌, arith, eq-eqb, ne_eqb}
 use Rattle.words.specs.Words.{le_bytes, wrap, Bytes}
 use Rattle.capability.specs.Capability.{capability, move_of}
 use Rattle.capability.specs.declared.Capability.{Capability}
@@ -8,10 +8,9 @@ use Rattle.instructions.specs.declared.Instruction.{Instruction}
 use Rattle.short_forms.specs.Long.{long_form}
 use Rattle.short_forms.specs.Standing.{is_long, half_bytes, long_bytes}
 use Rattle.short_forms.proofs.Standing.{low_half}
-use Rattle.fetch.specs.declared.Fetched.TheVariants.{Long, Half}
 use Rattle.execution.specs.Step.{instruction_in, length_in}
 use Rattle.quick.specs.Turns.{pcc_at}
-use Rattle.quick.specs.Entries.{Open, there_of, Decoded, FoundOf, FoundAt}
+use Rattle.quick.specs.Entries.{Open, there_of, FoundOf, FoundAt}
 use Rattle.quick.specs.declared.Found.{Found}
 
 tagged_is : (c : Capability) → c.tag ≡ 1 → c ≡ pcc_at c.metadata c.address

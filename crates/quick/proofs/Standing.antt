@@ -1,11 +1,9 @@
 -- One step of the loop at an entry: PCC stands there, no interrupt is due, so the plain step does what the entry's instruction does. Assumes nothing.
-use Rattle.std.proofs.Common.{◌≡◌, ℕ, ◌+◌, ◌-◌, ◌*◌, ◌%◌, ◌^◌, ◌<◌, ◌≤◌, Bool, true, false, cond, ◌&&◌, eqb, leb, ◌⊎◌, List, length, get_or, sym, refl, ap}
+use Rattle.std.proofs.Common.{◌≡◌, ℕ, ◌+◌, ◌-◌, ◌*◌, ◌^◌, ◌<◌, ◌≤◌, Bool, true, false, cond, ◌&&◌, eqb, leb, List, get_or, sym, refl, ap}
 use Rattle.std.proofs.Common.{◌∙◌, ap₂, inl, inr, arith}
 use borrow.Author.Tests.{lt-leb}
-use Rattle.words.specs.Words.{wrap, le_bytes}
+use Rattle.words.specs.Words.{le_bytes}
 use Rattle.metadata.specs.Rights.{bit}
-use Rattle.capability.specs.Capability.{capability}
-use Rattle.capability.specs.declared.Capability.{Capability}
 use Rattle.instructions.specs.declared.Instruction.{Instruction}
 use Rattle.short_forms.specs.Standing.{is_long, half_bytes, long_bytes}
 use Rattle.state.specs.Registers.{capability_at, pcc_of, mstatus_of}
@@ -13,15 +11,14 @@ use Rattle.state.specs.Status.{MIE}
 use Rattle.state.specs.Timer.{time_of, compare_of, interrupted}
 use Rattle.state.specs.Lent.{State}
 use Rattle.state.specs.declared.Board.{Board}
-use Rattle.fetch.specs.Fetch.{fetch_of}
 use Rattle.fetch.specs.declared.Fetched.{Fetched}
 use Rattle.fetch.specs.declared.Fetched.TheVariants.{Long, Half}
 use Rattle.fetch.proofs.Known.{fetched_there}
 use Rattle.commit.specs.Commit.{apply_effect}
 use Rattle.execution.specs.Step.{effect_of, instruction_in, word_in, length_in, trap_or, effect_in, seen, met_of, fetched_in, effect_at, step_of}
-use Rattle.quick.specs.Turns.{pcc_at, Stands}
+use Rattle.quick.specs.Turns.{pcc_at}
 use Rattle.quick.specs.Steady.{Steady}
-use Rattle.quick.specs.Entries.{there_of, Decoded, key_of, Quiet, QuietUntil, Calm}
+use Rattle.quick.specs.Entries.{there_of, Decoded, key_of, Quiet, Calm}
 
 -- ---- no interrupt
 

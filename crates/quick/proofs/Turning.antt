@@ -1,6 +1,6 @@
 -- One way round the loop: a step of the machine, made by a turn or plainly, keeps what the loop keeps. Assumes nothing.
-use Rattle.std.proofs.Common.{◌≡◌, ℕ, zero, suc, ◌+◌, ◌-◌, ◌*◌, ◌%◌, ◌^◌, ◌<◌, ◌≤◌, Bool, true, false, cond, eqb, List, length, get_or, set, replicate, sym}
-use Rattle.std.proofs.Common.{refl, ap, ◌∙◌, subst, true≢false, arith, length-set, ne_eqb}
+use Rattle.std.proofs.Common.{◌≡◌, ℕ, zero, suc, ◌+◌, ◌-◌, ◌*◌, ◌%◌, ◌^◌, ◌<◌, ◌≤◌, Bool, true, false, cond, List, length, get_or, set, replicate, sym}
+use Rattle.std.proofs.Common.{refl, ap, ◌∙◌, subst, arith, length-set, ne_eqb}
 use Rattle.watch.specs.declared.Watch.{Watch}
 use Rattle.capability.specs.declared.Capability.{Capability}
 use Rattle.operations.specs.declared.Operation.{Operation}
@@ -24,7 +24,7 @@ use Rattle.machine.specs.Watching.{watch_step, watched_by}
 use Rattle.machine.proofs.Watching as machine
 use Rattle.machine_laws.proofs.Fetch.{next_within}
 use Rattle.quick.specs.Rows.{Good}
-use Rattle.quick.specs.Turns.{pcc_at, Stands, StoredAt, MayStore, Done, Turned}
+use Rattle.quick.specs.Turns.{pcc_at, Stands, StoredAt, MayStore, Done}
 use Rattle.quick.specs.Steady.{Steady, SteadyIf, TurnedBy}
 use Rattle.quick.specs.Entries.{entries, slot_of, slot_at, there_of, key_of, Entry, Entries, FoundAt, forgotten, ClearedUnless}
 use Rattle.quick.specs.Entries.{Quiet, Calm, noted_at}

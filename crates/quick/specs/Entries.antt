@@ -1,6 +1,6 @@
 -- Decoded code that is kept: what an entry is, what a store leaves of the entries, and how long no step needs more than its entry. Document 02, 14. Assumes
 -- nothing.
-use Rattle.std.specs.Prelude.{◌≡◌, ℕ, ◌+◌, ◌-◌, ◌*◌, ◌/◌, ◌%◌, ◌^◌, ◌<◌, ◌≤◌, Bool, true, false, cond, ◌&&◌, ◌⊎◌, List, length, set, ◌==◌, ◌≢◌, nat_lt}
+use Rattle.std.specs.Prelude.{◌≡◌, ℕ, ◌+◌, ◌-◌, ◌*◌, ◌/◌, ◌%◌, ◌^◌, ◌<◌, ◌≤◌, Bool, true, cond, ◌&&◌, ◌⊎◌, List, length, ◌==◌, ◌≢◌, nat_lt}
 use Rattle.std.specs.Prelude.{slice_index, slice_index_or, slice_set}
 use Rattle.words.specs.Words.{wrap, le_bytes}
 use Rattle.metadata.specs.Rights.{bit}
@@ -14,9 +14,9 @@ use Rattle.instructions.specs.declared.Instruction.{Instruction}
 use Rattle.operations.specs.Means.{Means, Placed}
 use Rattle.operations.specs.declared.Operation.{Operation}
 use Rattle.operations.specs.declared.Operation.TheVariants.{Plain}
-use Rattle.state.specs.Registers.{pcc_of, mstatus_of}
+use Rattle.state.specs.Registers.{mstatus_of}
 use Rattle.state.specs.Status.{MIE}
-use Rattle.state.specs.Timer.{time_of, compare_of, interrupted}
+use Rattle.state.specs.Timer.{time_of, compare_of}
 use Rattle.fetch.specs.declared.Fetched.{Fetched}
 use Rattle.fetch.specs.declared.Fetched.TheVariants.{Long, Half}
 use Rattle.execution.specs.Step.{instruction_in, length_in}

@@ -1,5 +1,5 @@
 -- Refused; or not refused, and the steps are the definition's.
-use Rattle.std.proofs.Common.{sym, ◌∙◌, rules}
+use Rattle.std.proofs.Common.{sym, ◌∙◌}
 use Rattle.machine.proofs.Watching as laws
 use Rattle.machine_laws.proofs.Refusals.{good_for}
 use Rattle.quick.proofs.run_quick.Goals as goal

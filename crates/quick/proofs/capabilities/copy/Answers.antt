@@ -1,5 +1,5 @@
 -- The three words read, written.
-use Rattle.std.proofs.Common.{refl, rules}
+use Rattle.std.proofs.Common.{refl}
 use Rattle.quick.proofs.capabilities.copy.Goals as goal
 
 pub returns : goal.returns

@@ -1,5 +1,5 @@
 -- The cut of what was read, written.
-use Rattle.std.proofs.Common.{refl, rules}
+use Rattle.std.proofs.Common.{refl}
 use Rattle.quick.proofs.capabilities.cut.Goals as goal
 
 pub returns : goal.returns

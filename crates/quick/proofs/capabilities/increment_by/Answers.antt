@@ -1,5 +1,5 @@
 -- An increment by what was read.
-use Rattle.std.proofs.Common.{refl, rules}
+use Rattle.std.proofs.Common.{refl}
 use Rattle.quick.proofs.capabilities.increment_by.Goals as goal
 
 pub returns : goal.returns

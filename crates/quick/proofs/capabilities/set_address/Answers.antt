@@ -1,5 +1,5 @@
 -- What was read, moved and written.
-use Rattle.std.proofs.Common.{refl, rules}
+use Rattle.std.proofs.Common.{refl}
 use Rattle.quick.proofs.capabilities.set_address.Goals as goal
 
 pub returns : goal.returns

@@ -1,5 +1,5 @@
 -- Five slots are cleared one after another.
-use Rattle.std.proofs.Common.{refl, rules}
+use Rattle.std.proofs.Common.{refl}
 use Rattle.quick.proofs.entries.clear_near.Goals as goal
 
 pub returns : goal.returns

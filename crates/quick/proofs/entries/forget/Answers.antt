@@ -1,9 +1,5 @@
 -- No width, or bytes wholly below or above the hull, clear nothing; any other store clears around its address.
-use Rattle.std.proofs.Common.{◌≡◌, ◌+◌, sym, refl, ap, ◌∙◌, arith, rules, le-ltb, lt-ltb, eq-eqb, ne_eqb, eqb-true}
-use borrow.Author.Tests.{eqb-false, not-false}
-use Rattle.quick.proofs.entries.forget.Reads as reads
-use Rattle.quick.proofs.entries.forget.Lts as lts
-use Rattle.quick.proofs.entries.clear_near.Reads as clear-near-reads
+use Rattle.std.proofs.Common.{◌+◌, refl, arith, le-ltb, lt-ltb, eq-eqb, ne_eqb}
 use Rattle.quick.proofs.entries.forget.Goals as goal
 
 pub returns-then-width-eq0 : goal.returns-then-width-eq0

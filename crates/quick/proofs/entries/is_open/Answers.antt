@@ -1,9 +1,5 @@
 -- Each refusal says nothing; after all of them each field of the promise is the test that was passed.
-use Rattle.std.proofs.Common.{◌≡◌, sym, refl, ap, ◌∙◌, true≢false, arith, rules, le-ltb, lt-ltb, eq-eqb, ne_eqb, eqb-true}
-use borrow.Author.Tests.{eqb-false, not-false}
-use Rattle.quick.proofs.entries.is_open.Reads as reads
-use Rattle.quick.proofs.entries.is_open.Lts as lts
-use Rattle.state.proofs.access_cause.Reads as access-cause-reads
+use Rattle.std.proofs.Common.{sym, ◌∙◌, true≢false, arith, eqb-true}
 use Rattle.quick.proofs.entries.is_open.Goals as goal
 
 pub returns-then-pcc-ne1 : goal.returns-then-pcc-ne1

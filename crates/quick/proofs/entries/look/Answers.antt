@@ -1,5 +1,5 @@
 -- An absent answer promises nothing; past `is_open` the four bytes are in memory and stand as a long word or a half.
-use Rattle.std.proofs.Common.{arith, rules}
+use Rattle.std.proofs.Common.{arith}
 use borrow.Author.Tests.{not-false}
 use Rattle.quick.proofs.Look as laws
 use Rattle.quick.proofs.entries.look.Goals as goal

@@ -1,15 +1,8 @@
 -- Where the moved PCC keeps its tag it is itself after the instruction, which is what is found; else an absent answer.
-use Rattle.std.proofs.Common.{◌≡◌, ℕ, ◌+◌, sym, refl, ap, ◌∙◌, true≢false, arith, rules, le-ltb, lt-ltb, eq-eqb, ne_eqb, eqb-true}
+use Rattle.std.proofs.Common.{◌≡◌, ℕ, ◌+◌, sym, refl, ap, ◌∙◌}
 use Rattle.words.specs.Words.{wrap}
 use Rattle.capability.specs.declared.Capability.{Capability}
-use borrow.Author.Tests.{eqb-false, not-false}
 use Rattle.capability.specs.Capability.{move_of}
-use Rattle.quick.proofs.entries.standing.Reads as reads
-use Rattle.quick.proofs.entries.standing.Lts as lts
-use Rattle.capability.proofs.move_address.Reads as move-address-reads
-use Rattle.operations.proofs.operation_of.Reads as operation-of-reads
-use Rattle.quick.proofs.entries.absent.Reads as absent-reads
-use Rattle.std.proofs.num.wrapping_add_u32.Reads as wrapping-add-u32-reads
 use Rattle.quick.proofs.entries.standing.Goals as goal
 
 pub returns-then-next-eq1 : goal.returns-then-next-eq1

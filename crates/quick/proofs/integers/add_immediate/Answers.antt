@@ -1,6 +1,6 @@
 -- The sum is the adder's.
 use Rattle.integer_instructions.specs.Integer.{alu_of}
-use Rattle.std.proofs.Common.{refl, rules}
+use Rattle.std.proofs.Common.{refl}
 use Rattle.quick.proofs.integers.add_immediate.Goals as goal
 
 pub returns : goal.returns

@@ -1,5 +1,5 @@
 -- The integer, written.
-use Rattle.std.proofs.Common.{refl, rules}
+use Rattle.std.proofs.Common.{refl}
 use Rattle.quick.proofs.integers.put_any.Goals as goal
 
 pub returns : goal.returns

@@ -1,5 +1,5 @@
 -- The result of two words read, written.
-use Rattle.std.proofs.Common.{refl, rules}
+use Rattle.std.proofs.Common.{refl}
 use Rattle.quick.proofs.integers.two.Goals as goal
 
 pub returns : goal.returns

@@ -1,5 +1,5 @@
 -- PCC lands where its row has the target; else nothing was done.
-use Rattle.std.proofs.Common.{refl, arith, rules}
+use Rattle.std.proofs.Common.{arith}
 use Rattle.quick.proofs.Targets.{went, stayed}
 use Rattle.quick.proofs.jumps.go_to.Goals as goal
 

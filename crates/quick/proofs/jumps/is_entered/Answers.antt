@@ -1,5 +1,5 @@
 -- What is not sealed is not shut; nor is what is accepted and has no offset.
-use Rattle.std.proofs.Common.{sym, ◌∙◌, true≢false, rules}
+use Rattle.std.proofs.Common.{sym, ◌∙◌, true≢false}
 use Rattle.quick.proofs.Targets.{refused, open_not_shut, accepted_not_shut}
 use Rattle.quick.proofs.jumps.is_entered.Goals as goal
 

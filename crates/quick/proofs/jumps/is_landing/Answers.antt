@@ -1,5 +1,5 @@
 -- Alignment, and what the row says.
-use Rattle.std.proofs.Common.{sym, true≢false, rules}
+use Rattle.std.proofs.Common.{sym, true≢false}
 use Rattle.quick.proofs.jumps.is_landing.Goals as goal
 
 pub returns-then-to-ne0 : goal.returns-then-to-ne0

@@ -1,5 +1,5 @@
 -- PCC's word at the address, sealed.
-use Rattle.std.proofs.Common.{ℕ, ap, ◌∙◌, rules}
+use Rattle.std.proofs.Common.{ℕ, ap, ◌∙◌}
 use Rattle.capability.specs.Sealing.{with_object_type}
 use Rattle.quick.specs.Turns.{pcc_at}
 use Rattle.quick.proofs.jumps.link_at.Goals as goal

@@ -1,7 +1,6 @@
 -- Taken, it is a jump; not taken, PCC goes on.
 use Rattle.quick.proofs.Targets.{branch_turned, branch_passed}
 use Rattle.quick.proofs.Steady.{steady_on, went_steady}
-use Rattle.std.proofs.Common.{rules}
 use Rattle.quick.proofs.jumps.take_branch.Goals as goal
 
 pub returns-then-is_taken : goal.returns-then-is_taken

@@ -1,7 +1,6 @@
 -- A jump that is taken where PCC reaches its target.
 use Rattle.quick.proofs.Targets.{go_turned}
 use Rattle.quick.proofs.Steady.{went_steady}
-use Rattle.std.proofs.Common.{rules}
 use Rattle.quick.proofs.jumps.take_go.Goals as goal
 
 pub returns : goal.returns

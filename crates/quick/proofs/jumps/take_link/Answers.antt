@@ -1,5 +1,5 @@
 -- Where PCC lands, the link is PCC after the jump; else nothing was done.
-use Rattle.std.proofs.Common.{arith, rules}
+use Rattle.std.proofs.Common.{arith}
 use Rattle.quick.proofs.Reach.{passed}
 use Rattle.quick.proofs.Targets.{landed, link_turned, link_left}
 use Rattle.quick.proofs.jumps.take_link.Goals as goal

@@ -1,5 +1,5 @@
 -- A capability that without its seal is PCC's word, and whose target PCC's row has, is where PCC goes on; any other is left.
-use Rattle.std.proofs.Common.{ℕ, ◌*◌, ◌/◌, sym, refl, ap, ◌∙◌, arith, rules}
+use Rattle.std.proofs.Common.{ℕ, ◌*◌, ◌/◌, sym, refl, ap, ◌∙◌, arith}
 use Rattle.quick.proofs.Reach.{passed, reached}
 use Rattle.quick.proofs.Targets.{register_turned, register_left}
 use Rattle.quick.proofs.jumps.take_register.Goals as goal

@@ -1,8 +1,5 @@
 -- One byte, LB's extended; a kind of more bytes is not asked.
 use Rattle.memory_instructions.specs.Access.{loaded_value}
-use Rattle.instructions.specs.declared.LoadKind.{LoadKind}
-use Rattle.operations.specs.Means.{OneByte}
-use Rattle.std.proofs.Common.{rules}
 use Rattle.quick.proofs.memory.byte_value.Goals as goal
 
 pub returns-in-Lb : goal.returns-in-Lb

@@ -1,5 +1,5 @@
 -- A byte is always aligned, a half where its remainder was compared; LW is refused and says nothing.
-use Rattle.std.proofs.Common.{sym, true≢false, arith, rules, eqb-true}
+use Rattle.std.proofs.Common.{sym, true≢false, arith, eqb-true}
 use Rattle.quick.proofs.memory.is_small_aligned.Goals as goal
 
 pub returns-in-Lb : goal.returns-in-Lb

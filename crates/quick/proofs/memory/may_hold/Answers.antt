@@ -1,7 +1,7 @@
 -- Three ways to pass, a law each: untagged, global under MC, local under MC and SL.
 use Rattle.quick.proofs.Accesses.{may_untagged, may_global, may_local}
 use Rattle.quick.proofs.Reach.{passed}
-use Rattle.std.proofs.Common.{sym, ◌∙◌, true≢false, rules}
+use Rattle.std.proofs.Common.{sym, ◌∙◌, true≢false}
 use Rattle.quick.proofs.memory.may_hold.Goals as goal
 
 pub returns-then-v-ne1 : goal.returns-then-v-ne1

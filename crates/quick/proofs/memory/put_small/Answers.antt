@@ -1,5 +1,4 @@
 -- An arm a kind: the store of one, two or four bytes is that kind's.
-use Rattle.std.proofs.Common.{rules}
 use Rattle.quick.proofs.memory.put_small.Goals as goal
 
 pub returns-in-Sb : goal.returns-in-Sb

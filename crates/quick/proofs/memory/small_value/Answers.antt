@@ -1,6 +1,5 @@
 -- Five kinds, each its load of bytes, LB and LH extended: the plain machine's value.
 use Rattle.memory_instructions.specs.Access.{loaded_value}
-use Rattle.std.proofs.Common.{rules}
 use Rattle.quick.proofs.memory.small_value.Goals as goal
 
 pub returns-in-Lb : goal.returns-in-Lb

@@ -1,5 +1,5 @@
 -- Out of reach nothing is done; else the byte at the place, by its kind, is written.
-use Rattle.std.proofs.Common.{sym, arith, rules}
+use Rattle.std.proofs.Common.{sym, arith}
 use Rattle.quick.proofs.Accesses.{load_stays, load_done, byte_width, byte_aligned}
 use Rattle.quick.proofs.Reach.{passed, right_load}
 use Rattle.quick.proofs.memory.take_byte.Goals as goal

@@ -1,7 +1,7 @@
 -- Misaligned or out of reach nothing is done; else what the plain step's checks let through is loaded, filtered and written.
 use Rattle.quick.proofs.Accesses.{load_capability_stays, load_capability_done}
 use Rattle.quick.proofs.Reach.{passed, right_load}
-use Rattle.std.proofs.Common.{arith, rules}
+use Rattle.std.proofs.Common.{arith}
 use Rattle.quick.proofs.memory.take_load_capability.Goals as goal
 
 pub returns-then-address-ne0 : goal.returns-then-address-ne0

@@ -1,7 +1,7 @@
 -- Misaligned or out of reach nothing is done; else one or two bytes at the place, by their kind, are written.
 use Rattle.quick.proofs.Accesses.{load_stays, load_done}
 use Rattle.quick.proofs.Reach.{passed, right_load}
-use Rattle.std.proofs.Common.{arith, rules}
+use Rattle.std.proofs.Common.{arith}
 use Rattle.quick.proofs.memory.take_small.Goals as goal
 
 pub returns-then-not-is_small_aligned : goal.returns-then-not-is_small_aligned

@@ -1,6 +1,6 @@
 -- Misaligned, not to be held or out of reach the store is left; else the plain store is done, the mark set, PCC goes on.
 use Rattle.quick.proofs.Onward.{long_marked}
-use Rattle.std.proofs.Common.{ℕ, List, length, ap, ◌∙◌, arith, rules}
+use Rattle.std.proofs.Common.{ℕ, List, length, ap, ◌∙◌, arith}
 use Rattle.quick.proofs.Accesses.{store_capability_stays, store_capability_done}
 use Rattle.quick.proofs.Reach.{passed, right_store}
 use Rattle.quick.proofs.memory.take_store_capability.Goals as goal

@@ -1,6 +1,6 @@
 -- Misaligned or out of reach the store is left with its width; else its bytes are put, the tag cleared, the mark set, then on.
 use Rattle.quick.proofs.Onward.{long_marked}
-use Rattle.std.proofs.Common.{ℕ, List, length, ap, ◌∙◌, arith, rules}
+use Rattle.std.proofs.Common.{ℕ, List, length, ap, ◌∙◌, arith}
 use Rattle.quick.proofs.Accesses.{store_stays, store_done}
 use Rattle.quick.proofs.Reach.{passed, right_store}
 use Rattle.quick.proofs.memory.take_store_small.Goals as goal

@@ -1,7 +1,7 @@
 -- As a small store with the width known to be 4: left, or four bytes put, the tag cleared, the mark set, then on.
 use Rattle.quick.proofs.Accesses.{store_stays, store_done}
 use Rattle.quick.proofs.Reach.{passed, right_store}
-use Rattle.std.proofs.Common.{refl, arith, rules}
+use Rattle.std.proofs.Common.{refl, arith}
 use Rattle.quick.proofs.memory.take_store_word.Goals as goal
 
 pub returns-then-address-ne0 : goal.returns-then-address-ne0

@@ -2,7 +2,7 @@
 use Rattle.memory_instructions.specs.Access.{loaded_value}
 use Rattle.quick.proofs.Accesses.{load_stays, load_done}
 use Rattle.quick.proofs.Reach.{passed, right_load}
-use Rattle.std.proofs.Common.{refl, arith, rules}
+use Rattle.std.proofs.Common.{refl, arith}
 use Rattle.quick.proofs.memory.take_word.Goals as goal
 
 pub returns-then-address-ne0 : goal.returns-then-address-ne0

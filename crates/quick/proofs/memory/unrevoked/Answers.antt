@@ -1,6 +1,6 @@
 -- What has no tag is kept either way; a tagged one by what the revocation test answered.
 use Rattle.quick.proofs.Accesses.{untagged_kept}
-use Rattle.std.proofs.Common.{sym, refl, ◌∙◌, rules}
+use Rattle.std.proofs.Common.{sym, refl, ◌∙◌}
 use Rattle.quick.proofs.memory.unrevoked.Goals as goal
 
 pub returns-then-v-eq0 : goal.returns-then-v-eq0

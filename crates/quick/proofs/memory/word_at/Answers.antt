@@ -1,5 +1,5 @@
 -- The code adds what the definition does.
-use Rattle.std.proofs.Common.{add-zero, arith, rules}
+use Rattle.std.proofs.Common.{add-zero, arith}
 use Rattle.words.specs.Words.{le_bytes}
 use Rattle.quick.proofs.memory.word_at.Goals as goal
 

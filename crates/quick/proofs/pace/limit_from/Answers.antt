@@ -1,5 +1,5 @@
 -- Without PCC's tag, or with the word 0, the limit 0 promises nothing; else k plus the quiet steps is just so many past k.
-use Rattle.std.proofs.Common.{◌≡◌, ℕ, ◌+◌, ◌-◌, List, arith, rules}
+use Rattle.std.proofs.Common.{◌≡◌, ℕ, ◌+◌, ◌-◌, List, arith}
 use Rattle.quick.specs.Entries.{Quiet}
 use Rattle.quick.proofs.pace.limit_from.Goals as goal
 

@@ -1,11 +1,7 @@
 -- Interrupts off, no step at all, or steps that do not pass compare: each way out is one case of Quiet.
-use Rattle.std.proofs.Common.{◌≡◌, ℕ, ◌+◌, ◌*◌, ◌^◌, ◌≤◌, List, get_or, sym, refl, ◌∙◌, inl, inr, arith, rules}
+use Rattle.std.proofs.Common.{◌≡◌, ℕ, ◌+◌, ◌*◌, ◌^◌, ◌≤◌, List, get_or, sym, refl, ◌∙◌, inl, inr, arith}
 use Rattle.state.specs.Layout.{time_index, compare_index}
 use Rattle.state.specs.Timer.{time_of, compare_of}
-use Rattle.quick.proofs.pace.quiet_steps.Reads as reads
-use Rattle.quick.proofs.pace.quiet_steps.Lts as lts
-use Rattle.quick.proofs.pace.long_of.Reads as long-of-reads
-use Rattle.state.proofs.mie_of.Reads as mie-of-reads
 use Rattle.quick.proofs.pace.quiet_steps.Goals as goal
 
 -- steps that end before compare, by the two numbers

@@ -1,5 +1,5 @@
 -- PCC's word, and the next time by the low word's carry.
-use Rattle.std.proofs.Common.{◌+◌, sym, ◌∙◌, arith, length-set, rules}
+use Rattle.std.proofs.Common.{◌+◌, sym, ◌∙◌, arith, length-set}
 use Rattle.state.specs.Layout.{time_index}
 use Rattle.quick.proofs.Onward.{wraps_largest, wraps_below, ticked_carry, ticked_low}
 use Rattle.quick.proofs.registers.go_on.Goals as goal

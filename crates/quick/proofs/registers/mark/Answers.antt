@@ -1,5 +1,5 @@
 -- The definition's two tests, each decided by the branch taken.
-use Rattle.std.proofs.Common.{rules, le-ltb, lt-ltb, le-leb}
+use Rattle.std.proofs.Common.{le-ltb, lt-ltb, le-leb}
 use borrow.Author.Tests.{lt-leb}
 use Rattle.state.specs.Marks.{below_mark, marked}
 use Rattle.quick.proofs.registers.mark.Goals as goal

@@ -1,5 +1,5 @@
 -- Both arms meet in the written register file; then on.
-use Rattle.std.proofs.Common.{◌≡◌, refl, ◌∙◌, ⊎_elim, arith, length-set, rules, eq-eqb, ne_eqb}
+use Rattle.std.proofs.Common.{◌≡◌, refl, ◌∙◌, arith, length-set, eq-eqb, ne_eqb}
 use Rattle.quick.specs.Turns.{written_at}
 use Rattle.quick.proofs.Onward.{long_on, long_written}
 use Rattle.quick.proofs.registers.write.Goals as goal

@@ -1,5 +1,5 @@
 -- The place is not c0's: its three words are written; then on.
-use Rattle.std.proofs.Common.{ℕ, ◌+◌, List, set, refl, ◌∙◌, arith, length-set, rules, ne_eqb}
+use Rattle.std.proofs.Common.{ℕ, ◌+◌, List, set, refl, ◌∙◌, arith, length-set, ne_eqb}
 use Rattle.quick.proofs.Onward.{long_on}
 use Rattle.quick.proofs.registers.write_some.Goals as goal
 

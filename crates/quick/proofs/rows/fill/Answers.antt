@@ -1,7 +1,7 @@
 -- Every refusal leaves the rows; a row written past all of them has the bounds read, cut to memory, and is good.
 use Rattle.quick.proofs.Reach.{passed, row_filled, good_put}
 use Rattle.bounds.specs.declared.Region.{Region}
-use Rattle.std.proofs.Common.{sym, ap, ◌∙◌, arith, rules}
+use Rattle.std.proofs.Common.{sym, ap, ◌∙◌, arith}
 use Rattle.quick.proofs.rows.fill.Goals as goal
 
 pub returns : goal.returns

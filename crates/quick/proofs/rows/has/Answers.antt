@@ -1,5 +1,5 @@
 -- The tag, and what the row says.
-use Rattle.std.proofs.Common.{sym, true≢false, rules}
+use Rattle.std.proofs.Common.{sym, true≢false}
 use Rattle.quick.proofs.rows.has.Goals as goal
 
 pub returns-then-c-ne1 : goal.returns-then-c-ne1

@@ -1,5 +1,5 @@
 -- Four refusals say nothing; past them the row's word and range are as compared.
-use Rattle.std.proofs.Common.{sym, true≢false, rules}
+use Rattle.std.proofs.Common.{sym, true≢false}
 use Rattle.quick.proofs.rows.in_row.Goals as goal
 
 pub returns-then-rows-i : goal.returns-then-rows-i

@@ -1,6 +1,6 @@
 -- What a row has is reached; what it has not is filled in.
 use Rattle.quick.proofs.Reach.{reached}
-use Rattle.std.proofs.Common.{sym, true≢false, arith, rules}
+use Rattle.std.proofs.Common.{sym, true≢false, arith}
 use Rattle.quick.proofs.rows.reaches.Goals as goal
 
 pub returns-then-has : goal.returns-then-has

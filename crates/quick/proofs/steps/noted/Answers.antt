@@ -1,5 +1,5 @@
 -- No width notes nothing; else the record is touched at the wrapped address.
-use Rattle.std.proofs.Common.{ℕ, refl, ap, ◌∙◌, rules, eq-eqb, ne_eqb}
+use Rattle.std.proofs.Common.{ℕ, refl, ap, ◌∙◌, eq-eqb, ne_eqb}
 use Rattle.watch.specs.Watch.{touched_at}
 use Rattle.quick.proofs.steps.noted.Goals as goal
 

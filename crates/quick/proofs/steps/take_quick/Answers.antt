@@ -1,17 +1,15 @@
 -- The loop keeps `Running`; each way round is one law of Turning. A turn that only finds an entry makes no step and is made once (`missed`).
 -- What is known at a need is a chain, the last fact first: `c8` is eight before `c`, `c16` eight before that.
-use Rattle.std.proofs.Common.{◌≡◌, ℕ, ◌+◌, ◌-◌, ◌*◌, ◌<◌, ◌≤◌, List, length, get_or, replicate, sym, refl, ap, ◌∙◌, arith, rules}
+use Rattle.std.proofs.Common.{◌≡◌, ℕ, ◌+◌, ◌-◌, ◌<◌, List, length, get_or, replicate, sym, refl, ap, ◌∙◌, arith}
 use lib.ListN.{length-replicate}
 use Rattle.capability.specs.declared.Capability.{Capability}
 use Rattle.state.specs.Layout.{compare_index}
-use Rattle.state.specs.Lent.{state}
 use Rattle.operations.specs.declared.Operation.{Operation}
 use Rattle.operations.specs.declared.Operation.TheVariants.{Plain}
-use Rattle.machine.specs.Run.{ran, iterate}
+use Rattle.machine.specs.Run.{iterate}
 use Rattle.machine.specs.Watching.{watched_by}
 use Rattle.quick.specs.Turns.{held_at}
 use Rattle.quick.specs.Entries.{entries}
-use Rattle.quick.specs.Running.{Running}
 use Rattle.quick.proofs.Forget.{entries_none}
 use Rattle.quick.proofs.Reach.{good_empty}
 use Rattle.quick.proofs.Turning as laws

@@ -4,7 +4,6 @@ use Rattle.quick.proofs.Arms.{told, told_op, placed_as, by_plain, by_put, by_add
 use Rattle.quick.proofs.Arms.{by_jump_link, by_jump_register}
 use Rattle.quick.proofs.Arms.{by_branch, by_load_word, by_load, by_load_byte, by_store_word, by_store, by_load_capability, by_store_capability}
 use Rattle.quick.proofs.Arms.{by_increment, by_cut, by_copy, by_set_address, by_increment_by, by_address}
-use Rattle.std.proofs.Common.{ap, ◌∙◌, rules}
 use Rattle.quick.proofs.turn.turn.Goals as goal
 
 pub put-requires : goal.put-requires
