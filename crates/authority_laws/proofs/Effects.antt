@@ -3,7 +3,7 @@
 use mathlib.Core.Path.{◌≡◌, refl}
 use mathlib.Core.Bool.{Bool, not}
 use mathlib.Core.List.{List}
-use Prim.Native.Nat.{ℕ, ◌+◌, ◌%◌}
+use Prim.Native.Nat.{ℕ, ◌%◌}
 use native.Mathlib.Omega.{arith}
 use lib.Dec.{eqb}
 use lib.ListN.{length}
@@ -24,7 +24,6 @@ use Rattle.instructions.specs.declared.CapabilityInstruction.TheVariants as Capa
 use Rattle.instructions.specs.declared.SystemInstruction.{SystemInstruction}
 use Rattle.instructions.specs.declared.SystemInstruction.TheVariants as System
 use Rattle.instructions.specs.declared.Instruction.{Instruction}
-use Rattle.instructions.specs.declared.Instruction.TheVariants as Instruction
 use Rattle.state.specs.Layout.{general_count, pcc_index, mepcc_index, scr_index}
 use Rattle.state.specs.Registers.{capability_at, register_at, integer_at, pcc_of, mstatus_of}
 use Rattle.state.specs.Addresses.{target_alignment, vector_alignment, return_alignment}

@@ -1,17 +1,17 @@
 -- No operation but the sealing of a link makes a return sentry: what another gives is one only where it was made of one. A law for each operation.
 -- Assumes nothing.
 use mathlib.Core.Path.{◌≡◌, refl, sym}
-use mathlib.Core.Bool.{Bool, true, false, cond, not, ◌&&◌, ◌||◌, true≢false}
+use mathlib.Core.Bool.{Bool, true, false, not, ◌&&◌, ◌||◌, true≢false}
 use Prim.Native.Nat.{ℕ, ◌%◌, ◌^◌, ◌≤◌, ◌<◌}
 use native.Mathlib.Omega.{arith}
-use lib.Dec.{eqb, leb}
+use lib.Dec.{leb}
 use borrow.Author.Tests.{eq-eqb}
-use Rattle.metadata.specs.Word.{type_of, with_type}
+use Rattle.metadata.specs.Word.{type_of}
 use Rattle.metadata.specs.Rights.{EX, SE, GL, LG, SD, LM, MC, Has, word_rights, narrow_word}
 use Rattle.metadata.proofs.Words.{type_of_type, permissions_of_type}
 use Rattle.metadata.proofs.Narrowed.{type_of_narrow, narrow_inside}
 use Rattle.bounds.proofs.Limits.{type_of_cut, permissions_of_cut}
-use Rattle.capability.specs.Capability.{capability, rights, grants, tagged, sealed, unsealed, covers, keep_tag_if, move_of}
+use Rattle.capability.specs.Capability.{rights, grants, tagged, sealed, keep_tag_if, move_of}
 use Rattle.capability.specs.Capability.{set_bounds_of, set_bounds_exact_of, narrow_of}
 use Rattle.capability.specs.Sealing.{sentry, sentry_enabling, first_code_type, last_code_type, permitted_type, authorizes, with_object_type, seal_of, unseal_of}
 use Rattle.capability.specs.Loading.{loses_if, without, lose_global, lose_mutable, lose_tag, loaded_of}

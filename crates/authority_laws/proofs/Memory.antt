@@ -1,6 +1,6 @@
 -- A closed property of each capability of memory holds of each after an effect whose capabilities have it. Assumes nothing.
 use mathlib.Core.Path.{◌≡◌}
-use Prim.Native.Nat.{ℕ, ◌+◌, ◌*◌, ◌/◌, ◌%◌, ◌≤◌}
+use Prim.Native.Nat.{ℕ, ◌+◌, ◌/◌, ◌%◌, ◌≤◌}
 use native.Mathlib.Omega.{arith}
 use lib.Dec.{eqb}
 use lib.ListN.{length}
@@ -12,7 +12,7 @@ use Rattle.capability.specs.Capability.{Good}
 use Rattle.capability.specs.declared.Capability.{Capability}
 use Rattle.state.specs.Lent.{State}
 use Rattle.state.specs.Memory.{capability_in, granule_bytes}
-use Rattle.state.specs.Effects.{Stored, nothing, bytes, whole, OneGranule, Within}
+use Rattle.state.specs.Effects.{Stored, nothing, bytes, whole, Within}
 use Rattle.commit.specs.Touched.{OnlyAt, Bytes, MemoryAfter}
 use Rattle.commit.proofs.Views.{EachStored}
 use Rattle.authority_laws.proofs.Closed.{Carried, Granules}

@@ -1,6 +1,6 @@
 -- A step that meets no jump, an interrupt and a failed fetch among them, makes no return sentry: where none stands in registers and memory, none stands there
 -- after it. Assumes nothing.
-use mathlib.Core.Path.{◌≡◌, refl}
+use mathlib.Core.Path.{refl}
 use mathlib.Core.List.{List}
 use Prim.Native.Nat.{ℕ, ◌*◌}
 use native.Mathlib.Omega.{arith}
@@ -17,7 +17,7 @@ use Rattle.execution.specs.Step.{instruction_in, word_in, length_in, trap_or, ef
 use Rattle.machine_laws.specs.Editions.{NoJump}
 use Rattle.machine_laws.specs.Fits.{InType}
 use Rattle.machine_laws.specs.Lent.{GoodState}
-use Rattle.authority_laws.specs.Gain.{Stands, in_register, in_granule}
+use Rattle.authority_laws.specs.Gain.{in_register, in_granule}
 use Rattle.authority_laws.specs.Returns.{ReturnSentry, NoReturns}
 use Rattle.authority_laws.proofs.Closed.{Carried, Everywhere}
 use Rattle.authority_laws.proofs.Effects.{other_carried}

@@ -24,7 +24,7 @@ use Rattle.commit.specs.Commit.{apply_effect}
 use Rattle.commit.proofs.Views.{each_stored}
 use Rattle.execution.specs.Step.{seen, effect_at, step_of, length_in, fetched_in}
 use Rattle.machine.specs.Refusals.{refusal_of}
-use Rattle.machine.specs.Run.{step_refusal, step_after, Ran, ran, one_more, iterate, ran_from, run_after}
+use Rattle.machine.specs.Run.{step_refusal, step_after, Ran, ran, one_more, iterate, run_after}
 use Rattle.machine.specs.Watching.{WatchPromise}
 use Rattle.machine.specs.declared.RunAnswer.{RunAnswer}
 use Rattle.watch.specs.declared.Watch.{Watch}

@@ -2,12 +2,12 @@
 -- And what it does not: who may unseal, and what a load loses. Assumes nothing.
 use mathlib.Core.Path.{◌≡◌, refl}
 use mathlib.Core.Bool.{true}
-use Prim.Native.Nat.{ℕ, ◌≤◌, ◌*◌}
+use Prim.Native.Nat.{ℕ, ◌≤◌}
 use native.Mathlib.Omega.{arith}
 use lib.Dec.{T, leb, ltb, leb→le, ltb→lt}
 use Rattle.words.specs.Words.{le_bytes, set_bytes, bit_at}
 use Rattle.metadata.specs.Word.{scale_of, top_of, base_of, with_type}
-use Rattle.bounds.specs.Bounds.{exponent_of, low_of, high_of, low_at, high_at}
+use Rattle.bounds.specs.Bounds.{exponent_of, high_of, high_at}
 use Rattle.capability.specs.Capability.{capability, high, tagged}
 use Rattle.capability.specs.Sealing.{with_object_type}
 use Rattle.capability.specs.declared.Capability.{Capability}

@@ -1,5 +1,4 @@
 -- Whether a state can start is a computed test of what stands in it and of its elements. Assumes nothing.
-use mathlib.Core.Path.{◌≡◌}
 use mathlib.Core.Bool.{Bool, not, ◌&&◌, ◌||◌}
 use mathlib.Core.List.{List, [], ◌∷◌}
 use Prim.Native.Nat.{ℕ, zero, suc, ◌*◌, ◌/◌, ◌^◌, ◌<◌}
@@ -13,8 +12,6 @@ use Rattle.state.specs.Layout.{capability_count}
 use Rattle.state.specs.Registers.{capability_at}
 use Rattle.state.specs.Lent.{State}
 use Rattle.state.specs.Memory.{capability_in, granule_bytes}
-use Rattle.machine_laws.specs.Fits.{InType}
-use Rattle.machine_laws.specs.Lent.{Sound}
 use Rattle.authority_laws.specs.Gain.{Stands, in_register, in_granule, Held, SoundState, Start}
 
 -- each capability of the register file passes, and each of memory

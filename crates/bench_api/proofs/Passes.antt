@@ -12,7 +12,7 @@ use Rattle.sweep.specs.declared.SweepAnswer.{SweepAnswer}
 use Rattle.sweep.specs.declared.SweepAnswer.TheVariants.{Next, Last, Refused}
 use Rattle.sweep.proofs.Laws.{refused_number, next_small, visit_promised}
 use Rattle.sweep.proofs.Pass.{pass_claim}
-use Rattle.bench_api.specs.Packing.{packed_visit, VisitPacked}
+use Rattle.bench_api.specs.Packing.{packed_visit}
 use Rattle.bench_api.specs.Passes.{PackedVisits, PackedClaim}
 use Rattle.bench_api.specs.Passes as Packed
 

@@ -4,11 +4,10 @@
 use mathlib.Core.Path.{◌≡◌, refl, sym, ap, ◌∙◌}
 use mathlib.Core.Bool.{Bool, true, false, cond}
 use mathlib.Core.List.{List, ◌∷◌, []}
-use Prim.Native.Nat.{ℕ, ◌+◌, ◌*◌, ◌/◌, ◌%◌, ◌^◌, ◌≤◌, ◌<◌}
+use Prim.Native.Nat.{ℕ, ◌+◌, ◌/◌, ◌%◌, ◌^◌, ◌≤◌, ◌<◌}
 use native.Mathlib.Omega.{arith}
 use lib.Dec.{eqb}
-use borrow.Author.Tests.{eqb-true, eqb-false}
-use Rattle.words.proofs.Word.{by_test}
+use borrow.Author.Tests.{eqb-true}
 use Rattle.watch.specs.declared.Watch.{Watch}
 use Rattle.instructions.specs.declared.Csr.TheVariants.{Mcause, Mtval}
 use Rattle.state.specs.Lent.{State}
@@ -17,13 +16,12 @@ use Rattle.state.specs.Timer.{time_of}
 use Rattle.state.specs.declared.Board.{Board}
 use Rattle.commit.specs.Commit.{retires}
 use Rattle.execution.specs.Step.{effect_at}
-use Rattle.machine.specs.Refusals.{refusal_of, most_steps}
+use Rattle.machine.specs.Refusals.{refusal_of}
 use Rattle.machine.specs.Run.{step_refusal, step_answer, StepPromise, run_answer, RunPromise, retired_of, trapped_of, retired_by, trapped_by}
 use Rattle.machine.specs.Run.{step_number, step_retired, step_trapped, run_number, run_retired, run_trapped, ran_from}
 use Rattle.machine.specs.Watching.{WatchPromise}
 use Rattle.machine.specs.declared.StepAnswer.TheVariants.{Retired, Trapped, Refused}
 use Rattle.machine.specs.declared.RunAnswer.{RunAnswer}
-use Rattle.machine.specs.declared.RunAnswer.TheVariants as RunAnswer
 use Rattle.machine.proofs.Laws.{step_small, run_small}
 use Rattle.machine_laws.specs.Cases.{Case, board_in, before, top_of_memory, untagged_load, environment_call}
 use Rattle.machine_laws.proofs.Worked.{top_worked}

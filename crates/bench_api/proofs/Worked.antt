@@ -1,6 +1,5 @@
 -- The worked run with a watch record: the step is computed from the definitions. Assumes nothing.
 use mathlib.Core.Path.{◌≡◌, refl}
-use Prim.Native.Nat.{ℕ}
 use Rattle.words.specs.Words.{sign_extend, le_bytes, set_bytes}
 use Rattle.metadata.specs.Word.{permissions_of, type_of, scale_of, top_of, base_of}
 use Rattle.metadata.specs.Rights.{rights_of}

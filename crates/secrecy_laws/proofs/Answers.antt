@@ -3,13 +3,13 @@
 use mathlib.Core.Path.{◌≡◌, refl, sym, ◌∙◌}
 use mathlib.Core.Bool.{Bool, true, false, not, true≢false}
 use mathlib.Core.List.{List}
-use Prim.Native.Nat.{ℕ, ◌+◌, ◌-◌, ◌*◌, ◌/◌, ◌%◌, ◌^◌, ◌≤◌, ◌<◌}
+use Prim.Native.Nat.{ℕ, ◌+◌, ◌-◌, ◌*◌, ◌/◌, ◌%◌, ◌^◌, ◌<◌}
 use native.Mathlib.Omega.{arith}
 use lib.Dec.{eqb, leb, ltb}
 use lib.ListN.{length}
 use borrow.Author.Tests.{eqb-true, eqb-false, leb-true, ltb-true, ltb-false, le-leb, lt-leb, not-true}
 use Rattle.words.proofs.Word.{by_test}
-use Rattle.metadata.specs.Rights.{SD, LD, Has}
+use Rattle.metadata.specs.Rights.{SD, LD}
 use Rattle.capability.specs.declared.Capability.{Capability}
 use Rattle.capability_laws.proofs.Tests.{both_true}
 use Rattle.state.specs.Layout.{capability_count}

@@ -6,7 +6,6 @@ use Prim.Native.Nat.{ℕ, zero, suc, ◌+◌, ◌*◌, ◌/◌, ◌<◌}
 use native.Mathlib.Omega.{arith}
 use lib.Dec.{eqb}
 use borrow.Author.Tests.{eqb-true}
-use Rattle.metadata.specs.Rights.{SD}
 use Rattle.state.specs.Registers.{capability_at}
 use Rattle.state.specs.Lent.{State}
 use Rattle.state.specs.Memory.{granule_bytes}

@@ -1,6 +1,5 @@
 -- The answer is packed from the number and counts that the machine promises; the record's counts are those that it leaves in the lent numbers.
 use Rattle.machine.proofs.Laws as laws
-use borrow.Author.Rules.{rules}
 use Rattle.bench_api.proofs.oddersnow_run_quick.Goals as goal
 
 pub pack-requires : goal.pack-requires

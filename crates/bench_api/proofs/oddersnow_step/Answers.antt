@@ -1,6 +1,5 @@
 -- The answer is packed from the number and counts that the machine promises.
 use Rattle.machine.proofs.Laws as laws
-use borrow.Author.Rules.{rules}
 use Rattle.bench_api.proofs.oddersnow_step.Goals as goal
 
 pub pack-requires : goal.pack-requires

@@ -3,7 +3,6 @@ use mathlib.Core.Path.{ap, ◌∙◌}
 use native.Mathlib.Omega.{arith}
 use Rattle.sweep.proofs.Laws as laws
 use Rattle.bench_api.specs.Packing.{packed_visit}
-use borrow.Author.Rules.{rules}
 use Rattle.bench_api.proofs.oddersnow_sweep.Goals as goal
 
 pub pack_visit-requires : goal.pack_visit-requires

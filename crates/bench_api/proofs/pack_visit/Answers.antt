@@ -1,6 +1,5 @@
 -- A refusal's number is small, so it fits its place.
 use native.Mathlib.Omega.{arith}
-use borrow.Author.Rules.{rules}
 use Rattle.bench_api.proofs.pack_visit.Goals as goal
 
 pub overflow_mul-result : goal.overflow_mul-result

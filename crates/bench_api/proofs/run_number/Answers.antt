@@ -1,5 +1,4 @@
 -- A run that ran has number 0, and a refusal its own: the answer's case says which.
-use borrow.Author.Rules.{rules}
 use Rattle.bench_api.proofs.run_number.Goals as goal
 
 pub returns-in-Ran : goal.returns-in-Ran

@@ -1,5 +1,4 @@
 -- Of the three answers the first alone counts 1: each is the definition's clause.
-use borrow.Author.Rules.{rules}
 use Rattle.bench_api.proofs.step_retired.Goals as goal
 
 pub returns-in-Retired : goal.returns-in-Retired
