@@ -161,7 +161,7 @@ well_read n line = shape_read (start_of n) line ∙ rw zero-add at (shape_first 
 apart : (x v a b : ℕ) → x ≡ v % 2 ^ 64 → v ≡ a * 2 ^ 32 + b → a < 2 ^ 32 → b < 2 ^ 32 → (x / 2 ^ 32 ≡ a) × (x % 2 ^ 32 ≡ b)
 apart x v a b h e f g = omega arith
 
--- both fields of a well_formed line out of the value
+-- both fields of a well-formed line out of the value
 pub fields_read : (n : ℕ) (line : List ℕ) → well_formed line ≡ true
     → ((read_line (start_of n) line).value / 2 ^ 32 ≡ number_of (take 8 line)) × ((read_line (start_of n) line).value % 2 ^ 32 ≡ number_of (drop 9 line))
 unfolding well_formed

@@ -25,11 +25,11 @@ refused_text = 98 ∷ 97 ∷ 100 ∷ tab ∷ 54 ∷ newline ∷ []
 abbrev pub bad_text : List ℕ
 bad_text = 98 ∷ 97 ∷ 100 ∷ tab ∷ 108 ∷ 105 ∷ 110 ∷ 101 ∷ newline ∷ []
 
--- a well_formed line: eight digits, a tab, eight digits
+-- a well-formed line: eight digits, a tab, eight digits
 unfoldable pub well_formed : (line : List ℕ) → Bool
 well_formed l = length l == 17 && (all_digits (take 8 l) && (slice_index l 8 == tab && all_digits (drop 9 l)))
 
--- the cut that a well_formed line asks for
+-- the cut that a well-formed line asks for
 unfoldable pub requested : (line : List ℕ) → CutAnswer
 requested l = cut_of (number_of (take 8 l)) (number_of (drop 9 l))
 
@@ -41,7 +41,7 @@ unfoldable pub cut_text : CutAnswer → List ℕ
 cut_text (Cut r exact) = region_text r exact
 cut_text PastEnd = refused_text
 
--- what is written for line n, well_formed or not
+-- what is written for line n, well-formed or not
 unfoldable pub line_text : (n : ℕ) (line : List ℕ) → List ℕ
 line_text n l = decimal n ++ (tab ∷ cond (well_formed l) (cut_text (requested l)) bad_text)
 

@@ -21,7 +21,7 @@ expected p b = cond (p == 8) (b == tab) (is_digit b && nat_lt p 17)
 unfoldable pub value_with : (place value byte : ℕ) → ℕ
 value_with p v b = cond (p == 8) v ((v * 2 ^ 4) % 2 ^ 64 + digit_of b)
 
--- one more byte of a line that may yet be well_formed, and a line that is ill-formed whatever follows
+-- one more byte of a line that may yet be well-formed, and a line that is ill-formed whatever follows
 abbrev pub accepted : (s : Scan) (byte : ℕ) → Scan
 accepted s b = record { number = s.number; place = s.place + 1; value = value_with s.place s.value b }
 

@@ -19,13 +19,13 @@ use text::put_bytes;
 // The bytes of the longest line that is ever written, and the room that a writer asks for.
 pub(crate) const LONGEST: usize = 44;
 
-// The bytes of a well_formed line: two fields of eight digits, and a tab.
+// The bytes of a well-formed line: two fields of eight digits, and a tab.
 pub(crate) const LINE: u32 = 17;
 
 // The tab's place in it.
 pub(crate) const TAB_PLACE: u32 = 8;
 
-// The place that stands for a line that cannot be well_formed any more.
+// The place that stands for a line that cannot be well-formed any more.
 pub(crate) const SPOILED: u32 = 18;
 
 // The state between two bytes of the input.
@@ -33,7 +33,7 @@ pub(crate) const SPOILED: u32 = 18;
 pub struct Scan {
     // the number of the line that is being read
     pub number: u64,
-    // how many bytes of the line were read while it may yet be well_formed, or SPOILED
+    // how many bytes of the line were read while it may yet be well-formed, or SPOILED
     pub place: u32,
     // the number that the digits read so far write, of both fields in a row
     pub value: u64,
