@@ -1,6 +1,6 @@
 -- One turn of each loop over a list of calls: what is done and what is left from here make up the whole. Assumes nothing.
 use mathlib.Core.Path.{◌≡◌, refl, sym, ap, ◌∙◌}
-use mathlib.Core.Bool.{Bool, true, false, cond, ◌&&◌}
+use mathlib.Core.Bool.{Bool, true, false, false≢true, cond, ◌&&◌}
 use mathlib.Core.List.{List, [], ◌∷◌, ◌++◌, append_assoc, append-nil}
 use Prim.Native.Nat.{ℕ, suc, ◌+◌, ◌*◌, ◌/◌, ◌%◌, ◌^◌, ◌≤◌, ◌<◌}
 use native.Mathlib.Numerals.{add-one}
@@ -9,6 +9,7 @@ use borrow.Author.Tests.{eqb-true, eqb-false, eq-eqb}
 use lib.Dec.{eqb}
 use lib.ListN.{length, get_or, take, drop, set, length-set, drop_of_length-le}
 use lib.Seq.{drop-cons, take-suc-set, take_all}
+use Rattle.std.proofs.lemmas.List.Folds.{list_all_at}
 use Rattle.capability_laws.proofs.Tests.{both_equal}
 use Rattle.capability.specs.declared.Capability.{Capability}
 use Rattle.call_lists.specs.declared.Call.{Call}
@@ -43,13 +44,14 @@ sizes_fit_lem k v o h = (both_equal v k o (3 * k)).0 h
 
 -- ---- the check of the kinds
 
-pub known_turn : (ks : List ℕ) (i : ℕ) → i < length ks → all_known (drop i ks) ≡ (is_known (get_or ks i 0) && all_known (drop (i + 1) ks))
+-- where all are known each is: one that is not would make the whole test fail
+pub known_at : (ks : List ℕ) (i : ℕ) → all_known ks ≡ true → i < length ks → is_known (get_or ks i 0) ≡ true
 unfolding all_known
-known_turn ks i h = rw (add-one, drop-cons ks i 0 h)
-
-pub known_end : (ks : List ℕ) (i : ℕ) → length ks ≤ i → all_known (drop i ks) ≡ true
-unfolding all_known
-known_end ks i h = rw (drop_of_length-le ks h)
+known_at ks i a h = go (is_known (get_or ks i 0)) refl
+  where
+    go : (t : Bool) → is_known (get_or ks i 0) ≡ t → is_known (get_or ks i 0) ≡ true
+    go true e = e
+    go false e = absurd (false≢true (sym (list_all_at is_known ks i 0 h e) ∙ a))
 
 -- ---- the calls
 

@@ -1,13 +1,14 @@
 -- A list of calls as it is lent, the answer to it, and the words that it leaves. Document 01, "Lists of cuts, moves and narrowings".
 -- Assumes nothing.
-use Rattle.std.specs.Prelude.{Bool, true, cond, not, ◌&&◌, List, [], ◌∷◌, ◌≡◌, ℕ, ◌+◌, ◌*◌, eqb, ltb, length, set}
+use Rattle.std.specs.Prelude.{Bool, true, cond, not, ◌&&◌, List, [], ◌∷◌, ◌≡◌, ℕ, ◌+◌, ◌*◌, eqb, ltb, length, set, Result, Ok, Err}
+use Rattle.std.specs.List.{list_all}
 use Rattle.capability.specs.Capability.{integer}
 use Rattle.capability.specs.declared.Capability.{Capability}
 use Rattle.capability_laws.specs.Authority.{Authority}
 use Rattle.call_lists.specs.declared.Call.{Call}
 use Rattle.call_lists.specs.declared.Call.TheVariants.{Cut, ExactCut, Move, Narrow}
-use Rattle.call_lists.specs.declared.Answer.{Answer}
-use Rattle.call_lists.specs.declared.Answer.TheVariants.{Ran, BadTag, WrongSize, UnknownKind}
+use Rattle.call_lists.specs.declared.ListError.{ListError}
+use Rattle.call_lists.specs.declared.ListError.TheVariants.{BadTag, WrongSize, UnknownKind}
 use Rattle.call_lists.specs.Calls.{run, trace, last_of, ListClaim}
 
 -- the kinds: 0 a cut, 1 an exact cut, 2 a move, 3 a narrowing
@@ -18,8 +19,7 @@ unfoldable pub call_of : (kind value : ℕ) → Call
 call_of k v = cond (eqb k 0) (Cut v) (cond (eqb k 1) (ExactCut v) (cond (eqb k 2) (Move v) (Narrow v)))
 
 unfoldable pub all_known : (kinds : List ℕ) → Bool
-all_known [] = true
-all_known (k ∷ ks) = is_known k && all_known ks
+all_known ks = list_all is_known ks
 
 -- the calls of equally many kinds and values
 unfoldable pub calls_of : (kinds values : List ℕ) → List Call
@@ -54,37 +54,35 @@ list_refusal c ks vs out =
     (cond (not (all_known ks)) 12
     0))
 
-unfoldable pub answer_of : Capability → (kinds values out : List ℕ) → Answer
+unfoldable pub answer_of : Capability → (kinds values out : List ℕ) → Result Capability ListError
 answer_of c ks vs out =
-    cond (ltb 1 c.tag) BadTag
-    (cond (not (sizes_fit (length ks) (length vs) (length out))) WrongSize
-    (cond (not (all_known ks)) UnknownKind
-    (Ran (run (calls_of ks vs) c))))
+    cond (ltb 1 c.tag) (Err BadTag)
+    (cond (not (sizes_fit (length ks) (length vs) (length out))) (Err WrongSize)
+    (cond (not (all_known ks)) (Err UnknownKind)
+    (Ok (run (calls_of ks vs) c))))
 
 -- an answer's number, and its capability: the last one, or where refused none, for which NULL stands
-abbrev pub answer_number : Answer → ℕ
-answer_number (Ran c) = 0
-answer_number BadTag = 4
-answer_number WrongSize = 11
-answer_number UnknownKind = 12
+abbrev pub answer_number : Result Capability ListError → ℕ
+answer_number (Ok c) = 0
+answer_number (Err BadTag) = 4
+answer_number (Err WrongSize) = 11
+answer_number (Err UnknownKind) = 12
 
-abbrev pub answer_last : Answer → Capability
-answer_last (Ran c) = c
-answer_last BadTag = integer 0
-answer_last WrongSize = integer 0
-answer_last UnknownKind = integer 0
+abbrev pub answer_last : Result Capability ListError → Capability
+answer_last (Ok c) = c
+answer_last (Err e) = integer 0
 
 -- what the lent words are afterwards: every capability returned, or as they were
 unfoldable pub out_of : Capability → (kinds values out : List ℕ) → List ℕ
 out_of c ks vs out = cond (eqb (list_refusal c ks vs out) 0) (words_of (trace (calls_of ks vs) c)) out
 
 -- what is promised of a list from c: the answer with its number and its capability, the words left, and demand 3 of the whole list where it was run
-pub record Listed (c : Capability) (kinds values before after : List ℕ) (answer : Answer) : Type 0 where
+pub record Listed (c : Capability) (kinds values before after : List ℕ) (answer : Result Capability ListError) : Type 0 where
   pub answer_is : answer ≡ answer_of c kinds values before
   pub number_is : answer_number answer ≡ list_refusal c kinds values before
   pub last_is : answer_last answer ≡ cond (eqb (list_refusal c kinds values before) 0) (last_of c (trace (calls_of kinds values) c)) (integer 0)
   pub words_are : after ≡ out_of c kinds values before
-  pub claim : (last : Capability) → answer ≡ Ran last → Authority c → ListClaim (calls_of kinds values) c last
+  pub claim : (last : Capability) → answer ≡ Ok last → Authority c → ListClaim (calls_of kinds values) c last
 
 -- The same with the answer as a number. `claim` is about the definitions alone: the last capability is `last_of` of `trace`, or c where there was no call.
 -- `words_are` ties it to the program: the words left are those of `trace`.

@@ -1,10 +1,20 @@
 // One call on a capability, and the call that a kind and a value stand for.
-ghost use Rattle.std.specs.Prelude.{◌≡◌};
+ghost use Rattle.std.specs.Prelude.{◌≡◌, if◌then◌else◌, Ok, Err};
 ghost use Rattle.call_lists.specs.Calls.{make_call};
-ghost use Rattle.call_lists.specs.Lists.{call_of};
+ghost use Rattle.call_lists.specs.Lists.{call_of, is_known};
+ghost use Rattle.call_lists.specs.declared.ListError.TheVariants.{UnknownKind};
 
-use crate::{CUT, Call, EXACT_CUT, MOVE};
+use crate::{Call, ListError};
 use capability::Capability;
+
+// The kinds, as they are lent.
+const CUT: u32 = 0;
+
+const EXACT_CUT: u32 = 1;
+
+const MOVE: u32 = 2;
+
+const NARROWING: u32 = 3;
 
 // One call of document 01, "Lists of cuts, moves and narrowings".
 pub fn make_call(c: Capability, call: Call) -> Capability
@@ -18,14 +28,20 @@ pub fn make_call(c: Capability, call: Call) -> Capability
     }
 }
 
-// The fourth kind is a narrowing; every other is refused before it comes here.
-pub(crate) fn call_of(kind: u32, value: u32) -> Call
-    ensures { result ≡ call_of kind value }
-{
-    match kind {
-        CUT => Call::Cut(value),
-        EXACT_CUT => Call::ExactCut(value),
-        MOVE => Call::Move(value),
-        _ => Call::Narrow(value),
+// From a kind and a value.
+impl TryFrom<(u32, u32)> for Call {
+    type Error = ListError;
+
+    ghost try_from_gives = { λ lent call. call ≡ (if is_known lent.0 then Ok (call_of lent.0 lent.1) else Err UnknownKind) };
+
+    fn try_from(lent: (u32, u32)) -> Result<Call, ListError> {
+        let (kind, value) = lent;
+        match kind {
+            CUT => Ok(Call::Cut(value)),
+            EXACT_CUT => Ok(Call::ExactCut(value)),
+            MOVE => Ok(Call::Move(value)),
+            NARROWING => Ok(Call::Narrow(value)),
+            _ => Err(ListError::UnknownKind),
+        }
     }
 }

@@ -1,31 +1,20 @@
 // A list of calls, each given what the last one returned; every capability returned is written to the lent words.
-ghost use Rattle.std.specs.Prelude.{◌≡◌, ◌+◌, ◌*◌, ◌≤◌, length};
-ghost use Rattle.call_lists.specs.Calls.{make_call};
-ghost use Rattle.call_lists.specs.Lists.{is_known, call_of, all_known, calls_of, put_words, sizes_fit, Written, Listed};
+ghost use Rattle.std.specs.Prelude.{◌≡◌, ◌+◌, ◌*◌, ◌≤◌, length, true};
+ghost use Rattle.call_lists.specs.Lists.{all_known, calls_of, put_words, sizes_fit, Written, Listed};
 
-use crate::calls::{call_of, make_call};
-use crate::{Answer, KINDS, MOST_TAG, WORDS};
+use crate::calls::make_call;
+use crate::{Call, ListError, MOST_TAG, WORDS};
 use capability::Capability;
 use choices::all_three;
 
-fn is_known(kind: u32) -> bool
-    ensures { result ≡ is_known kind }
-{
-    kind < KINDS
-}
+// How many kinds there are.
+const KINDS: u32 = 4;
 
 // Whether every kind is known.
 fn all_known(kinds: &[u32]) -> bool
     ensures { result ≡ all_known kinds.now }
 {
-    let mut i = 0;
-    while i < kinds.len() {
-        if !is_known(kinds[i]) {
-            return false;
-        }
-        i += 1;
-    }
-    true
+    kinds.iter().all(|kind| *kind < KINDS)
 }
 
 // As many values as kinds, and three words for each.
@@ -35,14 +24,7 @@ fn sizes_fit(kinds: usize, values: usize, out: usize) -> bool
     all_three(values == kinds, out % WORDS == 0, out / WORDS == kinds)
 }
 
-// One call of a list, by its kind and value.
-fn one_call(c: Capability, kind: u32, value: u32) -> Capability
-    ensures { result ≡ make_call (call_of kind value) c }
-{
-    make_call(c, call_of(kind, value))
-}
-
-// The words of the capability at number i.
+// The words of the capability at number i: written by index, for of a chunk of a lent slice the kit says nothing after the write.
 fn put_words(out: &mut [u32], i: usize, c: Capability)
     requires { 3 * i + 3 ≤ length out.old }
     ensures { out.new ≡ put_words out.old i c }
@@ -54,33 +36,36 @@ fn put_words(out: &mut [u32], i: usize, c: Capability)
 
 // All calls, and what each returned.
 fn write_calls(c: Capability, kinds: &[u32], values: &[u32], out: &mut [u32]) -> Capability
-    requires { (length values.now ≡ length kinds.now) × (length out.old ≡ 3 * length kinds.now) }
+    requires known { all_known kinds.now ≡ true }
+    requires sizes { (length values.now ≡ length kinds.now) × (length out.old ≡ 3 * length kinds.now) }
     ensures { Written c (calls_of kinds.now values.now) result out.new }
 {
     let mut s = c;
-    let mut n = 0;
-    while n < kinds.len() {
-        let next = one_call(s, kinds[n], values[n]);
-        put_words(out, n, next);
-        s = next;
-        n += 1;
+    for (n, kind) in kinds.iter().enumerate() {
+        let call = Call::try_from((*kind, values[n])).unwrap();
+        s = make_call(s, call);
+        put_words(out, n, s);
     }
     s
 }
 
 // A list from a capability: each call has a kind, and a length, an address or a mask.
-pub fn run_calls(c: Capability, kinds: &[u32], values: &[u32], out: &mut [u32]) -> Answer
+pub fn run_calls(
+    c: Capability,
+    kinds: &[u32],
+    values: &[u32],
+    out: &mut [u32],
+) -> Result<Capability, ListError>
     ensures { Listed c kinds.now values.now out.old out.new result }
 {
-    let tag = c.tag;
-    if MOST_TAG < tag {
-        return Answer::BadTag;
+    if MOST_TAG < c.tag {
+        return Err(ListError::BadTag);
     }
     if !sizes_fit(kinds.len(), values.len(), out.len()) {
-        return Answer::WrongSize;
+        return Err(ListError::WrongSize);
     }
     if !all_known(kinds) {
-        return Answer::UnknownKind;
+        return Err(ListError::UnknownKind);
     }
-    Answer::Ran(write_calls(c, kinds, values, out))
+    Ok(write_calls(c, kinds, values, out))
 }

@@ -5,6 +5,7 @@ ghost use Rattle.capability.specs.Capability.{keep_tag_if, sealed, tagged};
 ghost use Rattle.capability.specs.Loading.{loses_if, without, loaded_of, revocable};
 
 use crate::Capability;
+use crate::changing::keep_tag_if;
 use crate::reading::{is_sealed, is_tagged, rights_of};
 
 // All rights but GL and LG.
@@ -18,11 +19,8 @@ fn loses_if(test: bool, mask: u32, v: Capability) -> Capability
     ensures { result ≡ loses_if test mask v }
 {
     if test {
-        Capability {
-            address: v.address,
-            metadata: metadata::narrow(v.metadata, mask),
-            tag: v.tag,
-        }
+        let metadata = metadata::narrow(v.metadata, mask);
+        Capability { metadata, ..v }
     } else {
         v
     }
@@ -48,12 +46,7 @@ fn lose_mutable(granted: u32, v: Capability) -> Capability
 fn lose_tag(granted: u32, v: Capability) -> Capability
     ensures { result ≡ keep_tag_if (has granted MC) v }
 {
-    let tag = choices::choose(metadata::has(granted, metadata::MC), v.tag, 0);
-    Capability {
-        address: v.address,
-        metadata: v.metadata,
-        tag,
-    }
+    keep_tag_if(metadata::has(granted, metadata::MC), v)
 }
 
 // A value as it is loaded through an authority, whose rights are read once.

@@ -3,6 +3,7 @@ ghost use Rattle.std.specs.Prelude.{◌≡◌, ◌&&◌, ◌<◌, leb, ltb};
 ghost use Rattle.capability.specs.Sealing.{object_type, is_sentry, permitted_type, address_in_bounds, authorizes};
 ghost use Rattle.capability.specs.Sealing.{with_object_type, seal_of, global_mask, unseal_of};
 
+use crate::changing::keep_tag_if;
 use crate::reading::{bounds_of, has_right, is_sealed, is_tagged};
 use crate::{Capability, SENTRY, SENTRY_ENABLING, UNSEALED};
 use bounds::Region;
@@ -92,11 +93,7 @@ pub fn with_object_type(c: Capability, t: u32) -> Capability
     ensures { result ≡ with_object_type c t }
 {
     let metadata = metadata::with_type(c.metadata, t);
-    Capability {
-        address: c.address,
-        metadata,
-        tag: c.tag,
-    }
+    Capability { metadata, ..c }
 }
 
 // CSeal.
@@ -107,13 +104,8 @@ pub fn seal(c: Capability, authority: Capability) -> Capability
         authorizes(authority, metadata::SE),
         permitted_type(c, authority.address),
     );
-    let tag = choices::choose(choices::both(!is_sealed(c), allowed), c.tag, 0);
-    let metadata = metadata::with_type(c.metadata, authority.address);
-    Capability {
-        address: c.address,
-        metadata,
-        tag,
-    }
+    let kept = choices::both(!is_sealed(c), allowed);
+    keep_tag_if(kept, with_object_type(c, authority.address))
 }
 
 // All rights, without GL where the authority lacks it.
@@ -135,12 +127,8 @@ pub fn unseal(c: Capability, authority: Capability) -> Capability
         authorizes(authority, metadata::US),
         authority.address == object_type(c),
     );
-    let tag = choices::choose(choices::both(is_sealed(c), allowed), c.tag, 0);
+    let kept = choices::both(is_sealed(c), allowed);
     let narrowed = metadata::narrow(c.metadata, global_mask(authority));
     let metadata = metadata::with_type(narrowed, UNSEALED);
-    Capability {
-        address: c.address,
-        metadata,
-        tag,
-    }
+    keep_tag_if(kept, Capability { metadata, ..c })
 }

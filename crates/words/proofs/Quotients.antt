@@ -1,8 +1,9 @@
 -- Quotient and remainder, once for both readings: sizes are divided, the signs come together again in divisor * quotient, and what fits its reading is read
 -- back from its word. One quotient does not fit: the most negative word by minus one.
-use Rattle.std.proofs.Common.{◌≡◌, ℕ, ◌+◌, ◌-◌, ◌*◌, ◌/◌, ◌%◌, ◌^◌, ◌<◌, Bool, true, false, eqb, leb, ℤ, ◌+ℤ◌, ◌*ℤ◌, sym, refl, ap, ◌∙◌, subst, mod-lt}
+use Rattle.std.proofs.Common.{◌≡◌, ℕ, ◌+◌, ◌-◌, ◌*◌, ◌/◌, ◌%◌, ◌^◌, ◌<◌, Bool, true, false, not, eqb, leb, ℤ, ◌+ℤ◌, ◌*ℤ◌, sym, refl, ap, ◌∙◌, subst, mod-lt}
 use Rattle.std.proofs.Common.{mul-le-mul_left, zero-mul, div-le_self, div-mul-le_self, arith, ne_eqb, eqb-true}
 use native.Mathlib.Nat.{mod-le, div-add-mod}
+use mathlib.Core.Bool.{beq}
 use lib.IntN.{zero-*ℤ, +ℤ_idl}
 use borrow.Author.Tests.{eqb-false}
 use Rattle.words.specs.Words.{wrap}
@@ -17,6 +18,14 @@ use Rattle.words.proofs.Readings.{Fits}
 pub by_zero : (r : Reading) (a : ℕ) → (quotient_of r a 0 ≡ 2 ^ 32 - 1) × (remainder_of r a 0 ≡ a)
 unfolding quotient_of remainder_of
 by_zero r a = (refl, refl)
+
+-- two signs differ exactly where they are not the same
+pub differ_is : (s t : Bool) → not (beq s t) ≡ differ s t
+unfolding differ
+differ_is true true = refl
+differ_is true false = refl
+differ_is false true = refl
+differ_is false false = refl
 
 module _ (r : Reading) (a b : ℕ) (d : b ≡ 0 → ⊥) where
   other : eqb b 0 ≡ false

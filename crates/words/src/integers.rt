@@ -2,7 +2,7 @@
 ghost use Rattle.std.specs.Prelude.{◌≡◌, ◌+◌, ◌-◌, ◌*◌, ◌%◌, ◌^◌, ◌<◌, ◌≤◌, if◌then◌else◌, bit_and, bit_or, bit_xor, nat_lt};
 ghost use Rattle.words.specs.Words.{sign_extend, sll_of, srl_of, sra_of, less_signed, slt_of, sltu_of};
 
-use crate::{BITS, ONES, SIGN};
+use crate::{BITS, ONES};
 
 pub fn and(a: u32, b: u32) -> u32
     ensures { result ≡ bit_and a b }
@@ -37,29 +37,25 @@ pub fn srl(a: u32, k: u32) -> u32
 pub fn sra(a: u32, k: u32) -> u32
     ensures { result ≡ sra_of a k }
 {
-    if a < SIGN {
-        a >> (k % BITS)
-    } else {
-        ONES - (ONES - a >> (k % BITS))
-    }
+    (a.cast_signed() >> (k % BITS)).cast_unsigned()
 }
 
 pub fn less_signed(a: u32, b: u32) -> bool
     ensures { result ≡ less_signed a b }
 {
-    std::num::wrapping_add_u32(a, SIGN) < std::num::wrapping_add_u32(b, SIGN)
+    a.cast_signed() < b.cast_signed()
 }
 
 pub fn slt(a: u32, b: u32) -> u32
     ensures { result ≡ slt_of a b }
 {
-    if less_signed(a, b) { 1 } else { 0 }
+    u32::from(less_signed(a, b))
 }
 
 pub fn sltu(a: u32, b: u32) -> u32
     ensures { result ≡ sltu_of a b }
 {
-    if a < b { 1 } else { 0 }
+    u32::from(a < b)
 }
 
 pub(crate) fn power(k: u32) -> u32

@@ -3,7 +3,6 @@ ghost use Rattle.std.specs.Prelude.{◌≡◌, if◌then◌else◌};
 ghost use Rattle.words.specs.Multiply.{is_negative, size_of, with_sign, differ, integer_word, product_low, product_high, quotient_of, remainder_of};
 
 use crate::{Division, ONES, Reading, SIGN};
-use std::num::wrapping_sub_u32;
 
 // How many words there are: what a one in the high half of a product stands for.
 const WORDS: u64 = 1 << 32;
@@ -21,7 +20,7 @@ fn size(reading: Reading, x: u32) -> u32
     ensures { result ≡ size_of reading x }
 {
     if is_negative(reading, x) {
-        ONES - x + 1
+        x.wrapping_neg()
     } else {
         x
     }
@@ -31,17 +30,7 @@ fn size(reading: Reading, x: u32) -> u32
 fn with_sign(negative: bool, size: u32) -> u32
     ensures { result ≡ integer_word (with_sign negative size) }
 {
-    if negative {
-        wrapping_sub_u32(0, size)
-    } else {
-        size
-    }
-}
-
-fn are_different(a: bool, b: bool) -> bool
-    ensures { result ≡ differ a b }
-{
-    if a { !b } else { b }
+    if negative { size.wrapping_neg() } else { size }
 }
 
 // What the unsigned high half of a * b has too much where a is negative: b.
@@ -54,7 +43,7 @@ fn excess(reading: Reading, a: u32, b: u32) -> u32
 pub fn product_low(a: u32, b: u32) -> u32
     ensures { result ≡ product_low a b }
 {
-    (a as u64 * b as u64 % WORDS) as u32
+    a.wrapping_mul(b)
 }
 
 fn high_unsigned(a: u32, b: u32) -> u32
@@ -66,8 +55,9 @@ fn high_unsigned(a: u32, b: u32) -> u32
 pub fn product_high(first: Reading, second: Reading, a: u32, b: u32) -> u32
     ensures { result ≡ product_high first second a b }
 {
-    let less = wrapping_sub_u32(high_unsigned(a, b), excess(first, a, b));
-    wrapping_sub_u32(less, excess(second, b, a))
+    high_unsigned(a, b)
+        .wrapping_sub(excess(first, a, b))
+        .wrapping_sub(excess(second, b, a))
 }
 
 // One division of sizes serves the quotient, the remainder and both readings.
@@ -81,7 +71,7 @@ pub fn divided(reading: Reading, a: u32, b: u32) -> Division
         };
     }
     let negative = is_negative(reading, a);
-    let different = are_different(negative, is_negative(reading, b));
+    let different = negative != is_negative(reading, b);
     let size_a = size(reading, a);
     let size_b = size(reading, b);
     Division {

@@ -4,11 +4,4 @@ use Rattle.capability.proofs.changing.set_bounds.Goals as goal
 
 pub returns : goal.returns
 unfolding set_bounds_of
-returns c =
-    simp (
-      c.with_cut-metadata.ensures,
-      c.choose-tag.ensures.0,
-      c.both.ensures,
-      c.is_unsealed.ensures,
-      c.covers_range-inside.ensures,
-    )
+returns c = simp (c.cut_if.ensures, c.covers_cut.ensures)

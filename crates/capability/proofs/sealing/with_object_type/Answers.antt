@@ -4,4 +4,4 @@ use Rattle.capability.proofs.sealing.with_object_type.Goals as goal
 
 pub returns : goal.returns
 unfolding with_object_type
-returns c = simp c.with_type-metadata.ensures
+returns c = simp (c.with_type-metadata.ensures)

@@ -1,11 +1,8 @@
--- The signed test made by the callee: 1 where it passed, 0 where it failed.
+-- The test as 1 or 0.
 use Rattle.words.specs.Words.{slt_of}
+use Rattle.words.proofs.Tests.{byte_is}
 use Rattle.words.proofs.integers.slt.Goals as goal
 
-pub returns-then-less_signed : goal.returns-then-less_signed
+pub returns : goal.returns
 unfolding slt_of
-returns-then-less_signed c = simp (← c.less_signed.ensures, c.if-less_signed.true)
-
-pub returns-else-less_signed : goal.returns-else-less_signed
-unfolding slt_of
-returns-else-less_signed c = simp (← c.less_signed.ensures, c.if-less_signed.false)
+returns c = simp (c.from.ensures, c.less_signed.ensures, byte_is)

@@ -1,6 +1,6 @@
 -- The test for zero is the definition's; past it the divisor has a size, and signs and sizes are put together as the definition does.
 use Rattle.std.proofs.Common.{sym, rules}
-use Rattle.words.proofs.Quotients.{by_zero, quotient_is, remainder_is, size_positive}
+use Rattle.words.proofs.Quotients.{differ_is, by_zero, quotient_is, remainder_is, size_positive}
 use Rattle.words.proofs.multiply.divided.Goals as goal
 
 pub returns-then-b-eq0 : goal.returns-then-b-eq0
@@ -26,7 +26,7 @@ returns c =
     let b = c.args.b in (
       simp (
         c.with_sign.ensures,
-        c.are_different-different.ensures,
+        differ_is,
         c.is_negative.ensures,
         c.is_negative-negative.ensures,
         c.size-size_a.ensures,

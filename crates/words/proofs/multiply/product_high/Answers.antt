@@ -1,5 +1,5 @@
 -- The unsigned high half less b where a is negative, and less a where b is: the law of high halves.
-use Rattle.std.proofs.Common.{◌≡◌, ℕ, ◌+◌, ◌*◌, ◌/◌, ◌%◌, ◌^◌, ◌<◌, cond, sym, ap, ◌∙◌, arith, rules}
+use Rattle.std.proofs.Common.{◌-◌, ◌≡◌, ℕ, ◌+◌, ◌*◌, ◌/◌, ◌%◌, ◌^◌, ◌<◌, cond, sym, ap, ◌∙◌, arith, rules}
 use Rattle.words.specs.Multiply.{is_negative, product_high}
 use Rattle.words.proofs.Products.{high_of, high_word, high_unsigned_lem}
 use Rattle.words.proofs.multiply.product_high.Goals as goal
@@ -18,15 +18,9 @@ pub returns : goal.returns
 returns c =
     let a = c.args.a in
     let b = c.args.b in
-    let first-reading = c.args.first in
-    let second-reading = c.args.second in
     let product = c.high_unsigned.ensures ∙ high_unsigned_lem a b (search rules) (search rules) in
-    let first_off = c.wrapping_sub_u32-less in
-    let second-off = c.wrapping_sub_u32 in
-    let first : (first_off.result + cond (is_negative first-reading a) b 0) % 2 ^ 32 ≡ a * b / 2 ^ 32
-    = ap (λ (x : ℕ). (first_off.result + x) % 2 ^ 32) (sym c.excess.ensures) ∙ first_off.ensures.value ∙ product in
-    let second : (second-off.result + cond (is_negative second-reading b) a 0) % 2 ^ 32 ≡ first_off.result
-    = ap (λ (x : ℕ). (second-off.result + x) % 2 ^ 32) (sym c.excess-2.ensures) ∙ second-off.ensures.value in
-    both-off (product_high first-reading second-reading a b) (a * b / 2 ^ 32) (cond (is_negative first-reading a) b 0) (cond (is_negative second-reading b) a 0)
-    first_off.result second-off.result
-    (high_word first-reading second-reading a b) (search rules) (high_of first-reading second-reading a b (search rules) (search rules)) first second
+    let high = rw (← c.excess.ensures, ← c.excess-2.ensures) at (high_of c.args.first c.args.second a b (search rules) (search rules)) in
+    let first_off : ℕ = (c.high_unsigned.result + (2 ^ 32 - c.excess.result)) % 2 ^ 32 in
+    let second_off : ℕ = (first_off + (2 ^ 32 - c.excess-2.result)) % 2 ^ 32 in
+    both-off (product_high c.args.first c.args.second a b) (a * b / 2 ^ 32) c.excess.result c.excess-2.result first_off second_off
+    (high_word c.args.first c.args.second a b) (omega arith) high (omega (arith, product)) (omega arith)

@@ -7,7 +7,7 @@ use Rattle.words.proofs.multiply.with_sign.Goals as goal
 pub returns-then-negative : goal.returns-then-negative
 returns-then-negative c =
     let at_call = c.args in
-    rw c.if-negative.true (omega (arith, c.wrapping_sub_u32.ensures, word_minus at_call.size, word_lt (with_sign true at_call.size)))
+    rw c.if-negative.true (omega (arith, c.wrapping_neg.ensures, word_minus at_call.size, word_lt (with_sign true at_call.size)))
 
 pub returns-else-negative : goal.returns-else-negative
 returns-else-negative c =
