@@ -1,6 +1,7 @@
 -- No line is longer than the room that is asked for.
 -- Assumes nothing.
 use Rattle.std.proofs.Common.{◌/◌, ◌%◌, ◌^◌, ◌<◌, ◌≤◌, Bool, true, false, cond, eqb, ◌∷◌, ◌++◌, length, arith, length-append}
+use Rattle.std.specs.Prelude.{Option, Some, None}
 use Rattle.bounds.specs.Cutting.{cut_of}
 use Rattle.bounds.specs.declared.CutAnswer.{CutAnswer}
 use Rattle.bounds.specs.declared.CutAnswer.TheVariants.{Cut, PastEnd}
@@ -10,6 +11,7 @@ use Rattle.text.proofs.Numbers.{length_digits, decimal_le}
 use Rattle.cut_lines.specs.Lines.{bad_text, yes_text, no_text, cut_text}
 use Rattle.cut_lines.specs.Scanning.{outcome, answered}
 use Rattle.cut_lines.specs.Writing.{longest}
+use Rattle.cut_lines.specs.declared.Fields.{Fields}
 use Rattle.cut_lines.specs.declared.Scan.{Scan}
 
 cut_le : (a : CutAnswer) → length (cut_text a) ≤ 23
@@ -21,14 +23,15 @@ cut_le (Cut r exact) = go exact
     go false = simp (length-append, length_digits) (omega arith)
 cut_le PastEnd = omega arith
 
-outcome_le : (s : Scan) → length (outcome s) ≤ 23
+outcome_le : (o : Option Fields) → length (outcome o) ≤ 23
 unfolding outcome
-outcome_le s = go (eqb s.place 17)
+outcome_le None = omega arith
+outcome_le (Some f) = go (eqb f.place 17)
   where
-    go : (t : Bool) → length (cond t (cut_text (cut_of (s.value / 2 ^ 32) (s.value % 2 ^ 32))) bad_text) ≤ 23
-    go true = cut_le (cut_of (s.value / 2 ^ 32) (s.value % 2 ^ 32))
+    go : (t : Bool) → length (cond t (cut_text (cut_of (f.value / 2 ^ 32) (f.value % 2 ^ 32))) bad_text) ≤ 23
+    go true = cut_le (cut_of (f.value / 2 ^ 32) (f.value % 2 ^ 32))
     go false = omega arith
 
 pub answered_le : (s : Scan) → s.number < 2 ^ 64 → length (answered s) ≤ longest
 unfolding answered
-answered_le s h = simp length-append (omega (arith, decimal_le s.number h, outcome_le s))
+answered_le s h = simp length-append (omega (arith, decimal_le s.number h, outcome_le s.fields))
