@@ -2,6 +2,7 @@
 -- Assumes nothing.
 use Rattle.std.proofs.Common.{◌≡◌, ℕ, suc, ◌+◌, ◌%◌, ◌^◌, ◌<◌, Bool, true, false, eqb, List, [], ◌∷◌, ◌++◌, length, take, sym, refl, ap, ◌∙◌, append_assoc}
 use Rattle.std.proofs.Common.{append-nil, arith, ne_eqb}
+use Rattle.std.proofs.lemmas.List.Sums.{fold-append}
 use Rattle.text.specs.Writing.{newline}
 use Rattle.cut_lines.specs.Lines.{header_text, line_text, start_line, lines_of, lines_text, text_of}
 use Rattle.cut_lines.specs.Scanning.{start_of, advanced, has_begun, answered, stepped, step_text, read_line, scanned, scan_text, last_text, Session, ended, block}
@@ -13,8 +14,7 @@ use Rattle.cut_lines.proofs.Reading.{number_read, begun_read, answered_line}
 
 pub scanned_append : (s : Scan) (a b : List ℕ) → scanned s (a ++ b) ≡ scanned (scanned s a) b
 unfolding scanned
-scanned_append s [] b = refl
-scanned_append s (x ∷ a) b = scanned_append (stepped s x) a b
+scanned_append s a b = fold-append stepped s a b
 
 pub text_append : (s : Scan) (a b : List ℕ) → scan_text s (a ++ b) ≡ scan_text s a ++ scan_text (scanned s a) b
 unfolding scanned scan_text

@@ -65,8 +65,7 @@ abbrev pub read_line : Scan → (line : List ℕ) → Scan
 read_line s l = fold advanced s l
 
 unfoldable pub scanned : Scan → (input : List ℕ) → Scan
-scanned s [] = s
-scanned s (b ∷ l) = scanned (stepped s b) l
+scanned s l = fold stepped s l
 
 unfoldable pub scan_text : Scan → (input : List ℕ) → List ℕ
 scan_text s [] = []

@@ -7,7 +7,7 @@ ghost use Rattle.cut_lines.specs.Writing.{has_room, longest};
 ghost use Rattle.text.specs.Writing.{Puts};
 
 use crate::{Fields, LINE, LONGEST, NoRoom, Scan};
-use bounds::{CutAnswer, Region};
+use bounds::{CutError, CutRegion};
 use text::{put_byte, put_bytes, put_decimal, put_hex};
 
 // The hexadecimal digits of a low bound, and of a high bound of 33 bits.
@@ -39,22 +39,22 @@ fn put_exact(out: &mut [u8], at: usize, exact: bool) -> usize
 }
 
 // A region's bounds and whether they are exact.
-fn put_region(out: &mut [u8], at: usize, region: Region, exact: bool) -> usize
-    ensures { Puts out.old at (region_text region exact) out.new result }
+fn put_region(out: &mut [u8], at: usize, cut: CutRegion) -> usize
+    ensures { Puts out.old at (region_text cut) out.new result }
 {
-    let a = put_hex(out, at, LOW_DIGITS, region.low as u64);
+    let a = put_hex(out, at, LOW_DIGITS, u64::from(cut.region.low));
     let b = put_byte(out, a, b'\t');
-    let c = put_hex(out, b, HIGH_DIGITS, region.high);
+    let c = put_hex(out, b, HIGH_DIGITS, cut.region.high);
     let d = put_byte(out, c, b'\t');
-    put_exact(out, d, exact)
+    put_exact(out, d, cut.exact)
 }
 
-fn put_cut(out: &mut [u8], at: usize, answer: CutAnswer) -> usize
+fn put_cut(out: &mut [u8], at: usize, answer: Result<CutRegion, CutError>) -> usize
     ensures { Puts out.old at (cut_text answer) out.new result }
 {
     match answer {
-        CutAnswer::Cut { region, exact } => put_region(out, at, region, exact),
-        CutAnswer::PastEnd => put_bytes(out, at, b"bad\t6\n"),
+        Ok(cut) => put_region(out, at, cut),
+        Err(CutError::PastEnd) => put_bytes(out, at, b"bad\t6\n"),
     }
 }
 
