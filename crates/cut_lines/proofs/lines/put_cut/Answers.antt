@@ -1,11 +1,17 @@
 -- `put_cut`: an arm an answer, each with its text. Assumes nothing.
-use Rattle.cut_lines.specs.Lines.{cut_text}
+use Rattle.std.proofs.Common.{◌≡◌, refl, Err}
+use Rattle.bounds.specs.declared.CutError.{CutError}
+use Rattle.bounds.specs.declared.CutError.TheVariants.{PastEnd}
+use Rattle.cut_lines.specs.Lines.{refused_text, cut_text}
 use Rattle.cut_lines.proofs.lines.put_cut.Goals as goal
 
-pub returns-in-Cut : goal.returns-in-Cut
+refused_as : (e : CutError) → cut_text (Err e) ≡ refused_text
 unfolding cut_text
-returns-in-Cut c = rw c.in-Cut.is c.put_region.ensures
+refused_as PastEnd = refl
 
-pub returns-in-PastEnd : goal.returns-in-PastEnd
+pub returns-in-Ok : goal.returns-in-Ok
 unfolding cut_text
-returns-in-PastEnd c = rw c.in-PastEnd.is c.put_bytes.ensures
+returns-in-Ok c = rw c.in-Ok.is c.put_region.ensures
+
+pub returns-in-Err-PastEnd : goal.returns-in-Err-PastEnd
+returns-in-Err-PastEnd c = rw (c.in-Err-PastEnd.is, refused_as c.in-Err-PastEnd.field-0) c.put_bytes.ensures
