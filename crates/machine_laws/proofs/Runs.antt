@@ -54,7 +54,7 @@ module _ (board : Board) (revoked : List ℕ) where
     unfolding step_answer
     answer_retired = rw good (go (retires (effect_at board revoked s)))
       where
-        go : (b : Bool) → step_retired (cond b Retired Trapped) ≡ cond b 1 0
+        go : (b : Bool) → step_retired (Ok (cond b Retired Trapped)) ≡ cond b 1 0
         go true = refl
         go false = refl
 
@@ -62,7 +62,7 @@ module _ (board : Board) (revoked : List ℕ) where
     unfolding step_answer
     answer_trapped = rw good (go (retires (effect_at board revoked s)))
       where
-        go : (b : Bool) → step_trapped (cond b Retired Trapped) ≡ cond b 0 1
+        go : (b : Bool) → step_trapped (Ok (cond b Retired Trapped)) ≡ cond b 0 1
         go true = refl
         go false = refl
 

@@ -129,11 +129,11 @@ unchanging_step_shut_out a p = omega (arith, pcc_before, pcc_after (before top_o
 -- ---- a step with one trap for all
 
 -- one step does not trap, and one does not retire
-pub trapping_step_shut_out : (after : State) → StepFrom top_of_memory after Trapped → ⊥
+pub trapping_step_shut_out : (after : State) → StepFrom top_of_memory after (Ok Trapped) → ⊥
 unfolding top_of_memory
 trapping_step_shut_out after p = omega (arith, ap step_retired p.answer_is, top_worked.retired_is)
 
-pub retiring_step_shut_out : (after : State) → StepFrom environment_call after Retired → ⊥
+pub retiring_step_shut_out : (after : State) → StepFrom environment_call after (Ok Retired) → ⊥
 unfolding environment_call
 retiring_step_shut_out after p = omega (arith, ap step_retired p.answer_is, call_worked.retired_is)
 
