@@ -6,9 +6,11 @@ mod regions;
 mod scanning;
 mod tests;
 
+ghost use Rattle.std.specs.Prelude.{◌≡◌};
+ghost use Rattle.sheets.specs.declared.SheetError.TheVariants.{Bad};
 ghost use Rattle.sheets.specs.Scanning.{Reads};
 
-pub use names::{NAME_BYTES, letters, same};
+pub use names::{NAME_BYTES, letters};
 pub use regions::Sheet;
 use scanning::{first_line, region_in};
 
@@ -62,6 +64,21 @@ pub struct Line {
 #[derive(Clone, Copy, Debug, PartialEq, Eq)]
 pub struct BadLine {
     pub line: usize,
+}
+
+// Why nothing was written: the first bad line, or too little room.
+#[derive(Clone, Copy, Debug, PartialEq, Eq)]
+pub enum SheetError {
+    Bad(usize),
+    NoRoom,
+}
+
+impl From<BadLine> for SheetError {
+    ghost from_gives = { λ e r. r ≡ Bad e.line };
+
+    fn from(e: BadLine) -> SheetError {
+        SheetError::Bad(e.line)
+    }
 }
 
 // A sheet that was read, and the index after its end.

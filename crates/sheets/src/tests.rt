@@ -5,7 +5,7 @@ ghost use Rattle.sheets.specs.Sheet.{clash};
 ghost use Rattle.sheets.specs.Sheet.{clashes};
 ghost use Rattle.sheets.specs.Sheet.{formed};
 
-use crate::names::{letters, same, zero_from};
+use crate::names::{letters, zero_from};
 use crate::{MOST_REGIONS, Region};
 
 // All addresses.
@@ -25,13 +25,11 @@ pub(crate) fn formed(r: Region) -> bool
 }
 
 // Whether two regions have one name, or a byte in common.
-#[tactic(auto, unfolding(crate::specs::Sheet::clash))]
+#[tactic(auto, unfolding(crate::specs::Sheet::clash, crate::specs::Sheet::same))]
 fn clash(a: Region, b: Region) -> bool
     ensures { result ≡ clash a b }
 {
-    let m = a.name;
-    let n = b.name;
-    same(m, n)
+    a.name == b.name
         || u64::from(a.start) < u64::from(b.start) + u64::from(b.size)
             && u64::from(b.start) < u64::from(a.start) + u64::from(a.size)
 }
