@@ -6,7 +6,7 @@ use mathlib.Core.List.{List}
 use Prim.Native.Nat.{ℕ, ◌≤◌, ◌<◌}
 use native.Mathlib.Omega.{arith}
 use borrow.Author.Tests.{le-leb, lt-leb}
-use lib.ListN.{length, take}
+use lib.ListN.{length}
 use Rattle.text.specs.Writing.{fits_in, delivered, Puts}
 use Rattle.text.proofs.Putting.{placed}
 use Rattle.sheets.specs.Records.{sheet_words}

@@ -1,5 +1,4 @@
 -- `put_records`: the loop keeps that the records of the regions so far are written. Assumes nothing.
-use Rattle.std.proofs.Common.{ap, ◌∙◌}
 use Rattle.text.proofs.Putting.{puts_none, puts_then}
 use Rattle.sheets.specs.Records.{sheet_words}
 use Rattle.sheets.proofs.Words.{words_more}

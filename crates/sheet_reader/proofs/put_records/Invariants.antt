@@ -1,6 +1,5 @@
 -- `put_records`: the loop keeps that the records of the regions so far are written. Assumes nothing.
-use mathlib.Core.Path.{◌≡◌}
-use lib.ListN.{length, take}
+use lib.ListN.{take}
 use Rattle.text.specs.Writing.{Puts}
 use Rattle.sheets.specs.Records.{sheet_words}
 use Rattle.sheet_reader.proofs.put_records.Given as goal

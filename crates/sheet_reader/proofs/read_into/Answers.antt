@@ -1,7 +1,5 @@
 -- `read_into`: a bad line, the records, or too little room. Assumes nothing.
-use Rattle.std.proofs.Common.{◌≡◌, sym, ◌*◌, arith, length}
 use Rattle.std.proofs.lemmas.Result.{err_from_is_err_and}
-use Rattle.sheets.specs.Records.{sheet_words}
 use Rattle.sheets.proofs.Words.{words_length}
 use Rattle.sheet_reader.proofs.Lists.{refuses, fills, no_room}
 use Rattle.sheet_reader.proofs.read_into.Goals as goal
