@@ -15,8 +15,9 @@ use lib.Seq.{take-suc, take-append_seam, append_snoc, drop_at}
 use Rattle.text.specs.Digits.{digit_of, glyph, digits}
 use Rattle.text.specs.Writing.{tab}
 use Rattle.sheets.specs.Sheet.{word, is_letter, letters_of, name_of, all_zero, rights_text, line_text, formed}
-use Rattle.sheets.specs.Scanning.{scan, start_scan, spoiled, in_word, in_name, in_start, in_size, in_rights, right_of, with_digit, advanced, line_read, whole}
+use Rattle.sheets.specs.Scanning.{scan, start_scan, spoiled, in_word, in_name, in_number, in_start, in_size, in_rights, right_of, with_digit, advanced, line_read, whole}
 use Rattle.sheets.specs.Scanning.{padded, name_place, region_in, scan_of, region_of}
+use Rattle.sheets.specs.declared.Field.TheVariants.{Word, Name, Start, Size, Rights}
 use Rattle.sheets.specs.declared.Scan.{Scan}
 use Rattle.sheets.specs.declared.Region.{Region}
 use Rattle.sheets.proofs.Padding.{all_letters, letters_append, letters_padded, letters_all, name_padded, name_length_lem, zeros_zero}
@@ -26,14 +27,14 @@ use Rattle.sheets.proofs.Digits.{digit_glyph, glyph_digit, digits_more, more_bel
 
 -- the bytes p of a line, read from its start, left the state s, and the line may yet be well-formed
 pub data Held : Scan → List ℕ → Type 0 where
-  held_word : (n : ℕ) → n ≤ 6 → Held (scan 0 n 0 0 0 0) (take n word)
-  held_name : (l : List ℕ) → length l ≤ 16 → all_letters l ≡ true → Held (scan 1 (length l) 0 0 0 0) (word ++ (tab ∷ l))
+  held_word : (n : ℕ) → n ≤ 6 → Held (scan Word n 0 0 0 0) (take n word)
+  held_name : (l : List ℕ) → length l ≤ 16 → all_letters l ≡ true → Held (scan Name (length l) 0 0 0 0) (word ++ (tab ∷ l))
   held_start : (l : List ℕ) → 0 < length l → length l ≤ 16 → all_letters l ≡ true → (n a : ℕ) → n ≤ 8 → a < 16 ^ n
-      → Held (scan 2 n (length l) a 0 0) (word ++ (tab ∷ l) ++ (tab ∷ digits 16 n a))
+      → Held (scan Start n (length l) a 0 0) (word ++ (tab ∷ l) ++ (tab ∷ digits 16 n a))
   held_size : (l : List ℕ) → 0 < length l → length l ≤ 16 → all_letters l ≡ true → (a : ℕ) → a < 2 ^ 32 → (n b : ℕ) → n ≤ 8 → b < 16 ^ n
-      → Held (scan 3 n (length l) a b 0) (word ++ (tab ∷ l) ++ (tab ∷ digits 16 8 a) ++ (tab ∷ digits 16 n b))
+      → Held (scan Size n (length l) a b 0) (word ++ (tab ∷ l) ++ (tab ∷ digits 16 8 a) ++ (tab ∷ digits 16 n b))
   held_rights : (l : List ℕ) → 0 < length l → length l ≤ 16 → all_letters l ≡ true → (a b c : ℕ) → a < 2 ^ 32 → b < 2 ^ 32 → c < 8
-      → Held (scan 4 0 (length l) a b c) (word ++ (tab ∷ l) ++ (tab ∷ digits 16 8 a) ++ (tab ∷ digits 16 8 b) ++ (tab ∷ rights_text c))
+      → Held (scan Rights 0 (length l) a b c) (word ++ (tab ∷ l) ++ (tab ∷ digits 16 8 a) ++ (tab ∷ digits 16 8 b) ++ (tab ∷ rights_text c))
 
 abbrev Step : Scan → List ℕ → ℕ → Type 0
 Step s p b = (advanced s b ≡ spoiled) ⊎ Held (advanced s b) (p ++ (b ∷ []))
@@ -42,22 +43,22 @@ Step s p b = (advanced s b ≡ spoiled) ⊎ Held (advanced s b) (p ++ (b ∷ [])
 snoc : (p q : List ℕ) (b : ℕ) → (p ++ (tab ∷ q)) ++ (b ∷ []) ≡ p ++ (tab ∷ (q ++ (b ∷ [])))
 snoc p q b = append_assoc p (tab ∷ q) (b ∷ [])
 
-step_word : (n : ℕ) → n ≤ 6 → (b : ℕ) → Step (scan 0 n 0 0 0 0) (take n word) b
+step_word : (n : ℕ) → n ≤ 6 → (b : ℕ) → Step (scan Word n 0 0 0 0) (take n word) b
 unfolding advanced in_word all_letters
 step_word n h b = go (ltb n 6) refl
   where
     S : Bool → Scan
-    S t = cond t (cond (eqb b (get_or word n 0)) (scan 0 (n + 1) 0 0 0 0) spoiled) (cond (eqb b tab) (scan 1 0 0 0 0 0) spoiled)
+    S t = cond t (cond (eqb b (get_or word n 0)) (scan Word (n + 1) 0 0 0 0) spoiled) (cond (eqb b tab) (scan Name 0 0 0 0 0) spoiled)
 
     more : (u : Bool) → eqb b (get_or word n 0) ≡ u → n < 6
-        → (cond u (scan 0 (n + 1) 0 0 0 0) spoiled ≡ spoiled) ⊎ Held (cond u (scan 0 (n + 1) 0 0 0 0) spoiled) (take n word ++ (b ∷ []))
+        → (cond u (scan Word (n + 1) 0 0 0 0) spoiled ≡ spoiled) ⊎ Held (cond u (scan Word (n + 1) 0 0 0 0) spoiled) (take n word ++ (b ∷ []))
     more true e k =
         let t : take n word ++ (get_or word n 0 ∷ []) ≡ take (n + 1) word = sym (take-suc word n 0 k) ∙ ap (λ (m : ℕ). take m word) (sym (add-one n)) in
         inr (rw (eqb-true b (get_or word n 0) e, t) (held_word (n + 1) (omega arith)))
     more false e k = inl refl
 
     last : (u : Bool) → eqb b tab ≡ u → n ≡ 6
-        → (cond u (scan 1 0 0 0 0 0) spoiled ≡ spoiled) ⊎ Held (cond u (scan 1 0 0 0 0 0) spoiled) (take n word ++ (b ∷ []))
+        → (cond u (scan Name 0 0 0 0 0) spoiled ≡ spoiled) ⊎ Held (cond u (scan Name 0 0 0 0 0) spoiled) (take n word ++ (b ∷ []))
     last true e k = inr (rw (eqb-true b tab e, k) (held_name [] (omega arith) refl))
     last false e k = inl refl
 
@@ -65,7 +66,7 @@ step_word n h b = go (ltb n 6) refl
     go true e = more (eqb b (get_or word n 0)) refl (ltb-true n 6 e)
     go false e = last (eqb b tab) refl (omega (arith, ltb-false n 6 e))
 
-step_name : (l : List ℕ) → length l ≤ 16 → all_letters l ≡ true → (b : ℕ) → Step (scan 1 (length l) 0 0 0 0) (word ++ (tab ∷ l)) b
+step_name : (l : List ℕ) → length l ≤ 16 → all_letters l ≡ true → (b : ℕ) → Step (scan Name (length l) 0 0 0 0) (word ++ (tab ∷ l)) b
 unfolding advanced in_name digits
 step_name l h a b = go (is_letter b) refl
   where
@@ -73,10 +74,10 @@ step_name l h a b = go (is_letter b) refl
     P = (word ++ (tab ∷ l)) ++ (b ∷ [])
 
     named : Scan
-    named = scan 1 (length l + 1) 0 0 0 0
+    named = scan Name (length l + 1) 0 0 0 0
 
     next : Scan
-    next = scan 2 0 (length l) 0 0 0
+    next = scan Start 0 (length l) 0 0 0
 
     letter : (u : Bool) → ltb (length l) 16 ≡ u → is_letter b ≡ true → (cond u named spoiled ≡ spoiled) ⊎ Held (cond u named spoiled) P
     letter true e k =
@@ -106,73 +107,80 @@ with_digit_lem n v b h k d =
     let e : with_digit v b ≡ v * 16 + digit_of b = omega (arith, seven n v h k) in
     (e, rw e (more_below n v (digit_of b) k d), rw (e, digits_more n v (digit_of b) d, glyph_digit b d))
 
+pub read_append : (s : Scan) (a b : List ℕ) → line_read s (a ++ b) ≡ line_read (line_read s a) b
+unfolding line_read
+read_append s [] b = refl
+read_append s (x ∷ a) b = read_append (advanced s x) a b
+
+-- ---- a number's field: F in its state after n digits, and the state of the field after it
+record Number (F : (count value : ℕ) → Scan) (next : (value : ℕ) → Scan) : Type 0 where
+  byte : (n v b : ℕ) → advanced (F n v) b ≡ in_number n v b (F (n + 1)) (next v)
+
+number_start : (l : ℕ) → Number (λ n v. scan Start n l v 0 0) (λ v. scan Size 0 l v 0 0)
+unfolding advanced in_start
+number_start l = record { byte = λ n v b. refl }
+
+number_size : (l a : ℕ) → Number (λ n v. scan Size n l a v 0) (λ v. scan Rights 0 l a v 0)
+unfolding advanced in_size
+number_size l a = record { byte = λ n v b. refl }
+
+module _ {F : (count value : ℕ) → Scan} {next : (value : ℕ) → Scan} (f : Number F next) where
+  step_number : (p : List ℕ) → ((n v : ℕ) → n ≤ 8 → v < 16 ^ n → Held (F n v) (p ++ (tab ∷ digits 16 n v)))
+      → ((v : ℕ) → v < 2 ^ 32 → Held (next v) (p ++ (tab ∷ digits 16 8 v) ++ (tab ∷ []))) → (n v : ℕ) → n ≤ 8 → v < 16 ^ n → (b : ℕ)
+      → Step (F n v) (p ++ (tab ∷ digits 16 n v)) b
+  step_number p held after n v k m b = rw (f.byte n v b) (go (ltb n 8) refl)
+    where
+      P : List ℕ
+      P = (p ++ (tab ∷ digits 16 n v)) ++ (b ∷ [])
+
+      more : Scan
+      more = F (n + 1) (with_digit v b)
+
+      digit : (u : Bool) → ltb (digit_of b) 16 ≡ u → n < 8 → (cond u more spoiled ≡ spoiled) ⊎ Held (cond u more spoiled) P
+      digit true e q =
+          let w = with_digit_lem n v b q m (ltb-true (digit_of b) 16 e) in
+          inr (rw (snoc p (digits 16 n v) b, ← w.2) (held (n + 1) (with_digit v b) (omega arith) w.1))
+      digit false e q = inl refl
+
+      last : (u : Bool) → eqb b tab ≡ u → n ≡ 8 → (cond u (next v) spoiled ≡ spoiled) ⊎ Held (cond u (next v) spoiled) P
+      last true e q = inr (rw (eqb-true b tab e, q) (after v (omega (arith, rw q at m))))
+      last false e q = inl refl
+
+      S : Bool → Scan
+      S t = cond t (cond (ltb (digit_of b) 16) more spoiled) (cond (eqb b tab) (next v) spoiled)
+
+      go : (t : Bool) → ltb n 8 ≡ t → (S t ≡ spoiled) ⊎ Held (S t) P
+      go true e = digit (ltb (digit_of b) 16) refl (ltb-true n 8 e)
+      go false e = last (eqb b tab) refl (omega (arith, ltb-false n 8 e))
+
+  takes : (n v b : ℕ) → n < 8 → digit_of b < 16 → advanced (F n v) b ≡ F (n + 1) (with_digit v b)
+  takes n v b h d = f.byte n v b ∙ rw (lt-ltb n 8 h, lt-ltb (digit_of b) 16 d)
+
+  read_digits : (n v : ℕ) → n ≤ 8 → v < 16 ^ n → line_read (F 0 0) (digits 16 n v) ≡ F n v
+  unfolding digits line_read
+  read_digits zero v h k = ap (F 0) (omega arith)
+  read_digits (suc n) v h k =
+      let d : v % 16 < 16 = omega arith in
+      let q : v / 16 < 16 ^ n = less_below n v k in
+      let w : with_digit (v / 16) (glyph (v % 16)) ≡ v = omega (arith, seven n (v / 16) (omega arith) q, digit_glyph (v % 16) d) in
+      read_append (F 0 0) (digits 16 n (v / 16)) (glyph (v % 16) ∷ [])
+      ∙ ap (λ (s : Scan). advanced s (glyph (v % 16))) (read_digits n (v / 16) (omega arith) q)
+      ∙ takes n (v / 16) (glyph (v % 16)) (omega arith) (rw (digit_glyph (v % 16) d) d)
+      ∙ rw (w, add-one n)
+
 step_start : (l : List ℕ) → 0 < length l → length l ≤ 16 → all_letters l ≡ true → (n a : ℕ) → n ≤ 8 → a < 16 ^ n → (b : ℕ)
-    → Step (scan 2 n (length l) a 0 0) (word ++ (tab ∷ l) ++ (tab ∷ digits 16 n a)) b
-unfolding advanced in_start digits
-step_start l some h letters n a k m b = go (ltb n 8) refl
-  where
-    p : List ℕ
-    p = word ++ (tab ∷ l)
-
-    P : List ℕ
-    P = (p ++ (tab ∷ digits 16 n a)) ++ (b ∷ [])
-
-    more : Scan
-    more = scan 2 (n + 1) (length l) (with_digit a b) 0 0
-
-    next : Scan
-    next = scan 3 0 (length l) a 0 0
-
-    digit : (u : Bool) → ltb (digit_of b) 16 ≡ u → n < 8 → (cond u more spoiled ≡ spoiled) ⊎ Held (cond u more spoiled) P
-    digit true e q =
-        let w = with_digit_lem n a b q m (ltb-true (digit_of b) 16 e) in
-        inr (rw (snoc p (digits 16 n a) b, ← w.2) (held_start l some h letters (n + 1) (with_digit a b) (omega arith) w.1))
-    digit false e q = inl refl
-
-    last : (u : Bool) → eqb b tab ≡ u → n ≡ 8 → (cond u next spoiled ≡ spoiled) ⊎ Held (cond u next spoiled) P
-    last true e q = inr (rw (eqb-true b tab e, q) (held_size l some h letters a (omega (arith, rw q at m)) 0 0 (omega arith) (omega arith)))
-    last false e q = inl refl
-
-    S : Bool → Scan
-    S t = cond t (cond (ltb (digit_of b) 16) more spoiled) (cond (eqb b tab) next spoiled)
-
-    go : (t : Bool) → ltb n 8 ≡ t → (S t ≡ spoiled) ⊎ Held (S t) P
-    go true e = digit (ltb (digit_of b) 16) refl (ltb-true n 8 e)
-    go false e = last (eqb b tab) refl (omega (arith, ltb-false n 8 e))
+    → Step (scan Start n (length l) a 0 0) (word ++ (tab ∷ l) ++ (tab ∷ digits 16 n a)) b
+unfolding digits
+step_start l some h letters =
+    step_number (number_start (length l)) (word ++ (tab ∷ l)) (held_start l some h letters)
+    (λ a x. held_size l some h letters a x 0 0 (omega arith) (omega arith))
 
 step_size : (l : List ℕ) → 0 < length l → length l ≤ 16 → all_letters l ≡ true → (a : ℕ) → a < 2 ^ 32 → (n v : ℕ) → n ≤ 8 → v < 16 ^ n → (b : ℕ)
-    → Step (scan 3 n (length l) a v 0) (word ++ (tab ∷ l) ++ (tab ∷ digits 16 8 a) ++ (tab ∷ digits 16 n v)) b
-unfolding advanced in_size digits rights_text
-step_size l some h letters a start n v k m b = go (ltb n 8) refl
-  where
-    p : List ℕ
-    p = word ++ (tab ∷ l) ++ (tab ∷ digits 16 8 a)
-
-    P : List ℕ
-    P = (p ++ (tab ∷ digits 16 n v)) ++ (b ∷ [])
-
-    more : Scan
-    more = scan 3 (n + 1) (length l) a (with_digit v b) 0
-
-    next : Scan
-    next = scan 4 0 (length l) a v 0
-
-    digit : (u : Bool) → ltb (digit_of b) 16 ≡ u → n < 8 → (cond u more spoiled ≡ spoiled) ⊎ Held (cond u more spoiled) P
-    digit true e q =
-        let w = with_digit_lem n v b q m (ltb-true (digit_of b) 16 e) in
-        inr (rw (snoc p (digits 16 n v) b, ← w.2) (held_size l some h letters a start (n + 1) (with_digit v b) (omega arith) w.1))
-    digit false e q = inl refl
-
-    last : (u : Bool) → eqb b tab ≡ u → n ≡ 8 → (cond u next spoiled ≡ spoiled) ⊎ Held (cond u next spoiled) P
-    last true e q = inr (rw (eqb-true b tab e, q) (held_rights l some h letters a v 0 start (omega (arith, rw q at m)) (omega arith)))
-    last false e q = inl refl
-
-    S : Bool → Scan
-    S t = cond t (cond (ltb (digit_of b) 16) more spoiled) (cond (eqb b tab) next spoiled)
-
-    go : (t : Bool) → ltb n 8 ≡ t → (S t ≡ spoiled) ⊎ Held (S t) P
-    go true e = digit (ltb (digit_of b) 16) refl (ltb-true n 8 e)
-    go false e = last (eqb b tab) refl (omega (arith, ltb-false n 8 e))
+    → Step (scan Size n (length l) a v 0) (word ++ (tab ∷ l) ++ (tab ∷ digits 16 8 a) ++ (tab ∷ digits 16 n v)) b
+unfolding rights_text
+step_size l some h letters a x =
+    step_number (number_size (length l) a) (word ++ (tab ∷ l) ++ (tab ∷ digits 16 8 a)) (held_size l some h letters a x)
+    (λ v y. held_rights l some h letters a v 0 x y (omega arith))
 
 -- a right more: the bits below it are those of the letters before it
 right_r : (c : ℕ) → c < 1 → (c + 1 < 8) × (rights_text (c + 1) ≡ rights_text c ++ (114 ∷ []))
@@ -214,7 +222,7 @@ right_more c b h = g1 (eqb b 114) refl h
     g1 false e k = g2 (eqb b 119) refl k
 
 step_rights : (l : List ℕ) → 0 < length l → length l ≤ 16 → all_letters l ≡ true → (a v c : ℕ) → a < 2 ^ 32 → v < 2 ^ 32 → c < 8 → (b : ℕ)
-    → Step (scan 4 0 (length l) a v c) (word ++ (tab ∷ l) ++ (tab ∷ digits 16 8 a) ++ (tab ∷ digits 16 8 v) ++ (tab ∷ rights_text c)) b
+    → Step (scan Rights 0 (length l) a v c) (word ++ (tab ∷ l) ++ (tab ∷ digits 16 8 a) ++ (tab ∷ digits 16 8 v) ++ (tab ∷ rights_text c)) b
 unfolding advanced in_rights
 step_rights l some h letters a v c x y z b = go (ltb c (right_of b)) refl
   where
@@ -222,7 +230,7 @@ step_rights l some h letters a v c x y z b = go (ltb c (right_of b)) refl
     p = word ++ (tab ∷ l) ++ (tab ∷ digits 16 8 a) ++ (tab ∷ digits 16 8 v)
 
     go : (t : Bool) → ltb c (right_of b) ≡ t
-        → (cond t (scan 4 0 (length l) a v (c + right_of b)) spoiled ≡ spoiled) ⊎ Held (cond t (scan 4 0 (length l) a v (c + right_of b)) spoiled)
+        → (cond t (scan Rights 0 (length l) a v (c + right_of b)) spoiled ≡ spoiled) ⊎ Held (cond t (scan Rights 0 (length l) a v (c + right_of b)) spoiled)
         ((p ++ (tab ∷ rights_text c)) ++ (b ∷ []))
     go true e =
         let w = right_more c b (ltb-true c (right_of b) e) in
@@ -311,12 +319,7 @@ line_told l h = held_whole (held_read (held_word 0 (omega arith)) l h) h
 
 -- ---- from the region to the bytes
 
-pub read_append : (s : Scan) (a b : List ℕ) → line_read s (a ++ b) ≡ line_read (line_read s a) b
-unfolding line_read
-read_append s [] b = refl
-read_append s (x ∷ a) b = read_append (advanced s x) a b
-
-read_name : (n : ℕ) (l : List ℕ) → n + length l ≤ 16 → all_letters l ≡ true → line_read (scan 1 n 0 0 0 0) l ≡ scan 1 (n + length l) 0 0 0 0
+read_name : (n : ℕ) (l : List ℕ) → n + length l ≤ 16 → all_letters l ≡ true → line_read (scan Name n 0 0 0 0) l ≡ scan Name (n + length l) 0 0 0 0
 unfolding line_read advanced in_name all_letters
 read_name n [] h a = rw add-zero
 read_name n (b ∷ l) h a =
@@ -324,29 +327,7 @@ read_name n (b ∷ l) h a =
     let m : n + 1 + length l ≡ n + suc (length l) = omega arith in
     rw (t.0, lt-ltb n 16 (omega arith)) (read_name (n + 1) l (omega arith) t.1 ∙ rw m)
 
--- a state that takes eight digits
-module _ (F : ℕ → ℕ → Scan) (takes : (n v b : ℕ) → n < 8 → digit_of b < 16 → advanced (F n v) b ≡ F (n + 1) (with_digit v b)) where
-  read_digits : (n v : ℕ) → n ≤ 8 → v < 16 ^ n → line_read (F 0 0) (digits 16 n v) ≡ F n v
-  unfolding digits line_read
-  read_digits zero v h k = ap (F 0) (omega arith)
-  read_digits (suc n) v h k =
-      let d : v % 16 < 16 = omega arith in
-      let q : v / 16 < 16 ^ n = less_below n v k in
-      let w : with_digit (v / 16) (glyph (v % 16)) ≡ v = omega (arith, seven n (v / 16) (omega arith) q, digit_glyph (v % 16) d) in
-      read_append (F 0 0) (digits 16 n (v / 16)) (glyph (v % 16) ∷ [])
-      ∙ ap (λ (s : Scan). advanced s (glyph (v % 16))) (read_digits n (v / 16) (omega arith) q)
-      ∙ takes n (v / 16) (glyph (v % 16)) (omega arith) (rw (digit_glyph (v % 16) d) d)
-      ∙ rw (w, add-one n)
-
-takes_start : (name n v b : ℕ) → n < 8 → digit_of b < 16 → advanced (scan 2 n name v 0 0) b ≡ scan 2 (n + 1) name (with_digit v b) 0 0
-unfolding advanced in_start
-takes_start name n v b h d = rw (lt-ltb n 8 h, lt-ltb (digit_of b) 16 d)
-
-takes_size : (name a n v b : ℕ) → n < 8 → digit_of b < 16 → advanced (scan 3 n name a v 0) b ≡ scan 3 (n + 1) name a (with_digit v b) 0
-unfolding advanced in_size
-takes_size name a n v b h d = rw (lt-ltb n 8 h, lt-ltb (digit_of b) 16 d)
-
-read_rights : (name a v c : ℕ) → c < 8 → line_read (scan 4 0 name a v 0) (rights_text c) ≡ scan 4 0 name a v c
+read_rights : (name a v c : ℕ) → c < 8 → line_read (scan Rights 0 name a v 0) (rights_text c) ≡ scan Rights 0 name a v c
 unfolding line_read advanced in_rights right_of rights_text
 read_rights name a v zero h = refl
 read_rights name a v (suc zero) h = refl
@@ -362,36 +343,28 @@ read_tab : (s t : Scan) (p q : List ℕ) (u : Scan) → line_read s p ≡ t → 
 unfolding line_read
 read_tab s t p q u e f = read_append s p (tab ∷ q) ∙ rw e f
 
-tab_name : (n : ℕ) → 0 < n → advanced (scan 1 n 0 0 0 0) tab ≡ scan 2 0 n 0 0 0
+tab_name : (n : ℕ) → 0 < n → advanced (scan Name n 0 0 0 0) tab ≡ scan Start 0 n 0 0 0
 unfolding advanced in_name is_letter
 tab_name n h = rw (lt-ltb 0 n h)
 
-tab_start : (name a : ℕ) → advanced (scan 2 8 name a 0 0) tab ≡ scan 3 0 name a 0 0
-unfolding advanced in_start
-tab_start name a = refl
-
-tab_size : (name a v : ℕ) → advanced (scan 3 8 name a v 0) tab ≡ scan 4 0 name a v 0
-unfolding advanced in_size
-tab_size name a v = refl
-
-read_word : (l : List ℕ) → length l ≤ 16 → all_letters l ≡ true → line_read start_scan (word ++ (tab ∷ l)) ≡ scan 1 (length l) 0 0 0 0
+read_word : (l : List ℕ) → length l ≤ 16 → all_letters l ≡ true → line_read start_scan (word ++ (tab ∷ l)) ≡ scan Name (length l) 0 0 0 0
 unfolding line_read advanced in_word
 read_word l h a = read_name 0 l (omega arith) a ∙ rw zero-add
 
 read_fields : (l : List ℕ) → 0 < length l → length l ≤ 16 → all_letters l ≡ true → (a v c : ℕ) → a < 2 ^ 32 → v < 2 ^ 32 → c < 8
-    → line_read start_scan (word ++ (tab ∷ l) ++ (tab ∷ digits 16 8 a) ++ (tab ∷ digits 16 8 v) ++ (tab ∷ rights_text c)) ≡ scan 4 0 (length l) a v c
+    → line_read start_scan (word ++ (tab ∷ l) ++ (tab ∷ digits 16 8 a) ++ (tab ∷ digits 16 8 v) ++ (tab ∷ rights_text c)) ≡ scan Rights 0 (length l) a v c
 read_fields l some h letters a v c x y z =
     let n = length l in
     let p1 : List ℕ = word ++ (tab ∷ l) in
     let p2 : List ℕ = p1 ++ (tab ∷ digits 16 8 a) in
     let p3 : List ℕ = p2 ++ (tab ∷ digits 16 8 v) in
-    let e2 : line_read start_scan p2 ≡ scan 2 8 n a 0 0
-    = read_tab start_scan (scan 1 n 0 0 0 0) p1 (digits 16 8 a) (scan 2 8 n a 0 0) (read_word l h letters)
-    (rw (tab_name n some) (read_digits (λ i w. scan 2 i n w 0 0) (takes_start n) 8 a (omega arith) (omega arith))) in
-    let e3 : line_read start_scan p3 ≡ scan 3 8 n a v 0
-    = read_tab start_scan (scan 2 8 n a 0 0) p2 (digits 16 8 v) (scan 3 8 n a v 0) e2
-    (rw (tab_start n a) (read_digits (λ i w. scan 3 i n a w 0) (takes_size n a) 8 v (omega arith) (omega arith))) in
-    read_tab start_scan (scan 3 8 n a v 0) p3 (rights_text c) (scan 4 0 n a v c) e3 (rw (tab_size n a v) (read_rights n a v c z))
+    let e2 : line_read start_scan p2 ≡ scan Start 8 n a 0 0
+    = read_tab start_scan (scan Name n 0 0 0 0) p1 (digits 16 8 a) (scan Start 8 n a 0 0) (read_word l h letters)
+    (rw (tab_name n some) (read_digits (number_start n) 8 a (omega arith) (omega arith))) in
+    let e3 : line_read start_scan p3 ≡ scan Size 8 n a v 0
+    = read_tab start_scan (scan Start 8 n a 0 0) p2 (digits 16 8 v) (scan Size 8 n a v 0) e2
+    (rw ((number_start n).byte 8 a tab) (read_digits (number_size n a) 8 v (omega arith) (omega arith))) in
+    read_tab start_scan (scan Size 8 n a v 0) p3 (rights_text c) (scan Rights 0 n a v c) e3 (rw ((number_size n a).byte 8 v tab) (read_rights n a v c z))
 
 -- what `formed` tells
 pub record Form (r : Region) : Type 0 where
@@ -428,7 +401,7 @@ form_of r h =
     }
 
 -- the line of a formed region reads as the region
-pub region_read : (r : Region) → formed r ≡ true → scan_of (line_text r) ≡ scan 4 0 (length (name_of r)) r.start r.size r.rights
+pub region_read : (r : Region) → formed r ≡ true → scan_of (line_text r) ≡ scan Rights 0 (length (name_of r)) r.start r.size r.rights
 unfolding line_text
 region_read r h =
     let f = form_of r h in

@@ -3,17 +3,17 @@
 use mathlib.Core.Path.{◌≡◌, sym}
 use mathlib.Core.List.{List}
 use Prim.Native.Nat.{ℕ}
-use borrow.Author.Tests.{eq-eqb, ne_eqb}
-use lib.ListN.{take, drop}
+use lib.ListN.{drop}
+use Rattle.std.specs.Prelude.{Ok, Err}
 use Rattle.sheets.specs.Scanning.{answer_of}
 use Rattle.sheets.specs.Sheet.{Answer, sheet, bad}
+use Rattle.sheets.specs.declared.BadLine.{BadLine}
 use Rattle.sheets.specs.declared.Reading.{Reading}
 
-module _ (text : List ℕ) (r : Reading) {a : Answer} (k : answer_of text r ≡ a) where
-  pub said_bad : (r.bad ≡ 0 → ⊥) → a ≡ bad r.bad
-  unfolding answer_of
-  said_bad e = rw (ne_eqb r.bad 0 e) at (sym k)
+pub said_bad : (text : List ℕ) (e : BadLine) {a : Answer} → answer_of text (Err e) ≡ a → a ≡ bad e.line
+unfolding answer_of
+said_bad text e k = sym k
 
-  pub said_sheet : r.bad ≡ 0 → a ≡ sheet (take r.count r.regions) (drop r.end text)
-  unfolding answer_of
-  said_sheet e = rw (eq-eqb r.bad 0 e) at (sym k)
+pub said_sheet : (text : List ℕ) (r : Reading) {a : Answer} → answer_of text (Ok r) ≡ a → a ≡ sheet r.sheet (drop r.end text)
+unfolding answer_of
+said_sheet text r k = sym k

@@ -1,38 +1,42 @@
 -- A sheet read line by line, and a line byte by byte: the state within a line, and the answer. What it reads is what the text says (`read_says`).
 -- Assumes nothing.
 use Rattle.std.specs.Prelude.{Bool, true, false, cond, ◌&&◌, not, List, [], ◌∷◌, ◌++◌, length, get_or, take, drop, replicate}
+use Rattle.std.specs.Prelude.{Option, Some, None, Result, Ok, Err, IfOk}
 use Rattle.std.specs.Prelude.{◌≡◌, ℕ, ◌+◌, ◌-◌, ◌*◌, ◌%◌, ◌^◌, ◌≤◌, ltb, eqb}
 use Rattle.text.specs.Digits.{digit_of}
 use Rattle.text.specs.Writing.{tab, newline}
 use Rattle.sheets.specs.Sheet.{most_regions, name_bytes, word, is_letter, admitted, Answer, sheet, bad}
 use Rattle.sheets.specs.declared.Region.{Region}
+use Rattle.sheets.specs.declared.Field.{Field}
+use Rattle.sheets.specs.declared.Field.TheVariants.{Word, Name, Start, Size, Rights, Spoiled}
 use Rattle.sheets.specs.declared.Scan.{Scan}
+use Rattle.sheets.specs.declared.BadLine.{BadLine}
 use Rattle.sheets.specs.declared.Reading.{Reading}
 
--- in field f (from 0), of which n bytes were read, with what was read before: how many letters, and the numbers
-abbrev pub scan : (field count letters start size rights : ℕ) → Scan
+-- in field f, of which n bytes were read, with what was read before: how many letters, and the numbers
+abbrev pub scan : (field : Field) (count letters start size rights : ℕ) → Scan
 scan f n l a b c = record { field = f; count = n; letters = l; start = a; size = b; rights = c }
 
 abbrev pub start_scan : Scan
-start_scan = scan 0 0 0 0 0 0
+start_scan = scan Word 0 0 0 0 0
 
 -- a line that is ill-formed whatever follows
 abbrev pub spoiled : Scan
-spoiled = scan 5 0 0 0 0 0
+spoiled = scan Spoiled 0 0 0 0 0
 
--- the next field
-abbrev pub next_field : Scan → Scan
-next_field s = scan (s.field + 1) 0 s.letters s.start s.size s.rights
+-- the next field, f
+abbrev pub next_field : (f : Field) → Scan → Scan
+next_field f s = scan f 0 s.letters s.start s.size s.rights
 
 -- the field after the name, which had as many letters as were counted
 abbrev pub after_name : Scan → Scan
-after_name s = scan (s.field + 1) 0 s.count s.start s.size s.rights
+after_name s = scan Start 0 s.count s.start s.size s.rights
 
 -- a byte of `region`, or the tab after it
 unfoldable pub in_word : (s : Scan) (byte : ℕ) → Scan
 in_word s b =
     cond (ltb s.count 6) (cond (eqb b (get_or word s.count 0)) (scan s.field (s.count + 1) s.letters s.start s.size s.rights) spoiled)
-    (cond (eqb b tab) (next_field s) spoiled)
+    (cond (eqb b tab) (next_field Name s) spoiled)
 
 -- a letter of the name, of which there are at most sixteen, or the tab after at least one
 unfoldable pub in_name : (s : Scan) (byte : ℕ) → Scan
@@ -45,17 +49,15 @@ in_name s b =
 abbrev pub with_digit : (v byte : ℕ) → ℕ
 with_digit v b = v % 2 ^ 28 * 16 + digit_of b
 
+-- a digit of a number, which is v so far, of eight digits, or the tab after them
+abbrev pub in_number : (count v byte : ℕ) (more : ℕ → Scan) (next : Scan) → Scan
+in_number n v b more next = cond (ltb n 8) (cond (ltb (digit_of b) 16) (more (with_digit v b)) spoiled) (cond (eqb b tab) next spoiled)
+
 unfoldable pub in_start : (s : Scan) (byte : ℕ) → Scan
-in_start s b =
-    cond (ltb s.count 8)
-    (cond (ltb (digit_of b) 16) (scan s.field (s.count + 1) s.letters (with_digit s.start b) s.size s.rights) spoiled)
-    (cond (eqb b tab) (next_field s) spoiled)
+in_start s b = in_number s.count s.start b (λ v. scan s.field (s.count + 1) s.letters v s.size s.rights) (next_field Size s)
 
 unfoldable pub in_size : (s : Scan) (byte : ℕ) → Scan
-in_size s b =
-    cond (ltb s.count 8)
-    (cond (ltb (digit_of b) 16) (scan s.field (s.count + 1) s.letters s.start (with_digit s.size b) s.rights) spoiled)
-    (cond (eqb b tab) (next_field s) spoiled)
+in_size s b = in_number s.count s.size b (λ v. scan s.field (s.count + 1) s.letters s.start v s.rights) (next_field Rights s)
 
 -- the bit of a right's letter, and 0 for any other byte
 unfoldable pub right_of : (byte : ℕ) → ℕ
@@ -64,11 +66,17 @@ right_of b = cond (eqb b 114) 1 (cond (eqb b 119) 2 (cond (eqb b 120) 4 0))
 unfoldable pub in_rights : (s : Scan) (byte : ℕ) → Scan
 in_rights s b = cond (ltb s.rights (right_of b)) (scan s.field 0 s.letters s.start s.size (s.rights + right_of b)) spoiled
 
--- a byte of the line
+-- a byte of the line, by the field
+abbrev pub advanced_in : Field → (s : Scan) (byte : ℕ) → Scan
+advanced_in Word s b = in_word s b
+advanced_in Name s b = in_name s b
+advanced_in Start s b = in_start s b
+advanced_in Size s b = in_size s b
+advanced_in Rights s b = in_rights s b
+advanced_in Spoiled s b = spoiled
+
 unfoldable pub advanced : (s : Scan) (byte : ℕ) → Scan
-advanced s b =
-    cond (eqb s.field 0) (in_word s b) (cond (eqb s.field 1) (in_name s b) (cond (eqb s.field 2) (in_start s b)
-    (cond (eqb s.field 3) (in_size s b) (cond (eqb s.field 4) (in_rights s b) spoiled))))
+advanced s b = advanced_in s.field s b
 
 -- the bytes of a line
 unfoldable pub line_read : Scan → (line : List ℕ) → Scan
@@ -76,8 +84,16 @@ line_read s [] = s
 line_read s (b ∷ l) = line_read (advanced s b) l
 
 -- the line may end here
+abbrev pub is_last : Field → Bool
+is_last Word = false
+is_last Name = false
+is_last Start = false
+is_last Size = false
+is_last Rights = true
+is_last Spoiled = false
+
 unfoldable pub whole : Scan → Bool
-whole s = eqb s.field 4 && ltb 0 s.rights
+whole s = is_last s.field && ltb 0 s.rights
 
 -- a name in sixteen bytes, with zeros after its letters
 unfoldable pub padded : (letters : List ℕ) → List ℕ
@@ -89,6 +105,10 @@ name_place = 7
 
 unfoldable pub region_in : (line : List ℕ) → Scan → Region
 region_in line s = record { name = padded (take s.letters (drop name_place line)); start = s.start; size = s.size; rights = s.rights }
+
+-- the region, where the line may end there
+unfoldable pub region_told : (line : List ℕ) → Scan → Option Region
+region_told line s = cond (whole s) (Some (region_in line s)) None
 
 abbrev pub scan_of : (line : List ℕ) → Scan
 scan_of line = line_read start_scan line
@@ -135,33 +155,35 @@ pub record Lined (text : List ℕ) (from : ℕ) (s : Scan) (end : ℕ) : Type 0 
   pub scan_is : s ≡ scan_of (first_line (drop from text))
   pub end_is : end ≡ from + length (first_line (drop from text))
 
--- no name, and no region
+-- no name
 abbrev pub no_name : List ℕ
 no_name = replicate name_bytes 0
 
-abbrev pub nowhere : Region
-nowhere = record { name = no_name; start = 0; size = 0; rights = 0 }
+-- a bad line
+abbrev pub bad_at : (line : ℕ) → BadLine
+bad_at n = record { line = n }
 
--- a reading that is a bad line, and one at a sheet's end
-abbrev pub refused_at : (line : ℕ) → Reading
-refused_at n = record { regions = replicate most_regions nowhere; count = 0; bad = n; end = 0 }
+-- a region that may be taken was, and one that may not changes nothing
+pub record Takes (may : Bool) (before : List Region) (r : Region) (after : List Region) (taken : Bool) : Type 0 where
+  pub taken_is : taken ≡ may
+  pub after_is : after ≡ cond may (before ++ (r ∷ [])) before
 
-unfoldable pub closed_at : (regions : List Region) (count end : ℕ) → Reading
-closed_at regions count end = cond (eqb count 0) (refused_at 1) (record { regions = regions; count = count; bad = 0; end = end })
+-- a sheet that ends here: with no region its first line is bad
+unfoldable pub ended_as : List Region → Result (List Region) BadLine
+ended_as rs = cond (eqb (length rs) 0) (Err (bad_at 1)) (Ok rs)
 
 -- the answer that a reading holds
-unfoldable pub answer_of : (text : List ℕ) → Reading → Answer
-answer_of text r = cond (eqb r.bad 0) (sheet (take r.count r.regions) (drop r.end text)) (bad r.bad)
+unfoldable pub answer_of : (text : List ℕ) → Result Reading BadLine → Answer
+answer_of text (Ok r) = sheet r.sheet (drop r.end text)
+answer_of text (Err e) = bad e.line
 
--- the reading of an answer, whole: a sheet's regions, and no region in each place after them; of a bad line no region at all
-unfoldable pub reading_of : (text : List ℕ) → Answer → Reading
-reading_of text (sheet rs rest) =
-    record { regions = rs ++ replicate (most_regions - length rs) nowhere; count = length rs; bad = 0; end = length text - length rest }
-reading_of text (bad n) = refused_at n
+-- the reading of an answer
+unfoldable pub reading_of : (text : List ℕ) → Answer → Result Reading BadLine
+reading_of text (sheet rs rest) = Ok (record { sheet = rs; end = length text - length rest })
+reading_of text (bad n) = Err (bad_at n)
 
 -- what `read` promises: its reading, whole; what that says; and that it counts no more than there are
-pub record Reads (image : Bool) (text : List ℕ) (r : Reading) : Type 0 where
+pub record Reads (image : Bool) (text : List ℕ) (r : Result Reading BadLine) : Type 0 where
   pub reading_is : r ≡ reading_of text (read_of image text)
   pub answer_is : answer_of text r ≡ read_of image text
-  pub count_fits : r.count ≤ most_regions
-  pub end_fits : r.end ≤ length text
+  pub fits : IfOk r (λ x. (length x.sheet ≤ most_regions) × (x.end ≤ length text))

@@ -1,6 +1,8 @@
 -- Map sheets: a region, its line, the text of a sheet, which region may follow which, and the first bad line. Document 02, 7.
 -- Assumes nothing.
 use Rattle.std.specs.Prelude.{Bool, true, false, cond, ◌&&◌, ◌||◌, not, List, [], ◌∷◌, ◌++◌, ◌≡◌, ℕ, ◌+◌, ◌/◌, ◌%◌, ◌^◌, ◌<◌, ltb, leb, eqb, length, drop}
+use Rattle.std.specs.List.{list_all, list_any}
+use Rattle.std.specs.Str.{bytes_eq}
 use Rattle.text.specs.Digits.{digits}
 use Rattle.text.specs.Writing.{tab, newline}
 use Rattle.sheets.specs.declared.Region.{Region}
@@ -29,8 +31,7 @@ unfoldable pub name_of : Region → List ℕ
 name_of r = letters_of r.name
 
 unfoldable pub all_zero : List ℕ → Bool
-all_zero [] = true
-all_zero (b ∷ l) = eqb b 0 && all_zero l
+all_zero l = list_all (λ b. eqb b 0) l
 
 -- r, w, x, in this order: bits 0, 1, 2
 unfoldable pub rights_text : (rights : ℕ) → List ℕ
@@ -52,17 +53,13 @@ formed r =
 
 -- two regions with one name, or with a byte in common
 unfoldable pub same : (a b : List ℕ) → Bool
-same [] [] = true
-same [] (y ∷ b) = false
-same (x ∷ a) [] = false
-same (x ∷ a) (y ∷ b) = eqb x y && same a b
+same a b = bytes_eq a b
 
 unfoldable pub clash : (earlier later : Region) → Bool
 clash a b = same a.name b.name || (ltb a.start (b.start + b.size) && ltb b.start (a.start + a.size))
 
 unfoldable pub clashes : (earlier : List Region) → Region → Bool
-clashes [] r = false
-clashes (a ∷ rs) r = clash a r || clashes rs r
+clashes rs r = list_any (λ a. clash a r) rs
 
 -- a region that may be the next one after those: the 64th at most, not empty, with no end past 2 ^ 32, and in no clash
 unfoldable pub admitted : (earlier : List Region) → Region → Bool

@@ -2,22 +2,23 @@
 #![tactic(auto)]
 
 mod names;
+mod regions;
 mod scanning;
 mod tests;
 
-ghost use Rattle.std.specs.Prelude.{◌&&◌, ◌≡◌, eqb};
-ghost use Rattle.sheets.specs.Scanning.{Reads, closed_at, nowhere, refused_at};
+ghost use Rattle.std.specs.Prelude.{◌≡◌};
+ghost use Rattle.sheets.specs.declared.SheetError.TheVariants.{Bad};
+ghost use Rattle.sheets.specs.Scanning.{Reads};
 
-pub use names::{NAME_BYTES, letters, same};
-use scanning::{first_line, region_in, whole};
-use tests::admits;
-pub use tests::follows;
+pub use names::{NAME_BYTES, letters};
+pub use regions::Sheet;
+use scanning::{first_line, region_in};
 
 // At most so many regions to a sheet.
 pub const MOST_REGIONS: usize = 64;
 
 // A region of a board or of an image.
-#[derive(Clone, Copy)]
+#[derive(Clone, Copy, Debug, PartialEq, Eq)]
 pub struct Region {
     // the letters of its name, and zeros after them
     pub name: [u8; 16],
@@ -27,11 +28,22 @@ pub struct Region {
     pub rights: u32,
 }
 
+// The fields of a line, and the one of a line that cannot be well-formed any more.
+#[derive(Clone, Copy, Debug, PartialEq, Eq)]
+pub enum Field {
+    Word,
+    Name,
+    Start,
+    Size,
+    Rights,
+    Spoiled,
+}
+
 // The state between two bytes of a line.
-#[derive(Clone, Copy)]
+#[derive(Clone, Copy, Debug, PartialEq, Eq)]
 pub struct Scan {
-    // the field that is being read, from 0, and SPOILED once the line cannot be well-formed
-    pub field: u32,
+    // the field that is being read
+    pub field: Field,
     // how many bytes of it were read
     pub count: usize,
     // what was read before: how many letters, and the numbers
@@ -42,98 +54,75 @@ pub struct Scan {
 }
 
 // A line: the state at its end, and the index of its newline or of the text's end.
-#[derive(Clone, Copy)]
+#[derive(Clone, Copy, Debug, PartialEq, Eq)]
 pub struct Line {
     pub scan: Scan,
     pub end: usize,
 }
 
-// A sheet that was read: its first bad line; or, where that is 0, its regions and the index after its
-// end.
-#[derive(Clone, Copy)]
+// The number of a sheet's first bad line, from 1.
+#[derive(Clone, Copy, Debug, PartialEq, Eq)]
+pub struct BadLine {
+    pub line: usize,
+}
+
+// Why nothing was written: the first bad line, or too little room.
+#[derive(Clone, Copy, Debug, PartialEq, Eq)]
+pub enum SheetError {
+    Bad(usize),
+    NoRoom,
+}
+
+impl From<BadLine> for SheetError {
+    ghost from_gives = { λ e r. r ≡ Bad e.line };
+
+    fn from(e: BadLine) -> SheetError {
+        SheetError::Bad(e.line)
+    }
+}
+
+// A sheet that was read, and the index after its end.
+#[derive(Drop)]
 pub struct Reading {
-    pub regions: [Region; 64],
-    pub count: usize,
-    pub bad: usize,
+    pub sheet: Sheet,
     pub end: usize,
 }
 
-// No region.
-pub fn nothing() -> Region
-    ensures { result ≡ nowhere }
-{
-    Region {
-        name: [0; 16],
-        start: 0,
-        size: 0,
-        rights: 0,
-    }
-}
-
-// A bad line.
-pub fn refused(line: usize) -> Reading
-    ensures { result ≡ refused_at line }
-{
-    Reading {
-        regions: [nothing(); 64],
-        count: 0,
-        bad: line,
-        end: 0,
-    }
-}
-
-// The sheet's end.
-pub fn closed(regions: [Region; 64], count: usize, end: usize) -> Reading
-    ensures { result ≡ closed_at regions count end }
-{
-    if count == 0 {
-        return refused(1);
-    }
-    Reading {
-        regions,
-        count,
-        bad: 0,
-        end,
-    }
-}
-
-// Whether an image's sheet ends with this line, which is empty.
-fn stops(image: bool, from: usize, end: usize) -> bool
-    ensures { result ≡ (image && eqb from end) }
-{
-    if image { from == end } else { false }
-}
-
 // Reads a sheet: a whole text, or an image's text up to an empty line.
-pub fn read(text: &[u8], image: bool) -> Reading
+pub fn read(text: &[u8], image: bool) -> Result<Reading, BadLine>
     ensures { Reads image text.now result }
 {
-    let mut regions = [nothing(); 64];
-    let mut count = 0;
-    let mut i = 0;
-    while i < text.len() {
-        let line = first_line(text, i);
+    let mut sheet = Sheet::new();
+    let mut from = 0;
+    while from < text.len() {
+        let line = first_line(text, from);
         let end = line.end;
-        let s = line.scan;
+        let bad = BadLine {
+            line: sheet.regions().len() + 1,
+        };
         if end == text.len() {
-            return refused(count + 1);
+            return Err(bad);
         }
-        if stops(image, i, end) {
-            return closed(regions, count, end + 1);
+        if image && from == end {
+            let sheet = sheet.ended()?;
+            return Ok(Reading {
+                sheet,
+                end: end + 1,
+            });
         }
-        if !whole(s) {
-            return refused(count + 1);
+        let Some(r) = region_in(text, from, line.scan) else {
+            return Err(bad);
+        };
+        if !sheet.admit(r) {
+            return Err(bad);
         }
-        let r = region_in(text, i, s);
-        if !admits(regions, count, r) {
-            return refused(count + 1);
-        }
-        regions[count] = r;
-        count += 1;
-        i = end + 1;
+        from = end + 1;
     }
     if image {
-        return refused(count + 1);
+        return Err(BadLine {
+            line: sheet.regions().len() + 1,
+        });
     }
-    closed(regions, count, i)
+    let sheet = sheet.ended()?;
+    Ok(Reading { sheet, end: from })
 }

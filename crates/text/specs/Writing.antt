@@ -1,4 +1,4 @@
--- Text written into a lent buffer, as far as the buffer reaches.
+-- Text, or words of a record, written into a lent buffer, as far as the buffer reaches.
 -- Assumes nothing.
 use Rattle.std.specs.Prelude.{Bool, cond, List, ◌++◌, ◌≡◌, ℕ, ◌+◌, ◌-◌, ◌≤◌, leb, length, take, drop}
 
@@ -9,15 +9,15 @@ abbrev pub newline : ℕ
 newline = 10
 
 -- the buffer with the text from index `at` on, and every other byte as it was
-unfoldable pub put : (buffer : List ℕ) (at : ℕ) (text : List ℕ) → List ℕ
+unfoldable pub put : {A : Type 0} (buffer : List A) (at : ℕ) (text : List A) → List A
 put buffer at text = take at buffer ++ text ++ drop (at + length text) buffer
 
 -- as much of the text as the buffer has room for from index `at` on: nothing, where that is past its end
-unfoldable pub fitting : (buffer : List ℕ) (at : ℕ) (text : List ℕ) → List ℕ
+unfoldable pub fitting : {A : Type 0} (buffer : List A) (at : ℕ) (text : List A) → List A
 fitting buffer at text = take (length buffer - at) text
 
 -- so much was written, and nothing else: what the buffer is afterwards, and the index after what was written
-pub record Puts (before : List ℕ) (at : ℕ) (text after : List ℕ) (end : ℕ) : Type 0 where
+pub record Puts {A : Type 0} (before : List A) (at : ℕ) (text after : List A) (end : ℕ) : Type 0 where
   pub ends : end ≡ at + length (fitting before at text)
   pub bytes : after ≡ put before at (fitting before at text)
 

@@ -1,5 +1,6 @@
 // Bytes and numbers as ASCII text. A writer writes from index `at` on, as much as the lent slice has
-// room for, and returns the index after that.
+// room for, and returns the index after that. The slice and the index stay two parameters: a writer
+// that holds both must be lent again for each part, and its callers still need the index.
 #![tactic(auto)]
 
 ghost use Rattle.std.specs.Prelude.{[], ◌∷◌, ◌≡◌, ◌≤◌, ◌<◌, length};
@@ -18,7 +19,9 @@ const LETTERS: u8 = 87;
 // The words from here on are negative.
 const SIGN: u32 = 0x8000_0000;
 
-// The value of a lower-case hexadecimal digit, and 16 for any other byte.
+// The value of a lower-case hexadecimal digit, and 16 for any other byte: no Option, since the
+// definition is this number, and `is it one` and `is it below 16` are one test.
+#[tactic(auto, unfolding(crate::specs::Digits::digit_of))]
 pub fn digit_of(b: u8) -> u64
     ensures { (result ≡ digit_of b) × (result ≤ 16) }
 {
@@ -30,6 +33,7 @@ pub fn digit_of(b: u8) -> u64
 }
 
 // The byte of a digit.
+#[tactic(auto, unfolding(crate::specs::Digits::glyph))]
 fn glyph(d: u64) -> u8
     requires { d < 16 }
     ensures { result ≡ glyph d }
@@ -45,17 +49,14 @@ fn glyph(d: u64) -> u8
 fn places_of(n: u64) -> u8
     ensures { result ≡ places_of n }
 {
-    let mut k = 1;
-    let mut rest = n;
-    while rest >= DECIMAL {
-        rest /= DECIMAL;
-        k += 1;
+    match n.checked_ilog10() {
+        Some(k) => k as u8 + 1,
+        None => 1,
     }
-    k
 }
 
-// Writes a byte.
-pub fn put_byte(out: &mut [u8], at: usize, b: u8) -> usize
+// Writes a byte, or another item of a buffer.
+pub fn put_byte<T: Copy>(out: &mut [T], at: usize, b: T) -> usize
     ensures { Puts out.old at (b ∷ []) out.new result }
 {
     if at < out.len() {
@@ -66,17 +67,16 @@ pub fn put_byte(out: &mut [u8], at: usize, b: u8) -> usize
     }
 }
 
-// Writes some bytes.
-pub fn put_bytes(out: &mut [u8], at: usize, text: &[u8]) -> usize
+// Writes some bytes, or other items.
+pub fn put_bytes<T: Copy>(out: &mut [T], at: usize, text: &[T]) -> usize
     ensures { Puts out.old at text.now out.new result }
 {
-    let mut end = at;
-    let mut i = 0;
-    while i < text.len() {
-        end = put_byte(out, end, text[i]);
-        i += 1;
+    if out.len() <= at {
+        return at;
     }
-    end
+    let n = text.len().min(out.len() - at);
+    out[at..at + n].copy_from_slice(&text[..n]);
+    at + n
 }
 
 // Writes a whole answer from the start on, or nothing where it does not fit; returns whether it did.
@@ -112,6 +112,7 @@ pub fn put_hex(out: &mut [u8], at: usize, count: u8, n: u64) -> usize
 }
 
 // Writes n in decimal.
+#[tactic(auto, unfolding(crate::specs::Digits::decimal))]
 pub fn put_decimal(out: &mut [u8], at: usize, n: u64) -> usize
     ensures { Puts out.old at (decimal n) out.new result }
 {

@@ -1,100 +1,71 @@
 -- `read`: the loop keeps `Going`, that what is left reads, after the regions so far, as the whole text. Each way out is one of its laws. Assumes nothing.
-use mathlib.Core.Path.{sym, ap, ◌∙◌}
-use native.Mathlib.Omega.{arith}
-use borrow.Author.Tests.{not-true, not-false}
-use lib.ListN.{replicate}
-use Rattle.sheets.proofs.Walk.{line_short, room, going_start, refused_last, refused_shape, refused_region, refused_end, stopped, told}
-use Rattle.sheets.proofs.Walk.{turned}
-use Rattle.sheets.proofs.Walk.{closed_end}
+use Rattle.std.proofs.Common.{sym, ◌∙◌, arith, eq-eqb}
+use Rattle.std.proofs.lemmas.Result.{err_from_is_err_and}
+use Rattle.sheets.proofs.Walk.{close, stays, line_short, going_start, refused_last, refused_shape, refused_region, refused_end, stopped, told, turned, closed_end}
 use Rattle.sheets.proofs.read.Goals as goal
 
-pub loop-i-init : goal.loop-i-init
-loop-i-init c =
-    going_start c.args.image c.args.text.now _ (ap (replicate 64) c.nothing-regions.ensures)
-
-pub first_line-line-requires : goal.first_line-line-requires
-first_line-line-requires c = c.loop-i.invariant.within
-
-pub overflow_add-count : goal.overflow_add-count
-overflow_add-count c = omega (arith, c.loop-i.invariant.few)
+pub loop-from-init : goal.loop-from-init
+loop-from-init c = rw c.new-sheet.ensures (going_start c.args.image c.args.text.now)
 
 -- the text ends in the line
 pub returns-then-end-text : goal.returns-then-end-text
 returns-then-end-text c =
-    rw c.refused.ensures (refused_last c.loop-i.invariant c.first_line-line.ensures c.loop-i-test.true c.if-end-text.true)
-
-pub overflow_add-end : goal.overflow_add-end
-overflow_add-end c = omega (arith, line_short c.loop-i.invariant c.first_line-line.ensures, c.if-end-text.false)
+    rw c.regions.ensures.0 (refused_last c.loop-from.invariant c.first_line-line.ensures c.loop-from-test.true c.if-end-text.true)
 
 -- the empty line after an image's sheet
-pub returns-then-stops : goal.returns-then-stops
-returns-then-stops c =
-    rw c.closed.ensures
-    (stopped c.loop-i.invariant c.first_line-line.ensures c.if-end-text.false (sym c.stops.ensures ∙ c.if-stops.true))
+pub returns-in_err-sheet : goal.returns-in_err-sheet
+unfolding close
+returns-in_err-sheet c =
+    let p = err_from_is_err_and c.from_residual.result c.from_residual.ensures.1 in
+    let s = stopped c.loop-from.invariant c.first_line-line.ensures c.if-end-text.false (rw (c.if-image.true, eq-eqb _ _ c.if-from-end.true)) in
+    rw (p.1, p.2) (rw (sym c.ended.ensures ∙ c.in_err-sheet.was) at s)
 
-pub overflow_add-count-then-not-whole : goal.overflow_add-count-then-not-whole
-overflow_add-count-then-not-whole c = omega (arith, c.loop-i.invariant.few)
+pub returns-then-from-end : goal.returns-then-from-end
+unfolding close
+returns-then-from-end c =
+    let s = stopped c.loop-from.invariant c.first_line-line.ensures c.if-end-text.false (rw (c.if-image.true, eq-eqb _ _ c.if-from-end.true)) in
+    rw (sym c.ended.ensures ∙ c.in_ok-sheet.was) at s
 
 -- a line of another form
-pub returns-then-not-whole : goal.returns-then-not-whole
-returns-then-not-whole c =
-    rw c.refused-then-not-whole.ensures
-    (refused_shape c.loop-i.invariant c.first_line-line.ensures c.if-end-text.false
-    (sym c.stops.ensures ∙ c.if-stops.false)
-    (sym c.whole.ensures ∙ not-true c.whole.result c.if-not-whole.true-raw))
+pub region_in-requires : goal.region_in-requires
+region_in-requires c w =
+    let t = told c.loop-from.invariant c.first_line-line.ensures c.if-end-text.false w in
+    (t.0, t.1)
 
-pub region_in-r-requires : goal.region_in-r-requires
-region_in-r-requires c =
-    let t = told c.loop-i.invariant c.first_line-line.ensures c.if-end-text.false
-    (sym c.whole.ensures ∙ not-false c.whole.result c.if-not-whole.false-raw) in
-    (t.1, t.0)
-
-pub overflow_add-count-then-not-admits : goal.overflow_add-count-then-not-admits
-overflow_add-count-then-not-admits c = omega (arith, c.loop-i.invariant.few)
+pub returns-in_default : goal.returns-in_default
+returns-in_default c =
+    rw c.regions.ensures.0
+    (refused_shape c.loop-from.invariant c.first_line-line.ensures c.if-end-text.false (stays c.else-image.either) (sym c.region_in.ensures ∙ c.in_default.is))
 
 -- a region that may not follow
-pub returns-then-not-admits : goal.returns-then-not-admits
-returns-then-not-admits c =
-    rw c.refused-then-not-admits.ensures
-    (refused_region c.loop-i.invariant c.first_line-line.ensures c.if-end-text.false
-    (sym c.stops.ensures ∙ c.if-stops.false)
-    (sym c.whole.ensures ∙ not-false c.whole.result c.if-not-whole.false-raw) c.region_in-r.ensures
-    (sym c.admits.ensures ∙ not-true c.admits.result c.if-not-admits.true-raw))
+pub returns-then-not-admit : goal.returns-then-not-admit
+returns-then-not-admit c =
+    rw c.regions.ensures.0
+    (refused_region c.loop-from.invariant c.first_line-line.ensures c.if-end-text.false (stays c.else-image.either) (sym c.region_in.ensures ∙ c.in-Some.is)
+    (sym c.admit.ensures.taken_is ∙ c.if-not-admit.true))
 
-pub offset_bounds-regions-count : goal.offset_bounds-regions-count
-offset_bounds-regions-count c =
-    omega (arith, room c.loop-i.invariant c.region_in-r.result (sym c.admits.ensures ∙ not-false c.admits.result c.if-not-admits.false-raw))
+pub overflow_add-from : goal.overflow_add-from
+overflow_add-from c = omega (arith, line_short c.loop-from.invariant c.first_line-line.ensures, c.if-end-text.false)
 
-pub bounds-regions-count : goal.bounds-regions-count
-bounds-regions-count c =
-    omega (arith, room c.loop-i.invariant c.region_in-r.result (sym c.admits.ensures ∙ not-false c.admits.result c.if-not-admits.false-raw))
-
-pub overflow_add-count-in-loop-i : goal.overflow_add-count-in-loop-i
-overflow_add-count-in-loop-i c =
-    omega (arith, room c.loop-i.invariant c.region_in-r.result (sym c.admits.ensures ∙ not-false c.admits.result c.if-not-admits.false-raw))
-
-pub overflow_add-i : goal.overflow_add-i
-overflow_add-i c =
-    omega (arith, line_short c.loop-i.invariant c.first_line-line.ensures, c.if-end-text.false)
-
-pub loop-i-smaller : goal.loop-i-smaller
-loop-i-smaller c =
-    omega (arith, line_short c.loop-i.invariant c.first_line-line.ensures, c.if-end-text.false, c.first_line-line.ensures.end_is)
-
-pub loop-i-preserved : goal.loop-i-preserved
-loop-i-preserved c =
-    turned c.loop-i.invariant c.first_line-line.ensures c.if-end-text.false (sym c.stops.ensures ∙ c.if-stops.false)
-    (sym c.whole.ensures ∙ not-false c.whole.result c.if-not-whole.false-raw) c.region_in-r.ensures
-    (sym c.admits.ensures ∙ not-false c.admits.result c.if-not-admits.false-raw)
-
-pub overflow_add-count-then-image : goal.overflow_add-count-then-image
-overflow_add-count-then-image c = omega (arith, c.loop-i.invariant.few)
+pub loop-from-preserved : goal.loop-from-preserved
+loop-from-preserved c =
+    let a = sym c.admit.ensures.taken_is ∙ c.if-not-admit.false in
+    let g = turned c.loop-from.invariant c.first_line-line.ensures c.if-end-text.false (stays c.else-image.either) (sym c.region_in.ensures ∙ c.in-Some.is) a in
+    rw (c.admit.ensures.after_is, a) g
 
 -- the text's end at a line's start
-pub returns-then-image : goal.returns-then-image
-returns-then-image c =
-    rw c.refused-then-image.ensures (refused_end c.loop-i.invariant c.loop-i-test.false c.if-image.true)
+pub returns-then-image-2 : goal.returns-then-image-2
+returns-then-image-2 c = rw c.regions-then-image-2.ensures.0 (refused_end c.loop-from.invariant c.loop-from-test.false c.if-image-2.true)
+
+pub returns-in_err-sheet-2 : goal.returns-in_err-sheet-2
+unfolding close
+returns-in_err-sheet-2 c =
+    let p = err_from_is_err_and c.from_residual-in_err-sheet-2.result c.from_residual-in_err-sheet-2.ensures.1 in
+    let s = closed_end c.loop-from.invariant c.loop-from-test.false c.if-image-2.false in
+    rw (p.1, p.2) (rw (sym c.ended-2.ensures ∙ c.in_err-sheet-2.was) at s)
 
 pub returns : goal.returns
+unfolding close
 returns c =
-    rw c.closed-2.ensures (closed_end c.loop-i.invariant c.loop-i-test.false c.if-image.false)
+    let s = closed_end c.loop-from.invariant c.loop-from-test.false c.if-image-2.false in
+    rw (sym c.ended-2.ensures ∙ c.in_ok-sheet-2.was) at s

@@ -4,8 +4,8 @@ use lib.ListN.{length}
 use Rattle.sheets.proofs.Walk.{Going}
 use Rattle.sheets.proofs.read.Given as goal
 
-abbrev pub invariant-loop-i : goal.invariant-loop-i
-invariant-loop-i l = Going l.image l.text l.regions l.count l.i
+abbrev pub invariant-loop-from : goal.invariant-loop-from
+invariant-loop-from l = Going l.image l.text l.sheet l.from
 
-abbrev pub decreases-loop-i : goal.decreases-loop-i
-decreases-loop-i l = length l.text - l.i
+abbrev pub decreases-loop-from : goal.decreases-loop-from
+decreases-loop-from l = length l.text - l.from

@@ -1,13 +1,11 @@
 -- `first_line`: the loop keeps that what is left of the line leads where the whole line does. Assumes nothing.
 use mathlib.Core.Path.{◌≡◌}
-use Prim.Native.Nat.{◌+◌, ◌-◌, ◌≤◌}
+use Prim.Native.Nat.{◌+◌}
 use lib.ListN.{length, drop}
 use Rattle.sheets.specs.Scanning.{start_scan, line_read, first_line}
 use Rattle.sheets.proofs.scanning.first_line.Given as goal
 
 abbrev pub invariant-loop-i : goal.invariant-loop-i
-invariant-loop-i l = (l.i ≤ length l.text) × (line_read l.s (first_line (drop l.i l.text)) ≡ line_read start_scan (first_line (drop l.from l.text))) ×
-    (l.i + length (first_line (drop l.i l.text)) ≡ l.from + length (first_line (drop l.from l.text)))
-
-abbrev pub decreases-loop-i : goal.decreases-loop-i
-decreases-loop-i l = length l.text - l.i
+invariant-loop-i l =
+    let all = drop l.from l.text in
+    (line_read l.scan (first_line (drop l.i all)) ≡ line_read start_scan (first_line all)) × (l.i + length (first_line (drop l.i all)) ≡ length (first_line all))

@@ -1,36 +1,17 @@
--- `name_in`: the loop keeps that the name's first i letters are in their places, and zeros after them. Assumes nothing.
-use mathlib.Core.Path.{◌≡◌, refl}
-use native.Mathlib.Omega.{arith}
+-- `name_in`: the letters, and the zeros that stood after them. Assumes nothing.
+use Rattle.std.proofs.Common.{◌≡◌, ◌-◌, ◌+◌, ◌∙◌, ap, List, ◌++◌, arith, length, take, drop, ℕ, length-take, length-drop}
+use lib.ListN.{replicate}
+use Rattle.std.proofs.lemmas.List.{drop-replicate}
 use Rattle.sheets.specs.Scanning.{padded}
-use Rattle.sheets.proofs.Padding.{name_turn}
 use Rattle.sheets.proofs.scanning.name_in.Goals as goal
 
-pub loop-i-init : goal.loop-i-init
-unfolding padded
-loop-i-init c = (omega arith, refl)
-
-pub overflow_add-name : goal.overflow_add-name
-overflow_add-name c = omega arith
-
-pub bounds-text-at : goal.bounds-text-at
-bounds-text-at c = omega arith
-
-pub bounds-name-i : goal.bounds-name-i
-bounds-name-i c = omega arith
-
-pub overflow_add-i : goal.overflow_add-i
-overflow_add-i c = omega arith
-
-pub loop-i-smaller : goal.loop-i-smaller
-loop-i-smaller c = omega arith
-
-pub loop-i-preserved : goal.loop-i-preserved
-loop-i-preserved c =
-    let l = c.loop-i in
-    let a = c.args in
-    (omega arith, rw l.invariant.1 (name_turn a.text.now a.at l.i (omega arith) (omega arith)))
-
 pub returns : goal.returns
+unfolding padded
 returns c =
-    let e : c.loop-i.i ≡ c.args.n = omega arith in
-    rw e at c.loop-i.invariant.1
+    let a = c.args in
+    let l : List ℕ = take a.n (drop a.at a.text.now) in
+    let z : ℕ = 0 in
+    let n : a.at + a.n - a.at ≡ a.n = omega arith in
+    let m : length l ≡ a.n = simp (length-take, length-drop) (omega arith) in
+    let e : c.copy_from_slice.new.self ≡ l = rw n at c.copy_from_slice.ensures.after in
+    ap (λ (x : List ℕ). x ++ drop a.n (replicate 16 0)) e ∙ rw (drop-replicate a.n 16 z, m)
