@@ -1,34 +1,23 @@
 -- A sheet read into records of seven words in a lent buffer. Document 02, 7.
 -- Assumes nothing.
-use Rattle.std.specs.Prelude.{false, cond, List, ◌≡◌, ℕ, length}
+use Rattle.std.specs.Prelude.{false, cond, List, ◌≡◌, ℕ, length, Result, Ok, Err}
 use Rattle.text.specs.Writing.{fits_in, delivered}
-use Rattle.sheets.specs.Numbers.{bad_line, no_room}
+use Rattle.sheets.specs.Numbers.{bad_line, no_room, answer_number, answer_value}
 use Rattle.sheets.specs.Records.{sheet_words}
 use Rattle.sheets.specs.Scanning.{read_of}
 use Rattle.sheets.specs.Sheet.{Answer, sheet, bad}
-use Rattle.sheet_reader.specs.declared.ReadAnswer.{ReadAnswer}
-use Rattle.sheet_reader.specs.declared.ReadAnswer.TheVariants.{Records, Bad, NoRoom}
+use Rattle.sheets.specs.declared.SheetError.{SheetError}
+use Rattle.sheets.specs.declared.SheetError.TheVariants.{Bad, NoRoom}
 
 -- how many records; or the first bad line; or, judged last, too little room
-unfoldable pub read_answer : Answer → (buffer : List ℕ) → ReadAnswer
-read_answer (sheet rs rest) out = cond (fits_in (sheet_words rs) out) (Records (length rs)) NoRoom
-read_answer (bad n) out = Bad n
+unfoldable pub read_answer : Answer → (buffer : List ℕ) → Result ℕ SheetError
+read_answer (sheet rs rest) out = cond (fits_in (sheet_words rs) out) (Ok (length rs)) (Err NoRoom)
+read_answer (bad n) out = Err (Bad n)
 
 -- the buffer afterwards: the records and, after them, what was there; a refusal changes nothing
 unfoldable pub read_after : Answer → (buffer : List ℕ) → List ℕ
 read_after (sheet rs rest) out = delivered (sheet_words rs) out
 read_after (bad n) out = out
-
--- an answer's number and its value: how many records, or which line
-abbrev pub answer_number : ReadAnswer → ℕ
-answer_number (Records n) = 0
-answer_number (Bad n) = bad_line
-answer_number NoRoom = no_room
-
-abbrev pub answer_value : ReadAnswer → ℕ
-answer_value (Records n) = n
-answer_value (Bad n) = n
-answer_value NoRoom = 0
 
 -- both of what was read
 unfoldable pub number_of : Answer → (buffer : List ℕ) → ℕ
@@ -39,7 +28,7 @@ unfoldable pub value_of : Answer → (buffer : List ℕ) → ℕ
 value_of (sheet rs rest) out = cond (fits_in (sheet_words rs) out) (length rs) 0
 value_of (bad n) out = n
 
-pub record ReadsInto (text before after : List ℕ) (answer : ReadAnswer) : Type 0 where
+pub record ReadsInto (text before after : List ℕ) (answer : Result ℕ SheetError) : Type 0 where
   pub answer_is : answer ≡ read_answer (read_of false text) before
   pub number_is : answer_number answer ≡ number_of (read_of false text) before
   pub value_is : answer_value answer ≡ value_of (read_of false text) before

@@ -4,14 +4,13 @@ use mathlib.Core.Bool.{Bool, true, false, cond}
 use mathlib.Core.Path.{◌≡◌, refl, ap}
 use mathlib.Core.List.{List, [], ◌∷◌}
 use Prim.Native.Nat.{ℕ, suc, ◌+◌, ◌≤◌, ◌<◌}
-use lib.Dec.{eqb}
 use native.Mathlib.Numerals.{add-one}
 use native.Mathlib.Omega.{arith}
 use borrow.Author.Tests.{eq-eqb, ne_eqb}
 use lib.ListN.{length, get_or, take, drop, drop_of_length-le, length-take}
-use lib.Seq.{drop-cons, get_or-take}
+use lib.Seq.{drop-cons}
 use Rattle.std.specs.List.{prefix_len, take_while}
-use Rattle.sheets.specs.Sheet.{is_letter, letters_of, all_zero, same, clash, clashes}
+use Rattle.sheets.specs.Sheet.{is_letter, letters_of}
 use Rattle.text.specs.Writing.{newline}
 use Rattle.sheets.specs.Scanning.{first_line}
 use Rattle.sheets.specs.declared.Region.{Region}

@@ -1,6 +1,6 @@
 -- `region_in`: where the line may end, its name is there. Assumes nothing.
 use Rattle.std.proofs.Common.{◌≡◌, true, arith, rules}
-use Rattle.std.proofs.Common.{sym, ap, Some, drop-drop}
+use Rattle.std.proofs.Common.{drop-drop}
 use Rattle.sheets.specs.Scanning.{whole, region_told, region_in}
 use Rattle.sheets.proofs.scanning.region_in.Goals as goal
 

@@ -1,9 +1,0 @@
--- `put_word`: one store, or none where the buffer ends before. Assumes nothing.
-use Rattle.text.proofs.Putting.{puts_byte, puts_past}
-use Rattle.sheet_reader.proofs.put_word.Goals as goal
-
-pub returns-then-at-out : goal.returns-then-at-out
-returns-then-at-out c = puts_byte _ _ _ c.if-at-out.true
-
-pub returns-else-at-out : goal.returns-else-at-out
-returns-else-at-out c = puts_past _ _ _ c.if-at-out.false
