@@ -14,11 +14,15 @@ use Rattle.sheet_compare.specs.Compare as Compare
 use Rattle.sheet_compare.specs.Compare.{compare_answer, compare_after}
 use Rattle.sheet_compare.specs.declared.CompareError.{CompareError}
 
-unfoldable pub numbered : (number rest : ℕ) → ℕ
-numbered number rest = number * 2 ^ 48 + rest % 2 ^ 48
+-- a number and, in the places below it, the rest
+abbrev pub beside : (place number rest : ℕ) → ℕ
+beside place number rest = number * place + rest % place
+
+abbrev pub numbered : (number rest : ℕ) → ℕ
+numbered number rest = beside (2 ^ 48) number rest
 
 -- an answer's number and its value; those of a refusal are given, as its own crate has them
-unfoldable pub packed : {E : Type 0} (number line : E → ℕ) → Result ℕ E → ℕ
+abbrev pub packed : {E : Type 0} (number line : E → ℕ) → Result ℕ E → ℕ
 packed number line a = numbered (number_in number a) (value_in line a)
 
 abbrev pub read_number : Result ℕ SheetError → ℕ
@@ -31,8 +35,8 @@ abbrev pub compare_number : Result ℕ CompareError → ℕ
 compare_number a = packed Compare.error_number Compare.error_line a
 
 -- the image's number times 2 ^ 40, and where its payload begins
-unfoldable pub placed_at : (image place : ℕ) → ℕ
-placed_at image place = image * 2 ^ 40 + place % 2 ^ 40
+abbrev pub placed_at : (image place : ℕ) → ℕ
+placed_at image place = beside (2 ^ 40) image place
 
 -- from this number on no image is chosen: that with a bad sheet's line, or 0
 abbrev pub no_fit : ℕ

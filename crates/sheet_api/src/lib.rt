@@ -1,10 +1,10 @@
 // Map sheets and images for C: numbers and slices only.
 #![tactic(auto)]
 
-ghost use Rattle.std.specs.Prelude.{◌≡◌, ◌-◌, ◌≤◌, ◌<◌, ◌^◌};
+ghost use Rattle.std.specs.Prelude.{◌≡◌, ◌+◌, ◌-◌, ◌*◌, ◌≤◌, ◌<◌, ◌^◌};
 ghost use Rattle.fit.specs.Fit.{of_image};
 ghost use Rattle.sheet_api.specs.Numbers.{CompareNumbered, FitNumbered, ReadNumbered, WriteNumbered};
-ghost use Rattle.sheet_api.specs.Numbers.{numbered, packed, placed_at};
+ghost use Rattle.sheet_api.specs.Numbers.{beside, packed};
 
 use fit::Image;
 use sheets::Refusal;
@@ -14,22 +14,12 @@ pub const NUMBER_PLACE: u64 = 0x1_0000_0000_0000;
 
 pub const IMAGE_PLACE: u64 = 0x100_0000_0000;
 
-// number * 2^48 + rest.
-#[tactic(auto, unfolding(crate::specs::Numbers::numbered))]
-fn numbered(number: u64, rest: usize) -> u64
-    requires { number < 2 ^ 16 }
-    ensures { result ≡ numbered number rest }
+// number * PLACE + rest.
+fn beside<const PLACE: u64>(number: u64, rest: usize) -> u64
+    requires { (0 < PLACE) × (number * PLACE + PLACE ≤ 2 ^ 64) }
+    ensures { result ≡ beside PLACE number rest }
 {
-    number * NUMBER_PLACE + rest as u64 % NUMBER_PLACE
-}
-
-// image * 2^40 + the payload's place.
-#[tactic(auto, unfolding(crate::specs::Numbers::placed_at))]
-fn placed(image: u64, at: usize) -> u64
-    requires { image < 256 }
-    ensures { result ≡ placed_at image at }
-{
-    image * IMAGE_PLACE + at as u64 % IMAGE_PLACE
+    number * PLACE + rest as u64 % PLACE
 }
 
 // How much was answered; or a refusal's number and its line.
@@ -37,8 +27,8 @@ fn packed<E: Refusal>(answer: Result<usize, E>) -> u64
     ensures { result ≡ packed E.number E.line answer }
 {
     match answer {
-        Ok(n) => numbered(0, n),
-        Err(e) => numbered(e.number(), e.line()),
+        Ok(n) => beside::<NUMBER_PLACE>(0, n),
+        Err(e) => beside::<NUMBER_PLACE>(e.number(), e.line()),
     }
 }
 
@@ -83,10 +73,10 @@ pub extern "C" fn oddersnow_fit<'a>(board: &[u8], first: &'a [u8], second: &'a [
     ensures { FitNumbered board.now first.now second.now result }
 {
     match fit::fit(board, first, second) {
-        Ok(f) => placed(
+        Ok(f) => beside::<IMAGE_PLACE>(
             f.image.number(),
             place_of(f.image, first.len(), second.len(), f.payload.len()),
         ),
-        Err(e) => numbered(e.number(), e.line()),
+        Err(e) => beside::<NUMBER_PLACE>(e.number(), e.line()),
     }
 }
