@@ -7,7 +7,7 @@ use Prim.Native.Nat.{ℕ, ◌-◌, ◌≤◌}
 use native.Mathlib.Omega.{arith}
 use lib.Dec.{eqb}
 use lib.ListN.{length, take, drop, length-append, length-drop}
-use lib.Seq.{drop_at}
+use lib.Seq.{drop_at, take_all}
 use Rattle.sheets.specs.Sheet.{Answer, sheet, bad, IsSheet, ending, sheet_text}
 use Rattle.sheets.specs.Scanning.{read_of, Reads}
 use Rattle.sheets.specs.declared.Reading.{Reading}
@@ -18,52 +18,55 @@ use Rattle.sheets.proofs.Readings.{said_bad, said_sheet}
 use Rattle.text.specs.Writing.{newline}
 use Rattle.fit.specs.Fit.{fits, Outcome, first, second, neither, bad_board, bad_first, bad_second, chosen, or_bad, regions_of, rest_of, judged, outcome}
 use Rattle.fit.specs.Fit.{payload_of, choice_of, part_of, verdict_of, place_of, Handed}
-use Rattle.fit.specs.declared.Choice.{Choice}
-use Rattle.fit.specs.declared.Choice.TheVariants.{First, Second, Neither, BadBoard, BadFirst, BadSecond}
+use Rattle.fit.specs.Fit.{line_of, Choice, chosen_at, of_image, image_number, refusal_number, part_in, number_in, line_in}
+use Rattle.fit.specs.declared.Fitting.{Fitting}
+use Rattle.fit.specs.declared.Image.{Image}
+use Rattle.fit.specs.declared.Image.TheVariants.{First, Second}
+use Rattle.fit.specs.declared.NoFit.{NoFit}
+use Rattle.fit.specs.declared.NoFit.TheVariants.{Neither, BadBoard, BadFirst, BadSecond}
+use Rattle.sheets.specs.declared.BadLine.{BadLine}
+use Rattle.std.specs.Prelude.{Result, Ok, Err}
 
-abbrev Regioned : Reading → List Region
-Regioned r = take r.count r.regions
+module _ {image : Bool} {text : List ℕ} where
+  is_bad : {e : BadLine} → Reads image text (Err e) → read_of image text ≡ bad e.line
+  is_bad {e} k = said_bad text e k.answer_is
 
-module _ {image : Bool} {text : List ℕ} {r : Reading} (k : Reads image text r) where
-  is_bad : (r.bad ≡ 0 → ⊥) → read_of image text ≡ bad r.bad
-  is_bad e = said_bad text r k.answer_is e
+  is_sheet : {r : Reading} → Reads image text (Ok r) → read_of image text ≡ sheet r.sheet (drop r.end text)
+  is_sheet {r} k = said_sheet text r k.answer_is
 
-  is_sheet : r.bad ≡ 0 → read_of image text ≡ sheet (Regioned r) (drop r.end text)
-  is_sheet e = said_sheet text r k.answer_is e
+  place_is : {r : Reading} → Reads image text (Ok r) → r.end ≡ length text - length (drop r.end text)
+  place_is {r} k = omega (arith, length-drop r.end text, k.fits.1)
 
-  place_is : r.end ≡ length text - length (drop r.end text)
-  place_is = omega (arith, length-drop r.end text, k.end_fits)
-
-module _ (board one two : List ℕ) {b : Reading} (kb : Reads false board b) where
-  abbrev Says-it : Choice → Type 0
+module _ (board one two : List ℕ) where
+  abbrev Says-it : Result Choice NoFit → Type 0
   Says-it c = c ≡ choice_of one two (outcome board one two)
 
-  pub bad_board_lem : (b.bad ≡ 0 → ⊥) → Says-it (BadBoard b.bad)
+  pub bad_board_lem : {e : BadLine} → Reads false board (Err e) → Says-it (Err (BadBoard e.line))
   unfolding outcome judged or_bad regions_of rest_of choice_of
-  bad_board_lem e = rw (is_bad kb e)
+  bad_board_lem k = rw (is_bad k)
 
-  module _ {f : Reading} (eb : b.bad ≡ 0) (kf : Reads true one f) where
-    pub bad_first_lem : (f.bad ≡ 0 → ⊥) → Says-it (BadFirst f.bad)
+  module _ {b : Reading} (kb : Reads false board (Ok b)) where
+    pub bad_first_lem : {e : BadLine} → Reads true one (Err e) → Says-it (Err (BadFirst e.line))
     unfolding outcome judged or_bad regions_of rest_of choice_of
-    bad_first_lem e = rw (is_sheet kb eb, is_bad kf e)
+    bad_first_lem k = rw (is_sheet kb, is_bad k)
 
-    module _ {s : Reading} (ef : f.bad ≡ 0) (ks : Reads true two s) where
-      pub bad_second_lem : (s.bad ≡ 0 → ⊥) → Says-it (BadSecond s.bad)
+    module _ {f : Reading} (kf : Reads true one (Ok f)) where
+      pub bad_second_lem : {e : BadLine} → Reads true two (Err e) → Says-it (Err (BadSecond e.line))
       unfolding outcome judged or_bad regions_of rest_of choice_of
-      bad_second_lem e = rw (is_sheet kb eb, is_sheet kf ef, is_bad ks e)
+      bad_second_lem k = rw (is_sheet kb, is_sheet kf, is_bad k)
 
-      module _ (es : s.bad ≡ 0) where
-        pub first_fits : fits (Regioned b) (Regioned f) ≡ true → Says-it (First f.end)
+      module _ {s : Reading} (ks : Reads true two (Ok s)) where
+        pub first_fits : fits b.sheet f.sheet ≡ true → Says-it (Ok (chosen_at First f.end))
         unfolding outcome judged or_bad regions_of rest_of choice_of chosen
-        first_fits t = rw (is_sheet kb eb, is_sheet kf ef, is_sheet ks es, t) (ap First (place_is kf))
+        first_fits t = rw (is_sheet kb, is_sheet kf, is_sheet ks, t) (ap (λ n. Ok (chosen_at First n)) (place_is kf))
 
-        pub second_fits : fits (Regioned b) (Regioned f) ≡ false → fits (Regioned b) (Regioned s) ≡ true → Says-it (Second s.end)
+        pub second_fits : fits b.sheet f.sheet ≡ false → fits b.sheet s.sheet ≡ true → Says-it (Ok (chosen_at Second s.end))
         unfolding outcome judged or_bad regions_of rest_of choice_of chosen
-        second_fits t u = rw (is_sheet kb eb, is_sheet kf ef, is_sheet ks es, t, u) (ap Second (place_is ks))
+        second_fits t u = rw (is_sheet kb, is_sheet kf, is_sheet ks, t, u) (ap (λ n. Ok (chosen_at Second n)) (place_is ks))
 
-        pub neither_fits : fits (Regioned b) (Regioned f) ≡ false → fits (Regioned b) (Regioned s) ≡ false → Says-it Neither
+        pub neither_fits : fits b.sheet f.sheet ≡ false → fits b.sheet s.sheet ≡ false → Says-it (Err Neither)
         unfolding outcome judged or_bad regions_of rest_of choice_of chosen
-        neither_fits t u = rw (is_sheet kb eb, is_sheet kf ef, is_sheet ks es, t, u)
+        neither_fits t u = rw (is_sheet kb, is_sheet kf, is_sheet ks, t, u)
 
 -- a payload is the end of its image
 payload_end : (image : List ℕ) (rs : List Region) (p : List ℕ) → read_of true image ≡ sheet rs p → drop (length image - length p) image ≡ p
@@ -100,6 +103,25 @@ part_payload board one two = go (read_of false board) (read_of true one) refl (r
     go (sheet b x) (sheet f p) e (bad n) k = refl
     go (sheet b x) (sheet f p) e (sheet s q) k = pick (fits b f) (fits b s) p q (payload_end one f p e) (payload_end two s q k)
 
+-- so what a choice names is handed back: a payload, and a refusal
+module _ (board one two : List ℕ) where
+  handed : {c : Result Choice NoFit} → Says-it board one two c → Handed board one two (part_of one two c) (verdict_of c) (line_of c)
+  handed e = record { part_is = rw e (part_payload board one two); number_is = ap verdict_of e; line_is = ap line_of e }
+
+  pub hands : {c : Choice} {part : List ℕ} → part ≡ drop c.at (of_image c.image one two) → Says-it board one two (Ok c)
+      → Handed board one two part (image_number c.image) 0
+  unfolding part_of verdict_of line_of
+  hands p e = rw p (handed e)
+
+  pub refuses : {r : Result Fitting NoFit} {e : NoFit} → r ≡ Err e → Says-it board one two (Err e)
+      → Handed board one two (part_in r) (number_in r) (line_in r)
+  unfolding part_of verdict_of line_of
+  refuses p e = rw p (handed e)
+
+-- all of a text from an index on
+pub rest_all : (l : List ℕ) (a : ℕ) → take (length l - a) (drop a l) ≡ drop a l
+rest_all l a = take_all (length l - a) (drop a l) (rw (length-drop a l) (omega arith))
+
 -- so it is no longer than its image
 pub part_fits : {board one two part : List ℕ} {number line : ℕ} → Handed board one two part number line
     → (number ≡ 1 → length part ≤ length one) × (number ≡ 2 → length part ≤ length two)
@@ -131,14 +153,17 @@ part_place {board} {one} {two} h = rw (h.number_is, h.part_is) (go (outcome boar
     go (bad_second n) = refl
 
 -- and no number is larger than 19
-verdict_le : (c : Choice) → verdict_of c ≤ 19
+verdict_le : (c : Result Choice NoFit) → verdict_of c ≤ 19
 unfolding verdict_of
-verdict_le (First at) = omega arith
-verdict_le (Second at) = omega arith
-verdict_le Neither = omega arith
-verdict_le (BadBoard n) = omega arith
-verdict_le (BadFirst n) = omega arith
-verdict_le (BadSecond n) = omega arith
+verdict_le (Ok c) = go c.image
+  where
+    go : (i : Image) → image_number i ≤ 19
+    go First = omega arith
+    go Second = omega arith
+verdict_le (Err Neither) = omega arith
+verdict_le (Err (BadBoard n)) = omega arith
+verdict_le (Err (BadFirst n)) = omega arith
+verdict_le (Err (BadSecond n)) = omega arith
 
 pub number_le : {board one two part : List ℕ} {number line : ℕ} → Handed board one two part number line → number ≤ 19
 number_le {board} {one} {two} h = omega (arith, h.number_is, verdict_le (choice_of one two (outcome board one two)))

@@ -1,4 +1,3 @@
--- Regions as the code walks them: Lists. What fits stays inside: Inside. Which image is chosen: Choosing.
-pub mod Lists
+-- What fits stays inside: Inside. Which image is chosen: Choosing.
 pub mod Inside
 pub mod Choosing

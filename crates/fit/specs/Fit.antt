@@ -1,12 +1,17 @@
 -- Two images and one board: which image fits, and its payload. Document 02, 12.
 -- Assumes nothing.
-use Rattle.std.specs.Prelude.{Bool, true, false, cond, ◌&&◌, ◌||◌, List, [], ◌∷◌, ◌≡◌, ℕ, ◌+◌, ◌-◌, leb, eqb, length, drop}
+use native.Mathlib.Omega.{arith}
+use Rattle.std.specs.Prelude.{Bool, true, false, cond, ◌&&◌, ◌||◌, List, [], ◌∷◌, ◌≡◌, ℕ, ◌+◌, ◌-◌, ◌^◌, ◌<◌, leb, eqb, length, drop, Result, Ok, Err}
 use Rattle.std.specs.Int.Bits.{bit_and}
+use Rattle.std.specs.List.{list_any, list_all}
 use Rattle.sheets.specs.Scanning.{read_of}
 use Rattle.sheets.specs.Sheet.{Answer, sheet, bad}
 use Rattle.sheets.specs.declared.Region.{Region}
-use Rattle.fit.specs.declared.Choice.{Choice}
-use Rattle.fit.specs.declared.Choice.TheVariants.{First, Second, Neither, BadBoard, BadFirst, BadSecond}
+use Rattle.fit.specs.declared.Fitting.{Fitting}
+use Rattle.fit.specs.declared.Image.{Image}
+use Rattle.fit.specs.declared.Image.TheVariants.{First, Second}
+use Rattle.fit.specs.declared.NoFit.{NoFit}
+use Rattle.fit.specs.declared.NoFit.TheVariants.{Neither, BadBoard, BadFirst, BadSecond}
 
 -- region r lies in the board's region b, which has its rights
 unfoldable pub within : (r b : Region) → Bool
@@ -14,13 +19,11 @@ within r b = leb b.start r.start && (leb (r.start + r.size) (b.start + b.size) &
 
 -- in one of the board's regions
 unfoldable pub held : (r : Region) (board : List Region) → Bool
-held r [] = false
-held r (b ∷ board) = within r b || held r board
+held r board = list_any (within r) board
 
 -- each of the image's regions
 unfoldable pub fits : (board image : List Region) → Bool
-fits board [] = true
-fits board (r ∷ image) = held r board && fits board image
+fits board image = list_all (λ r. held r board) image
 
 -- What comes of two images and a board: the payload of the one that fits, or why there is none.
 pub data Outcome : Type 0 where
@@ -67,53 +70,82 @@ payload_of (bad_board n) = []
 payload_of (bad_first n) = []
 payload_of (bad_second n) = []
 
--- the code's answer says where the payload begins in its image; it runs to the image's end
-unfoldable pub choice_of : (image image2 : List ℕ) → Outcome → Choice
-choice_of image image2 (first p) = First (length image - length p)
-choice_of image image2 (second p) = Second (length image2 - length p)
-choice_of image image2 neither = Neither
-choice_of image image2 (bad_board n) = BadBoard n
-choice_of image image2 (bad_first n) = BadFirst n
-choice_of image image2 (bad_second n) = BadSecond n
+-- the image that is chosen, and where its payload begins; it runs to the image's end
+pub record Choice : Type 0 where
+  pub image : Image
+  pub at : ℕ
+
+abbrev pub chosen_at : Image → (place : ℕ) → Choice
+chosen_at image place = record { image = image; at = place }
+
+unfoldable pub choice_of : (image image2 : List ℕ) → Outcome → Result Choice NoFit
+choice_of image image2 (first p) = Ok (chosen_at First (length image - length p))
+choice_of image image2 (second p) = Ok (chosen_at Second (length image2 - length p))
+choice_of image image2 neither = Err Neither
+choice_of image image2 (bad_board n) = Err (BadBoard n)
+choice_of image image2 (bad_first n) = Err (BadFirst n)
+choice_of image image2 (bad_second n) = Err (BadSecond n)
 
 -- the part that a choice names, of any images
-unfoldable pub part_of : (image image2 : List ℕ) → Choice → List ℕ
-part_of image image2 (First at) = drop at image
-part_of image image2 (Second at) = drop at image2
-part_of image image2 Neither = []
-part_of image image2 (BadBoard n) = []
-part_of image image2 (BadFirst n) = []
-part_of image image2 (BadSecond n) = []
+abbrev pub of_image : {A : Type 0} → Image → (x x2 : A) → A
+of_image First x x2 = x
+of_image Second x x2 = x2
 
--- a choice's number and values. The number is the image's, 1 or 2, or why there is none: 16 neither fits, 17 to 19 a bad sheet, the board's, the first
--- image's, the second's
-unfoldable pub verdict_of : Choice → ℕ
-verdict_of (First at) = 1
-verdict_of (Second at) = 2
-verdict_of Neither = 16
-verdict_of (BadBoard n) = 17
-verdict_of (BadFirst n) = 18
-verdict_of (BadSecond n) = 19
+unfoldable pub part_of : (image image2 : List ℕ) → Result Choice NoFit → List ℕ
+part_of image image2 (Ok c) = drop c.at (of_image c.image image image2)
+part_of image image2 (Err e) = []
 
--- the payload's place in its image, 0 where there is none
-unfoldable pub place_of : Choice → ℕ
-place_of (First at) = at
-place_of (Second at) = at
-place_of Neither = 0
-place_of (BadBoard n) = 0
-place_of (BadFirst n) = 0
-place_of (BadSecond n) = 0
+-- an image's number; and that of a refusal: 16 neither fits, 17 to 19 a bad sheet, the board's, the first image's, the second's
+abbrev pub image_number : Image → ℕ
+image_number First = 1
+image_number Second = 2
+
+abbrev pub refusal_number : NoFit → ℕ
+refusal_number Neither = 16
+refusal_number (BadBoard n) = 17
+refusal_number (BadFirst n) = 18
+refusal_number (BadSecond n) = 19
 
 -- the first bad line, 0 where no sheet is bad
-unfoldable pub line_of : Choice → ℕ
-line_of (First at) = 0
-line_of (Second at) = 0
-line_of Neither = 0
-line_of (BadBoard n) = n
-line_of (BadFirst n) = n
-line_of (BadSecond n) = n
+abbrev pub refusal_line : NoFit → ℕ
+refusal_line Neither = 0
+refusal_line (BadBoard n) = n
+refusal_line (BadFirst n) = n
+refusal_line (BadSecond n) = n
 
--- what is handed back: the part, the number and a bad sheet's line
+-- the number leaves room for the line beside it
+pub refusal_fits : (e : NoFit) → refusal_number e < 2 ^ 16
+refusal_fits Neither = omega arith
+refusal_fits (BadBoard n) = omega arith
+refusal_fits (BadFirst n) = omega arith
+refusal_fits (BadSecond n) = omega arith
+
+-- a choice's number and values: the payload's place in its image, and the first bad line, 0 where there is none
+unfoldable pub verdict_of : Result Choice NoFit → ℕ
+verdict_of (Ok c) = image_number c.image
+verdict_of (Err e) = refusal_number e
+
+unfoldable pub place_of : Result Choice NoFit → ℕ
+place_of (Ok c) = c.at
+place_of (Err e) = 0
+
+unfoldable pub line_of : Result Choice NoFit → ℕ
+line_of (Ok c) = 0
+line_of (Err e) = refusal_line e
+
+-- what an answer hands back: the part, empty where there is none, the number and a bad sheet's line
+abbrev pub part_in : Result Fitting NoFit → List ℕ
+part_in (Ok f) = f.payload.now
+part_in (Err e) = []
+
+abbrev pub number_in : Result Fitting NoFit → ℕ
+number_in (Ok f) = image_number f.image
+number_in (Err e) = refusal_number e
+
+abbrev pub line_in : Result Fitting NoFit → ℕ
+line_in (Ok f) = 0
+line_in (Err e) = refusal_line e
+
 pub record Handed (board image image2 part : List ℕ) (number line : ℕ) : Type 0 where
   pub part_is : part ≡ payload_of (outcome board image image2)
   pub number_is : number ≡ verdict_of (choice_of image image2 (outcome board image image2))

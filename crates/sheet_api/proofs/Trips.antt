@@ -14,49 +14,38 @@ use Rattle.sheets.specs.Records.{sheet_words, AreRecords, judged}
 use Rattle.sheets.specs.Scanning.{read_of}
 use Rattle.sheets.specs.Sheet.{sheet_text, Answer, sheet, bad, IsSheet}
 use Rattle.sheets.specs.declared.Region.{Region}
+use Rattle.sheets.specs.declared.SheetError.{SheetError}
+use Rattle.sheets.specs.declared.SheetError.TheVariants.{Bad, NoRoom}
+use Rattle.std.specs.Prelude.{Result, Ok, Err}
 use Rattle.sheets.proofs.Answers.{read_says}
 use Rattle.sheets.proofs.Records.{judged_says, records_judged}
 use Rattle.sheets.proofs.Trips.{read_writes, written_reads}
 use Rattle.sheets.proofs.Words.{words_length}
 use Rattle.sheet_reader.specs.Words.{read_answer, read_after}
-use Rattle.sheet_reader.specs.declared.ReadAnswer.{ReadAnswer}
 use Rattle.sheet_writer.specs.Writing.{write_answer, write_after}
-use Rattle.sheet_writer.specs.declared.WriteAnswer.{WriteAnswer}
 use Rattle.sheet_api.specs.Trips.{ReadThenWritten, WrittenThenRead}
 
 absurd_of : {A : Type 0} → ◌≡◌ {A = ℕ} 0 1 → A
 absurd_of e = absurd (omega arith)
 
--- what an answer that is no refusal tells
-read_tells : {count : ℕ} (rs : List Region) (buffer : List ℕ)
-    → ReadAnswer.Records count ≡ cond (fits_in (sheet_words rs) buffer) (ReadAnswer.Records (length rs)) ReadAnswer.NoRoom
-    → (count ≡ length rs) × (length (sheet_words rs) ≤ length buffer)
-read_tells {count} rs buffer e = go (fits_in (sheet_words rs) buffer) refl e
+-- what an answer that is no refusal tells: so much was counted, and it had room
+tells : {count n : ℕ} {A : Type 0} (e : SheetError) (l buffer : List A)
+    → ◌≡◌ {A = Result ℕ SheetError} (Ok count) (cond (leb (length l) (length buffer)) (Ok n) (Err e)) → (count ≡ n) × (length l ≤ length buffer)
+tells {count} {n} e l buffer k = go (leb (length l) (length buffer)) refl k
   where
-    go : (t : Bool) → leb (length (sheet_words rs)) (length buffer) ≡ t → ReadAnswer.Records count ≡ cond t (ReadAnswer.Records (length rs)) ReadAnswer.NoRoom
-        → (count ≡ length rs) × (length (sheet_words rs) ≤ length buffer)
-    go true f k = (cc, leb-true (length (sheet_words rs)) (length buffer) f)
-    go false f k = absurd_of cc
-
-write_tells : {count : ℕ} (rs : List Region) (buffer : List ℕ)
-    → WriteAnswer.Written count ≡ cond (fits_in (sheet_text rs) buffer) (WriteAnswer.Written (length (sheet_text rs))) WriteAnswer.NoRoom
-    → (count ≡ length (sheet_text rs)) × (length (sheet_text rs) ≤ length buffer)
-write_tells {count} rs buffer e = go (fits_in (sheet_text rs) buffer) refl e
-  where
-    go : (t : Bool) → leb (length (sheet_text rs)) (length buffer) ≡ t
-        → WriteAnswer.Written count ≡ cond t (WriteAnswer.Written (length (sheet_text rs))) WriteAnswer.NoRoom
-        → (count ≡ length (sheet_text rs)) × (length (sheet_text rs) ≤ length buffer)
-    go true f k = (cc, leb-true (length (sheet_text rs)) (length buffer) f)
-    go false f k = absurd_of cc
+    go : (t : Bool) → leb (length l) (length buffer) ≡ t → ◌≡◌ {A = Result ℕ SheetError} (Ok count) (cond t (Ok n) (Err e))
+        → (count ≡ n) × (length l ≤ length buffer)
+    go true f h = (cc, leb-true (length l) (length buffer) f)
+    go false f h = absurd_of cc
 
 pub read_then_written : ReadThenWritten
 unfolding read_answer read_after write_answer write_after
 read_then_written text buffer words out after count answer r w room = go (read_of false text) refl
   where
-    go : (x : Answer) → read_of false text ≡ x → (answer ≡ WriteAnswer.Written (length text)) × (take (length text) after ≡ text)
-    go (bad n) e = absurd_of (let k : ReadAnswer.Records count ≡ ReadAnswer.Bad n = rw e at r.answer_is in cc)
+    go : (x : Answer) → read_of false text ≡ x → (answer ≡ Ok (length text)) × (take (length text) after ≡ text)
+    go (bad n) e = absurd_of (let k : ◌≡◌ {A = Result ℕ SheetError} (Ok count) (Err (Bad n)) = rw e at r.answer_is in cc)
     go (sheet rs rest) e =
-        let k = read_tells rs buffer (rw e at r.answer_is) in
+        let k = tells _ (sheet_words rs) buffer (rw e at r.answer_is) in
         let s : IsSheet false text rs rest = rw e at (read_says false text) in
         let n : count * 7 ≡ length (sheet_words rs) = omega (arith, words_length rs, k.0) in
         let d : words ≡ delivered (sheet_words rs) buffer = rw e at r.after_is in
@@ -74,10 +63,10 @@ pub written_then_read : WrittenThenRead
 unfolding read_answer read_after write_answer write_after
 written_then_read words buffer text out after count answer all w r room = go (judged words) refl
   where
-    go : (x : Answer) → judged words ≡ x → (answer ≡ ReadAnswer.Records (length words / 7)) × (take (length words) after ≡ words)
-    go (bad n) e = absurd_of (let k : WriteAnswer.Written count ≡ WriteAnswer.Bad n = rw e at w.answer_is in cc)
+    go : (x : Answer) → judged words ≡ x → (answer ≡ Ok (length words / 7)) × (take (length words) after ≡ words)
+    go (bad n) e = absurd_of (let k : ◌≡◌ {A = Result ℕ SheetError} (Ok count) (Err (Bad n)) = rw e at w.answer_is in cc)
     go (sheet rs rest) e =
-        let k = write_tells rs buffer (rw e at w.answer_is) in
+        let k = tells _ (sheet_text rs) buffer (rw e at w.answer_is) in
         let s : AreRecords words rs = rw e at (judged_says words all) in
         let d : text ≡ delivered (sheet_text rs) buffer = rw e at w.after_is in
         let t : take count text ≡ sheet_text rs = rw (k.0, d) (delivered_take (sheet_text rs) buffer k.1) in

@@ -1,37 +1,42 @@
 -- The answers about sheets as one number for C: what it is, times 2 ^ 48, and the rest, which is never so large that anything is cut off: a line at most
 -- 65 (`bad_line_le`, `bad_record_le`), a sheet at most 2,944 bytes (`sheet_le`), a list at most 2,176 (`list_le`).
 -- Assumes nothing.
-use Rattle.std.specs.Prelude.{false, cond, List, ◌≡◌, ℕ, ◌+◌, ◌*◌, ◌%◌, ◌^◌, ltb}
-use Rattle.fit.specs.Fit.{choice_of, line_of, outcome, place_of, verdict_of}
-use Rattle.fit.specs.declared.Choice.{Choice}
+use Rattle.std.specs.Prelude.{false, cond, List, ◌≡◌, ℕ, ◌+◌, ◌*◌, ◌%◌, ◌^◌, ltb, Result}
+use Rattle.fit.specs.Fit.{Choice, choice_of, line_of, outcome, place_of, verdict_of}
+use Rattle.fit.specs.declared.NoFit.{NoFit}
+use Rattle.sheets.specs.Numbers.{error_number, error_line, number_in, value_in}
 use Rattle.sheets.specs.Records.{judged}
 use Rattle.sheets.specs.Scanning.{read_of}
-use Rattle.sheet_reader.specs.Words as Reader
+use Rattle.sheets.specs.declared.SheetError.{SheetError}
 use Rattle.sheet_reader.specs.Words.{read_answer, read_after}
-use Rattle.sheet_reader.specs.declared.ReadAnswer.{ReadAnswer}
-use Rattle.sheet_writer.specs.Writing as Writer
 use Rattle.sheet_writer.specs.Writing.{write_answer, write_after}
-use Rattle.sheet_writer.specs.declared.WriteAnswer.{WriteAnswer}
 use Rattle.sheet_compare.specs.Compare as Compare
 use Rattle.sheet_compare.specs.Compare.{compare_answer, compare_after}
-use Rattle.sheet_compare.specs.declared.CompareAnswer.{CompareAnswer}
+use Rattle.sheet_compare.specs.declared.CompareError.{CompareError}
 
-unfoldable pub numbered : (number rest : ℕ) → ℕ
-numbered number rest = number * 2 ^ 48 + rest % 2 ^ 48
+-- a number and, in the places below it, the rest
+abbrev pub beside : (place number rest : ℕ) → ℕ
+beside place number rest = number * place + rest % place
 
--- the answer's number, as its own crate has it, and its value
-unfoldable pub read_number : ReadAnswer → ℕ
-read_number a = numbered (Reader.answer_number a) (Reader.answer_value a)
+abbrev pub numbered : (number rest : ℕ) → ℕ
+numbered number rest = beside (2 ^ 48) number rest
 
-unfoldable pub write_number : WriteAnswer → ℕ
-write_number a = numbered (Writer.answer_number a) (Writer.answer_value a)
+-- an answer's number and its value; those of a refusal are given, as its own crate has them
+abbrev pub packed : {E : Type 0} (number line : E → ℕ) → Result ℕ E → ℕ
+packed number line a = numbered (number_in number a) (value_in line a)
 
-unfoldable pub compare_number : CompareAnswer → ℕ
-compare_number a = numbered (Compare.answer_number a) (Compare.answer_value a)
+abbrev pub read_number : Result ℕ SheetError → ℕ
+read_number a = packed error_number error_line a
+
+abbrev pub write_number : Result ℕ SheetError → ℕ
+write_number a = packed error_number error_line a
+
+abbrev pub compare_number : Result ℕ CompareError → ℕ
+compare_number a = packed Compare.error_number Compare.error_line a
 
 -- the image's number times 2 ^ 40, and where its payload begins
-unfoldable pub placed_at : (image place : ℕ) → ℕ
-placed_at image place = image * 2 ^ 40 + place % 2 ^ 40
+abbrev pub placed_at : (image place : ℕ) → ℕ
+placed_at image place = beside (2 ^ 40) image place
 
 -- from this number on no image is chosen: that with a bad sheet's line, or 0
 abbrev pub no_fit : ℕ
@@ -40,7 +45,7 @@ no_fit = 16
 unfoldable pub fit_packed : (number place line : ℕ) → ℕ
 fit_packed number place line = cond (ltb number no_fit) (placed_at number place) (numbered number line)
 
-unfoldable pub fit_number : Choice → ℕ
+unfoldable pub fit_number : Result Choice NoFit → ℕ
 fit_number c = fit_packed (verdict_of c) (place_of c) (line_of c)
 
 -- what the functions for C promise: the number, and the lent output as it is left

@@ -11,7 +11,9 @@ use Rattle.sheets.specs.Scanning.{no_name}
 use Rattle.sheets.specs.declared.Region.{Region}
 use Rattle.sheet_compare.specs.Compare.{less, next_name, names_after, differing}
 use Rattle.sheet_compare.specs.Lists.{In, here, there, odd, Differs, After, done, next, Once, empty, new, ListsNames}
-use Rattle.sheet_compare.proofs.Order.{less_self, less_trans, less_total, next_sound, next_least}
+use Rattle.std.specs.Prelude.{Option}
+use Rattle.std.specs.Option.{option_map_or}
+use Rattle.sheet_compare.proofs.Order.{less_self, less_trans, less_total, Least, least, Sound, none, some, next_sound, next_least}
 use Rattle.sheet_compare.proofs.Standing.{clash_of}
 
 -- what is listed after a name comes after it, and so no name is listed twice
@@ -91,47 +93,41 @@ module _ (a b : List Region) (long : (r : Region) → In r a ⊎ In r b → leng
   after_all : (k : ℕ) (last : List ℕ) → After last (names_after k last a b)
   unfolding names_after
   after_all zero last = done
-  after_all (suc k) last = go (next_name last a b).found refl (after_all k (next_name last a b).name)
+  after_all (suc k) last = go (next_sound last a b) (λ n. after_all k n)
     where
-      go : (t : Bool) → (next_name last a b).found ≡ t → After (next_name last a b).name (names_after k (next_name last a b).name a b)
-          → After last (cond t ((next_name last a b).name ∷ names_after k (next_name last a b).name a b) [])
-      go true e r = next ((next_sound last a b).after e) r
-      go false e r = done
+      go : {p : Option (List ℕ)} → Sound last a (Differs a b) p → ((n : List ℕ) → After n (names_after k n a b))
+          → After last (option_map_or (λ n. n ∷ names_after k n a b) p [])
+      go none r = done
+      go (some {n = n} h d) r = next h (r n)
 
   sound_all : (k : ℕ) (last n : List ℕ) → In n (names_after k last a b) → Differs a b n
   unfolding names_after
   sound_all zero last n i = elim i [ ]
-  sound_all (suc k) last n i = go (next_name last a b).found refl i (sound_all k (next_name last a b).name n)
+  sound_all (suc k) last n i = go (next_sound last a b) i (λ m. sound_all k m n)
     where
-      it : List ℕ
-      it = (next_name last a b).name
-
       one : (x : List ℕ) → Differs a b x → (l : List (List ℕ)) → In n (x ∷ l) → (In n l → Differs a b n) → Differs a b n
       one x d l here r = d
       one x d l (there i) r = r i
 
-      go : (t : Bool) → (next_name last a b).found ≡ t → In n (cond t (it ∷ names_after k it a b) []) → (In n (names_after k it a b) → Differs a b n)
-          → Differs a b n
-      go true e i r = one it ((next_sound last a b).proper e) (names_after k it a b) i r
-      go false e i r = elim i [ ]
+      go : {p : Option (List ℕ)} → Sound last a (Differs a b) p → In n (option_map_or (λ m. m ∷ names_after k m a b) p [])
+          → ((m : List ℕ) → In n (names_after k m a b) → Differs a b n) → Differs a b n
+      go none i r = elim i [ ]
+      go (some {n = m} h d) i r = one m d (names_after k m a b) i (r m)
 
   complete_all : (k : ℕ) (last n : List ℕ) → all_above last ≤ k → Differs a b n → less last n ≡ true → In n (names_after k last a b)
   unfolding names_after
   complete_all zero last n m d h = absurd (omega (arith, some_above last n d h))
-  complete_all (suc k) last n m d h =
-      let g = next_least last a b n d h in
-      let f : (next_name last a b).found ≡ true = g.found_is in
-      let q = fewer_above last (next_name last a b).name ((next_sound last a b).proper f) ((next_sound last a b).after f) in
-      rw f (go (less_total n (next_name last a b).name (differs_long n d ∙ sym (differs_long (next_name last a b).name ((next_sound last a b).proper f)))
-      g.not_sooner)
-      (complete_all k (next_name last a b).name n (omega arith) d))
+  complete_all (suc k) last n m d h = go (next_sound last a b) (next_least last a b n d h) (λ it l. complete_all k it n l d)
     where
-      it : List ℕ
-      it = (next_name last a b).name
+      one : (it : List ℕ) → (n ≡ it) ⊎ (less it n ≡ true) → (less it n ≡ true → In n (names_after k it a b)) → In n (it ∷ names_after k it a b)
+      one it (inl e) r = rw e here
+      one it (inr e) r = there (r e)
 
-      go : (n ≡ it) ⊎ (less it n ≡ true) → (less it n ≡ true → In n (names_after k it a b)) → In n (it ∷ names_after k it a b)
-      go (inl e) r = rw e here
-      go (inr e) r = there (r e)
+      go : {p : Option (List ℕ)} → Sound last a (Differs a b) p → Least n p
+          → ((it : List ℕ) → all_above it ≤ k → less it n ≡ true → In n (names_after k it a b)) → In n (option_map_or (λ q. q ∷ names_after k q a b) p [])
+      go none l r = elim l [ ]
+      go (some {n = it} g e) (least _ f) r =
+          one it (less_total n it (differs_long n d ∙ sym (differs_long it e)) f) (r it (omega (arith, m, fewer_above last it e g)))
 
   -- all of it, for sheets of at most 64 regions each, whose names come after no name
   pub differing_lists : length a ≤ 64 → length b ≤ 64 → ((n : List ℕ) → Differs a b n → less no_name n ≡ true) → ListsNames a b (differing a b)

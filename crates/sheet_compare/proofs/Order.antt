@@ -11,9 +11,10 @@ use borrow.Author.Tests.{ltb-true, ltb-false, lt-ltb, le-ltb, eqb-true, eq-eqb}
 use lib.Dec.{ltb, eqb}
 use lib.ListN.{length}
 use Rattle.sheets.specs.declared.Region.{Region}
-use Rattle.sheet_compare.specs.Compare.{less, stands, sooner, considered, least_of, next_name, no_pick, picked}
+use Rattle.std.specs.Prelude.{Option, None, Some}
+use Rattle.std.specs.Option.{option_map_or}
+use Rattle.sheet_compare.specs.Compare.{less, stands, sooner, considered, least_of, next_name}
 use Rattle.sheet_compare.specs.Lists.{In, here, there, odd, Differs}
-use Rattle.sheet_compare.specs.declared.Pick.{Pick}
 use Rattle.sheet_compare.proofs.Standing.{clash_of, not_in, stands_not}
 
 -- what a byte decides
@@ -77,108 +78,107 @@ less_total (x ∷ a) (y ∷ b) e h = go (ltb y x) refl (ltb x y) refl (less_tota
 
 -- ---- the least name
 
--- p has been found, and n does not come before it
-pub record Least (p : Pick) (n : List ℕ) : Type 0 where
-  pub found_is : p.found ≡ true
-  pub not_sooner : less n p.name ≡ false
+-- a name has been picked, and n does not come before it
+pub data Least (n : List ℕ) : Option (List ℕ) → Type 0 where
+  least : (picked : List ℕ) → less n picked ≡ false → Least n (Some picked)
 
 module _ (last : List ℕ) (other : List Region) where
-  -- a region considered: p stays, or the region is picked
-  data Chosen (p : Pick) (r : Region) : Pick → Type 0 where
-    stays : ((less last r.name ≡ true) → (stands r other ≡ false) → Least p r.name) → Chosen p r p
-    picks : less last r.name ≡ true → sooner p r ≡ true → stands r other ≡ false → Chosen p r (picked r)
+  -- a region considered: p stays, or the region's name is picked
+  data Chosen (p : Option (List ℕ)) (r : Region) : Option (List ℕ) → Type 0 where
+    stays : ((less last r.name ≡ true) → (stands r other ≡ false) → Least r.name p) → Chosen p r p
+    picks : less last r.name ≡ true → sooner p r.name ≡ true → stands r other ≡ false → Chosen p r (Some r.name)
 
-  chosen : (p : Pick) (r : Region) → Chosen p r (considered last p r other)
-  unfolding considered sooner
+  -- a name that is not sooner
+  kept : (p : Option (List ℕ)) (n : List ℕ) → sooner p n ≡ false → Least n p
+  unfolding sooner
+  kept None n e = clash_of e
+  kept (Some m) n e = least m e
+
+  chosen : (p : Option (List ℕ)) (r : Region) → Chosen p r (considered last p r other)
+  unfolding considered
   chosen p r = g1 (less last r.name) refl
     where
-      kept : (f : Bool) → p.found ≡ f → cond f (less r.name p.name) true ≡ false → Least p r.name
-      kept true e k = record { found_is = e; not_sooner = k }
-      kept false e k = clash_of k
-
-      g3 : (t : Bool) → stands r other ≡ t → less last r.name ≡ true → cond p.found (less r.name p.name) true ≡ true
-          → Chosen p r (cond t p (picked r))
+      g3 : (t : Bool) → stands r other ≡ t → less last r.name ≡ true → sooner p r.name ≡ true → Chosen p r (cond t p (Some r.name))
       g3 true e h k = stays (λ x y. clash_of (sym e ∙ y))
       g3 false e h k = picks h k e
 
-      g2 : (t : Bool) → cond p.found (less r.name p.name) true ≡ t → less last r.name ≡ true
-          → Chosen p r (cond t (cond (stands r other) p (picked r)) p)
+      g2 : (t : Bool) → sooner p r.name ≡ t → less last r.name ≡ true → Chosen p r (cond t (cond (stands r other) p (Some r.name)) p)
       g2 true e h = g3 (stands r other) refl h e
-      g2 false e h = stays (λ x y. kept p.found refl e)
+      g2 false e h = stays (λ x y. kept p r.name e)
 
-      g1 : (t : Bool) → less last r.name ≡ t
-          → Chosen p r (cond t (cond (cond p.found (less r.name p.name) true) (cond (stands r other) p (picked r)) p) p)
-      g1 true e = g2 (cond p.found (less r.name p.name) true) refl e
+      g1 : (t : Bool) → less last r.name ≡ t → Chosen p r (cond t (cond (sooner p r.name) (cond (stands r other) p (Some r.name)) p) p)
+      g1 true e = g2 (sooner p r.name) refl e
       g1 false e = stays (λ x y. clash_of (sym x ∙ e))
 
   -- what did not come before p does not come before one that does
-  still_least : (p : Pick) (r : Region) (n : List ℕ) → Least p n → sooner p r ≡ true → less n r.name ≡ false
+  still_least : {p : Option (List ℕ)} (m n : List ℕ) → Least n p → sooner p m ≡ true → less n m ≡ false
   unfolding sooner
-  still_least p r n g k = go (less n r.name) refl
+  still_least m n (least q g) before = go (less n m) refl
     where
-      before : less r.name p.name ≡ true
-      before = rw g.found_is at k
-
-      go : (t : Bool) → less n r.name ≡ t → t ≡ false
-      go true e = clash_of (sym (less_trans n r.name p.name e before) ∙ g.not_sooner)
+      go : (t : Bool) → less n m ≡ t → t ≡ false
+      go true e = clash_of (sym (less_trans n m q e before) ∙ g)
       go false e = refl
 
-  least_old : (p : Pick) (r : Region) (n : List ℕ) → Least p n → Least (considered last p r other) n
+  least_old : (p : Option (List ℕ)) (r : Region) (n : List ℕ) → Least n p → Least n (considered last p r other)
   least_old p r n g = go (chosen p r)
     where
-      go : {q : Pick} → Chosen p r q → Least q n
+      go : {q : Option (List ℕ)} → Chosen p r q → Least n q
       go (stays k) = g
-      go (picks h k e) = record { found_is = refl; not_sooner = still_least p r n g k }
+      go (picks h k e) = least r.name (still_least r.name n g k)
 
-  least_new : (p : Pick) (r : Region) → less last r.name ≡ true → stands r other ≡ false → Least (considered last p r other) r.name
+  least_new : (p : Option (List ℕ)) (r : Region) → less last r.name ≡ true → stands r other ≡ false → Least r.name (considered last p r other)
   least_new p r x y = go (chosen p r)
     where
-      go : {q : Pick} → Chosen p r q → Least q r.name
+      go : {q : Option (List ℕ)} → Chosen p r q → Least r.name q
       go (stays k) = k x y
-      go (picks h k e) = record { found_is = refl; not_sooner = less_self r.name }
+      go (picks h k e) = least r.name (less_self r.name)
 
-  pub all_old : (p : Pick) (rs : List Region) (n : List ℕ) → Least p n → Least (least_of last p rs other) n
+  pub all_old : (p : Option (List ℕ)) (rs : List Region) (n : List ℕ) → Least n p → Least n (least_of last p rs other)
   unfolding least_of
   all_old p [] n g = g
   all_old p (r ∷ rs) n g = all_old (considered last p r other) rs n (least_old p r n g)
 
-  pub all_new : (p : Pick) {rs : List Region} {r : Region} → In r rs → less last r.name ≡ true → stands r other ≡ false
-      → Least (least_of last p rs other) r.name
+  pub all_new : (p : Option (List ℕ)) {rs : List Region} {r : Region} → In r rs → less last r.name ≡ true → stands r other ≡ false
+      → Least r.name (least_of last p rs other)
   unfolding least_of
   all_new p (here {x = r} {l = rs}) x y = all_old (considered last p r other) rs r.name (least_new p r x y)
   all_new p (there {x = r} {y = s} {l = rs} k) x y = all_new (considered last p s other) k x y
 
-  -- what is found is a name after the last that has a property of all odd names
-  pub record Sound (P : List ℕ → Type 0) (p : Pick) : Type 0 where
-    pub after : p.found ≡ true → less last p.name ≡ true
-    pub proper : p.found ≡ true → P p.name
+  -- what is picked is a name after the last that has a property of all odd names
+  pub data Sound (P : List ℕ → Type 0) : Option (List ℕ) → Type 0 where
+    none : Sound P None
+    some : {n : List ℕ} → less last n ≡ true → P n → Sound P (Some n)
 
-  sound_one : (P : List ℕ → Type 0) (p : Pick) (r : Region) → (stands r other ≡ false → P r.name) → Sound P p → Sound P (considered last p r other)
+  sound_one : (P : List ℕ → Type 0) (p : Option (List ℕ)) (r : Region) → (stands r other ≡ false → P r.name) → Sound P p
+      → Sound P (considered last p r other)
   sound_one P p r f g = go (chosen p r)
     where
-      go : {q : Pick} → Chosen p r q → Sound P q
+      go : {q : Option (List ℕ)} → Chosen p r q → Sound P q
       go (stays k) = g
-      go (picks h k e) = record { after = λ z. h; proper = λ z. f e }
+      go (picks h k e) = some h (f e)
 
-  pub sound_all : (P : List ℕ → Type 0) (p : Pick) (rs : List Region) → ((r : Region) → In r rs → stands r other ≡ false → P r.name) → Sound P p
-      → Sound P (least_of last p rs other)
+  pub sound_all : (P : List ℕ → Type 0) (p : Option (List ℕ)) (rs : List Region) → ((r : Region) → In r rs → stands r other ≡ false → P r.name)
+      → Sound P p → Sound P (least_of last p rs other)
   unfolding least_of
   sound_all P p [] f g = g
   sound_all P p (r ∷ rs) f g = sound_all P (considered last p r other) rs (λ s k. f s (there k)) (sound_one P p r (f r here) g)
 
 module _ (last : List ℕ) (a b : List Region) where
-  abbrev First : Pick
-  First = least_of last no_pick a b
+  abbrev First : Option (List ℕ)
+  First = least_of last None a b
 
   pub next_sound : Sound last a (Differs a b) (next_name last a b)
   unfolding next_name
-  next_sound =
-      let s = sound_all last b (Differs a b) no_pick a (λ r k e. inl (odd r k (not_in r b e)))
-      (record { after = λ z. clash_of (sym z); proper = λ z. clash_of (sym z) }) in
-      let t : Sound last a (Differs a b) First = record { after = s.after; proper = s.proper } in
-      sound_all last a (Differs a b) First b (λ r k e. inr (odd r k (not_in r a e))) t
+  next_sound = sound_all last a (Differs a b) First b (λ r k e. inr (odd r k (not_in r a e))) (go s)
+    where
+      s : Sound last b (Differs a b) First
+      s = sound_all last b (Differs a b) None a (λ r k e. inl (odd r k (not_in r b e))) none
 
-  pub next_least : (n : List ℕ) → Differs a b n → less last n ≡ true → Least (next_name last a b) n
+      go : {q : Option (List ℕ)} → Sound last b (Differs a b) q → Sound last a (Differs a b) q
+      go none = none
+      go (some h d) = some h d
+
+  pub next_least : (n : List ℕ) → Differs a b n → less last n ≡ true → Least n (next_name last a b)
   unfolding next_name
-  next_least n (inl (odd r k e)) h = all_old last a First b n (all_new last b no_pick k h (stands_not r b e))
+  next_least n (inl (odd r k e)) h = all_old last a First b n (all_new last b None k h (stands_not r b e))
   next_least n (inr (odd r k e)) h = all_new last a First k h (stands_not r a e)

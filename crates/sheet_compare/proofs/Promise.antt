@@ -15,6 +15,8 @@ use Rattle.sheets.specs.declared.Region.{Region}
 use Rattle.sheets.proofs.Answers.{read_says}
 use Rattle.sheets.proofs.Lengths.{regions_few}
 use Rattle.sheets.proofs.Lines.{form_of}
+use Rattle.std.specs.Prelude.{Option, None, Some}
+use Rattle.std.specs.Option.{option_map_or}
 use Rattle.sheet_compare.specs.Compare.{less, next_name, names_after, names_text, differing, list_text}
 use Rattle.sheet_compare.specs.Lists.{In, here, there, odd, Differs, ListsNames}
 use Rattle.sheet_compare.proofs.Exact.{differing_lists}
@@ -77,12 +79,11 @@ regions_list a b g h = differing_lists a b long (regions_few g) (regions_few h) 
 names_count : (k : ℕ) (last : List ℕ) (a b : List Region) → length (names_after k last a b) ≤ k
 unfolding names_after
 names_count zero last a b = omega arith
-names_count (suc k) last a b = go (next_name last a b).found (names_count k (next_name last a b).name a b)
+names_count (suc k) last a b = go (next_name last a b) (λ n. names_count k n a b)
   where
-    go : (t : Bool) → length (names_after k (next_name last a b).name a b) ≤ k
-        → length (cond t ((next_name last a b).name ∷ names_after k (next_name last a b).name a b) []) ≤ suc k
-    go true h = omega arith
-    go false h = omega arith
+    go : (p : Option (List ℕ)) → ((n : List ℕ) → length (names_after k n a b) ≤ k) → length (option_map_or (λ n. n ∷ names_after k n a b) p []) ≤ suc k
+    go None h = omega arith
+    go (Some n) h = omega (arith, h n)
 
 names_le : (ns : List (List ℕ)) → ((n : List ℕ) → In n ns → length (letters_of n) ≤ 16) → length (names_text ns) ≤ length ns * 17
 unfolding names_text

@@ -7,6 +7,7 @@ use Prim.Native.Nat.{ℕ}
 use native.Mathlib.Omega.{arith}
 use borrow.Author.Tests.{eqb-true, eq-eqb}
 use lib.Dec.{eqb}
+use Rattle.std.specs.List.{list_any}
 use Rattle.sheets.specs.Sheet.{same}
 use Rattle.sheets.specs.declared.Region.{Region}
 use Rattle.sheet_compare.specs.Compare.{equal, stands}
@@ -47,6 +48,20 @@ equal_is r s h =
 equal_self : (r : Region) → equal r r ≡ true
 unfolding equal
 equal_self r = rw (same_self r.name, eq-eqb r.start r.start refl, eq-eqb r.size r.size refl, eq-eqb r.rights r.rights refl)
+
+equal_turned : (r s : Region) → equal s r ≡ equal r s
+equal_turned r s = go (equal s r) refl (equal r s) refl
+  where
+    go : (t : Bool) → equal s r ≡ t → (u : Bool) → equal r s ≡ u → t ≡ u
+    go true e true f = refl
+    go true e false f = clash_of (sym (rw (equal_is s r e) (equal_self r)) ∙ f)
+    go false e true f = clash_of (sym (rw (equal_is r s f) (equal_self s)) ∙ e)
+    go false e false f = refl
+
+pub stands_any : (r : Region) (rs : List Region) → list_any (λ s. equal s r) rs ≡ stands r rs
+unfolding stands
+stands_any r [] = refl
+stands_any r (s ∷ rs) = rw (equal_turned r s, stands_any r rs)
 
 pub stands_in : (r : Region) (rs : List Region) → stands r rs ≡ true → In r rs
 unfolding stands

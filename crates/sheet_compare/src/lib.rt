@@ -3,47 +3,56 @@
 
 mod names;
 
-ghost use Rattle.std.specs.Prelude.{◌≡◌};
-ghost use Rattle.sheet_compare.specs.Compare.{Compares};
+ghost use Rattle.std.specs.Prelude.{◌≡◌, ℕ, ◌^◌, ◌<◌};
+ghost use Rattle.sheet_compare.specs.Compare.{Compares, error_fits, error_line, error_number};
 
 use names::put_names;
+use sheets::Refusal;
 use text::deliver;
 
-// The least name so far, if any.
-#[derive(Clone, Copy)]
-pub struct Pick {
-    pub found: bool,
-    pub name: [u8; 16],
-}
-
-// How many bytes were written; or the first bad line of a sheet; or too little room. Only in the
-// first case is anything written.
-#[derive(Clone, Copy)]
-pub enum CompareAnswer {
-    Listed(usize),
+// Why there is no list: the first bad line of a sheet, or too little room.
+#[derive(Clone, Copy, Debug, PartialEq, Eq)]
+pub enum CompareError {
     BadFirst(usize),
     BadSecond(usize),
     NoRoom,
 }
 
-// Lists the names that differ. The list is made first: at most 128 names of 16 letters and a newline.
-pub fn compare(first: &[u8], second: &[u8], out: &mut [u8]) -> CompareAnswer
+impl Refusal for CompareError {
+    ghost number = { error_number };
+
+    ghost line = { error_line };
+
+    ghost fits = { error_fits };
+
+    fn number(self) -> u64 {
+        match self {
+            CompareError::BadFirst(_) => 13,
+            CompareError::BadSecond(_) => 14,
+            CompareError::NoRoom => 10,
+        }
+    }
+
+    fn line(self) -> usize {
+        match self {
+            CompareError::BadFirst(n) | CompareError::BadSecond(n) => n,
+            CompareError::NoRoom => 0,
+        }
+    }
+}
+
+// Lists the names that differ, and returns how many bytes were written; where it fails, nothing is.
+// The list is made first: at most 128 names of 16 letters and a newline.
+pub fn compare(first: &[u8], second: &[u8], out: &mut [u8]) -> Result<usize, CompareError>
     ensures { Compares first.now second.now out.old out.new result }
 {
-    let a = sheets::read(first, false);
-    if a.bad != 0 {
-        return CompareAnswer::BadFirst(a.bad);
-    }
-    let b = sheets::read(second, false);
-    if b.bad != 0 {
-        return CompareAnswer::BadSecond(b.bad);
-    }
-    let one = a.regions;
-    let two = b.regions;
+    let a = sheets::read(first, false).map_err(|e| CompareError::BadFirst(e.line))?;
+    let b = sheets::read(second, false).map_err(|e| CompareError::BadSecond(e.line))?;
     let mut text = [0u8; 2176];
-    let n = put_names(&mut text, one, a.count, two, b.count);
+    let n = put_names(&mut text, a.sheet.regions(), b.sheet.regions());
     if deliver(out, &text[0..n]) {
-        return CompareAnswer::Listed(n);
+        Ok(n)
+    } else {
+        Err(CompareError::NoRoom)
     }
-    CompareAnswer::NoRoom
 }

@@ -1,138 +1,80 @@
 // The names that differ, in order.
-ghost use Rattle.std.specs.Prelude.{◌≡◌, [], ◌∷◌, ◌++◌, ◌≤◌, length, take};
+ghost use Rattle.std.specs.Prelude.{◌≡◌, [], ◌∷◌, ◌++◌, ◌≤◌, length};
 ghost use Rattle.text.specs.Writing.{Puts, newline};
 ghost use Rattle.sheets.specs.Sheet.{letters_of};
-ghost use Rattle.sheet_compare.specs.Compare.{considered, least_of, list_text, next_name, no_pick, picked};
-ghost use Rattle.sheet_compare.specs.Compare.{less};
-ghost use Rattle.sheet_compare.specs.Compare.{equal};
-ghost use Rattle.sheet_compare.specs.Compare.{stands};
-ghost use Rattle.sheet_compare.specs.Compare.{sooner};
+ghost use Rattle.sheet_compare.specs.Compare.{considered, least_of, less, list_text, next_name, sooner, stands};
 
-use crate::Pick;
 use sheet_writer::put_name;
-use sheets::{NAME_BYTES, Region, same};
+use sheets::{NAME_BYTES, Region};
 use text::put_byte;
 
 // Two sheets have at most so many names.
 const MOST_NAMES: usize = 128;
 
 // Whether a name comes before another.
-fn less(a: [u8; 16], b: [u8; 16]) -> bool
-    ensures { result ≡ less a b }
+fn less(a: &[u8; 16], b: &[u8; 16]) -> bool
+    ensures { result ≡ less a.now b.now }
 {
-    let mut i = 0;
-    while i < NAME_BYTES {
-        if a[i] != b[i] {
-            return a[i] < b[i];
-        }
-        i += 1;
+    a < b
+}
+
+// Whether a region is among those of a sheet: with the same name, start, size and rights.
+fn stands(r: &Region, sheet: &[Region]) -> bool
+    ensures { result ≡ stands r.now sheet.now }
+{
+    sheet.contains(r)
+}
+
+// Whether a name comes before the one picked, if any was.
+#[tactic(auto, unfolding(crate::specs::Compare::sooner))]
+fn sooner(picked: Option<[u8; 16]>, name: &[u8; 16]) -> bool
+    ensures { result ≡ sooner picked name.now }
+{
+    match picked {
+        None => true,
+        Some(p) => less(name, &p),
     }
-    false
 }
 
-// Whether two regions have the same name, start, size and rights.
-fn equal(r: Region, s: Region) -> bool
-    ensures { result ≡ equal r s }
+// A region's name, where it may be the next one.
+#[tactic(auto, unfolding(crate::specs::Compare::considered))]
+fn consider(
+    last: &[u8; 16],
+    picked: Option<[u8; 16]>,
+    r: &Region,
+    other: &[Region],
+) -> Option<[u8; 16]>
+    ensures { result ≡ considered last.now picked r.now other.now }
 {
-    let m = r.name;
-    let n = s.name;
-    if same(m, n) {
-        if r.start == s.start {
-            if r.size == s.size {
-                return r.rights == s.rights;
-            }
-        }
-    }
-    false
-}
-
-// Whether a region is among the first ones of a sheet.
-fn stands(r: Region, regions: [Region; 64], count: usize) -> bool
-    requires { count ≤ 64 }
-    ensures { result ≡ stands r (take count regions) }
-{
-    let mut i = 0;
-    while i < count {
-        let s = regions[i];
-        if equal(r, s) {
-            return true;
-        }
-        i += 1;
-    }
-    false
-}
-
-// Whether a region's name comes before the one picked.
-fn sooner(p: Pick, r: Region) -> bool
-    ensures { result ≡ sooner p r }
-{
-    let m = r.name;
-    let n = p.name;
-    if p.found { less(m, n) } else { true }
-}
-
-fn picks(r: Region) -> Pick
-    ensures { result ≡ picked r }
-{
-    let name = r.name;
-    Pick { found: true, name }
-}
-
-// A region, where its name may be the next one.
-fn consider(last: [u8; 16], p: Pick, r: Region, other: [Region; 64], count: usize) -> Pick
-    requires { count ≤ 64 }
-    ensures { result ≡ considered last p r (take count other) }
-{
-    let name = r.name;
-    if less(last, name) {
-        if sooner(p, r) {
-            if stands(r, other, count) { p } else { picks(r) }
-        } else {
-            p
-        }
+    if less(last, &r.name) && sooner(picked, &r.name) && !stands(r, other) {
+        Some(r.name)
     } else {
-        p
+        picked
     }
 }
 
 // The least of a sheet's names that may be the next one, and of the one picked.
+#[tactic(auto, unfolding(crate::specs::Compare::least_of))]
 fn least_of(
-    last: [u8; 16],
-    p: Pick,
-    regions: [Region; 64],
-    count: usize,
-    other: [Region; 64],
-    number: usize,
-) -> Pick
-    requires { (count ≤ 64) × (number ≤ 64) }
-    ensures { result ≡ least_of last p (take count regions) (take number other) }
+    last: &[u8; 16],
+    picked: Option<[u8; 16]>,
+    sheet: &[Region],
+    other: &[Region],
+) -> Option<[u8; 16]>
+    ensures { result ≡ least_of last.now picked sheet.now other.now }
 {
-    let mut best = p;
-    let mut i = 0;
-    while i < count {
-        let r = regions[i];
-        best = consider(last, best, r, other, number);
-        i += 1;
-    }
-    best
-}
-
-fn none() -> Pick
-    ensures { result ≡ no_pick }
-{
-    Pick {
-        found: false,
-        name: [0; 16],
-    }
+    sheet
+        .iter()
+        .fold(picked, |best, r| consider(last, best, r, other))
 }
 
 // The least name after the last that differs.
-fn next_name(last: [u8; 16], one: [Region; 64], m: usize, two: [Region; 64], n: usize) -> Pick
-    requires { (m ≤ 64) × (n ≤ 64) }
-    ensures { result ≡ next_name last (take m one) (take n two) }
+#[tactic(auto, unfolding(crate::specs::Compare::next_name))]
+fn next_name(last: &[u8; 16], one: &[Region], two: &[Region]) -> Option<[u8; 16]>
+    ensures { result ≡ next_name last.now one.now two.now }
 {
-    let p = least_of(last, none(), one, m, two, n);
-    least_of(last, p, two, n, one, m)
+    let picked = least_of(last, None, one, two);
+    least_of(last, picked, two, one)
 }
 
 // A name and its newline.
@@ -144,28 +86,17 @@ fn put_name_line(out: &mut [u8], at: usize, name: [u8; 16]) -> usize
 }
 
 // Writes the names, from the buffer's start on.
-pub(crate) fn put_names(
-    out: &mut [u8],
-    one: [Region; 64],
-    m: usize,
-    two: [Region; 64],
-    n: usize,
-) -> usize
-    requires { (m ≤ 64) × (n ≤ 64) }
-    ensures { Puts out.old 0 (list_text (take m one) (take n two)) out.new result × (result ≤ length out.old) }
+pub(crate) fn put_names(out: &mut [u8], one: &[Region], two: &[Region]) -> usize
+    ensures { Puts out.old 0 (list_text one.now two.now) out.new result × (result ≤ length out.old) }
 {
-    let mut last = none().name;
+    let mut last = [0; NAME_BYTES];
     let mut at = 0;
-    let mut i: usize = 0;
-    while i < MOST_NAMES {
-        let p = next_name(last, one, m, two, n);
-        if !p.found {
+    for _ in 0..MOST_NAMES {
+        let Some(name) = next_name(&last, one, two) else {
             return at;
-        }
-        let name = p.name;
+        };
         at = put_name_line(out, at, name);
         last = name;
-        i += 1;
     }
     at
 }

@@ -1,6 +1,6 @@
 // The lines of a sheet, written into a buffer from index `at` on, as far as the buffer reaches. Each
 // function returns the index after what it wrote.
-ghost use Rattle.std.specs.Prelude.{cond, [], ◌∷◌, ◌++◌, ◌≡◌, ◌+◌, ◌≤◌, ◌<◌, length, take};
+ghost use Rattle.std.specs.Prelude.{cond, [], ◌∷◌, ◌++◌, ◌≡◌, ◌≤◌, length};
 ghost use Rattle.text.specs.Digits.{digits};
 ghost use Rattle.text.specs.Writing.{Puts, newline, tab};
 ghost use Rattle.sheets.specs.Sheet.{letters_of, rights_text, line_text, sheet_text, word};
@@ -48,7 +48,7 @@ fn put_number(out: &mut [u8], at: usize, n: u32) -> usize
     ensures { Puts out.old at (tab ∷ digits 16 8 n) out.new result }
 {
     let a = put_byte(out, at, b'\t');
-    put_hex(out, a, DIGITS, n as u64)
+    put_hex(out, a, DIGITS, u64::from(n))
 }
 
 // A tab, the rights, and the newline.
@@ -61,27 +61,22 @@ fn put_tail(out: &mut [u8], at: usize, rights: u32) -> usize
 }
 
 // A region's line and its newline.
-fn put_line(out: &mut [u8], at: usize, r: Region) -> usize
-    ensures { Puts out.old at (line_text r ++ (newline ∷ [])) out.new result }
+fn put_line(out: &mut [u8], at: usize, r: &Region) -> usize
+    ensures { Puts out.old at (line_text r.now ++ (newline ∷ [])) out.new result }
 {
-    let name = r.name;
-    let a = put_head(out, at, name);
+    let a = put_head(out, at, r.name);
     let b = put_number(out, a, r.start);
     let c = put_number(out, b, r.size);
     put_tail(out, c, r.rights)
 }
 
-// The lines of the first regions, from the buffer's start on.
-pub(crate) fn put_lines(out: &mut [u8], regions: [Region; 64], count: usize) -> usize
-    requires { count ≤ 64 }
-    ensures { Puts out.old 0 (sheet_text (take count regions)) out.new result × (result ≤ length out.old) }
+// The lines of regions, from the buffer's start on.
+pub(crate) fn put_lines(out: &mut [u8], regions: &[Region]) -> usize
+    ensures { Puts out.old 0 (sheet_text regions.now) out.new result × (result ≤ length out.old) }
 {
     let mut at = 0;
-    let mut i = 0;
-    while i < count {
-        let r = regions[i];
+    for r in regions {
         at = put_line(out, at, r);
-        i += 1;
     }
     at
 }

@@ -2,6 +2,7 @@
 #![tactic(auto)]
 
 mod names;
+mod refusals;
 mod regions;
 mod scanning;
 mod tests;
@@ -11,6 +12,7 @@ ghost use Rattle.sheets.specs.declared.SheetError.TheVariants.{Bad};
 ghost use Rattle.sheets.specs.Scanning.{Reads};
 
 pub use names::{NAME_BYTES, letters};
+pub use refusals::Refusal;
 pub use regions::Sheet;
 use scanning::{first_line, region_in};
 

@@ -1,22 +1,28 @@
 -- `within`: the tests of the definition, in its order. Assumes nothing.
-use Prim.Native.Nat.{◌+◌}
-use native.Mathlib.Omega.{arith}
+use Rattle.std.proofs.Common.{◌≡◌, ◌+◌, true, false}
 use borrow.Author.Tests.{le-leb, lt-leb}
+use lib.Dec.{leb}
 use Rattle.fit.specs.Fit.{within}
 use Rattle.fit.proofs.within.Goals as goal
+use Rattle.fit.proofs.within.Goals.{then-b-r, else-b-r}
 
-pub returns-then-wide : goal.returns-then-wide
+pub returns-then-from : goal.returns-then-from
 unfolding within
-returns-then-wide c =
-    let a = c.args in
-    simp (le-leb a.b.start a.r.start (omega arith), le-leb (a.r.start + a.r.size) (a.b.start + a.b.size) (omega arith))
+returns-then-from c =
+    let r = c.args.r.now in
+    let b = c.args.b.now in
+    elim c.if-b-r.branch [
+      | then-b-r w ↦ let t : leb (r.start + r.size) (b.start + b.size) ≡ true = cc in simp (le-leb b.start r.start w.if-b-r.true, t)
+      | else-b-r w ↦ let f = lt-leb b.start r.start w.if-b-r.false in cc
+    ]
 
-pub returns-else-wide : goal.returns-else-wide
+pub returns-else-from : goal.returns-else-from
 unfolding within
-returns-else-wide c =
-    let a = c.args in
-    simp (le-leb a.b.start a.r.start (omega arith), lt-leb (a.r.start + a.r.size) (a.b.start + a.b.size) (omega arith))
-
-pub returns-else-b-r : goal.returns-else-b-r
-unfolding within
-returns-else-b-r c = let a = c.args in simp (lt-leb a.b.start a.r.start (omega arith))
+returns-else-from c =
+    let r = c.args.r.now in
+    let b = c.args.b.now in
+    elim c.if-b-r.branch [
+      | then-b-r w ↦ let t : leb (r.start + r.size) (b.start + b.size) ≡ false = cc in
+          simp (le-leb b.start r.start w.if-b-r.true, t, c.if-from.false)
+      | else-b-r w ↦ simp (lt-leb b.start r.start w.if-b-r.false, c.if-from.false)
+    ]

@@ -5,5 +5,5 @@ use Rattle.sheet_writer.proofs.lines.put_line.Goals as goal
 
 pub returns : goal.returns
 returns c =
-    line_puts c.args.r
+    line_puts c.args.r.now
     (puts_then (puts_then (puts_then c.put_head-a.ensures c.put_number-b.ensures) c.put_number-c.ensures) c.put_tail.ensures)

@@ -1,40 +1,20 @@
--- `put_lines`: the loop keeps that the first i lines are written, as far as there is room. Assumes nothing.
-use mathlib.Core.Path.{◌≡◌, refl, ◌∙◌}
-use native.Mathlib.Omega.{arith}
-use lib.ListN.{length}
-use Rattle.text.proofs.Putting.{puts_none, puts_then, puts_length, puts_within}
+-- `put_lines`: the loop keeps that the lines of the regions so far are written, as far as there is room. Assumes nothing.
+use Rattle.std.proofs.Common.{arith}
+use lib.Seq.{take_all}
+use Rattle.text.proofs.Putting.{puts_none, puts_then, puts_within}
 use Rattle.sheets.specs.Sheet.{sheet_text}
 use Rattle.sheet_writer.proofs.Lists.{lines_more}
 use Rattle.sheet_writer.proofs.lines.put_lines.Goals as goal
 
-pub loop-i-init : goal.loop-i-init
+pub loop-r-init : goal.loop-r-init
 unfolding sheet_text
-loop-i-init c = (omega arith, refl, puts_none c.args.out.now 0)
+loop-r-init c = puts_none c.args.out.now 0
 
-pub offset_bounds-regions-i : goal.offset_bounds-regions-i
-offset_bounds-regions-i c = omega arith
-
-pub bounds-regions-i : goal.bounds-regions-i
-bounds-regions-i c = omega arith
-
-pub overflow_add-i : goal.overflow_add-i
-overflow_add-i c = omega arith
-
-pub loop-i-smaller : goal.loop-i-smaller
-loop-i-smaller c = omega arith
-
-pub loop-i-preserved : goal.loop-i-preserved
-loop-i-preserved c =
-    let l = c.loop-i in
-    let g : length c.args.regions ≡ 64 = c.well_formed.1.0.1.0.1 in
-    let p = c.put_line-at.ensures in
-    (omega arith, puts_length p ∙ l.invariant.1, rw (lines_more c.args.regions _ l.i (omega arith)) at (puts_then l.invariant.2 p))
-
-pub shape_of-out : goal.shape_of-out
-shape_of-out c = c.loop-i.invariant.1
+pub loop-r-preserved : goal.loop-r-preserved
+loop-r-preserved c =
+    rw (lines_more c.args.regions.now _ c.loop-r.r-index c.loop-r-test.true) at (puts_then c.loop-r.invariant c.put_line-at.ensures)
 
 pub returns : goal.returns
 returns c =
-    let l = c.loop-i in
-    let e : l.i ≡ c.args.count = omega arith in
-    (rw e at l.invariant.2, puts_within (omega arith) l.invariant.2)
+    let p = c.loop-r.invariant in
+    (rw (take_all c.loop-r.r-index c.args.regions.now c.loop-r-test.false) at p, puts_within (omega arith) p)

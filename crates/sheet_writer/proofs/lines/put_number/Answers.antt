@@ -4,4 +4,4 @@ use Rattle.sheet_writer.proofs.lines.put_number.Goals as goal
 
 pub returns : goal.returns
 returns c =
-    puts_then c.put_byte-a.ensures c.put_hex.ensures
+    puts_then c.put_byte-a.ensures (rw c.from.ensures at c.put_hex.ensures)
