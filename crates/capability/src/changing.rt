@@ -58,9 +58,9 @@ fn covers_cut(c: Capability, length: u32) -> bool
 fn cut_if(test: bool, c: Capability, length: u32) -> Capability
     ensures { result ≡ keep_tag_if (unsealed c && test) (capability c.address (cut_word c length) c.tag) }
 {
+    let kept = keep_tag_if(choices::both(is_unsealed(c), test), c);
     let metadata = bounds::with_cut(c.metadata, c.address, length);
-    let kept = choices::both(is_unsealed(c), test);
-    keep_tag_if(kept, Capability { metadata, ..c })
+    Capability { metadata, ..kept }
 }
 
 // CSetBounds.
@@ -74,8 +74,8 @@ pub fn set_bounds(c: Capability, length: u32) -> Capability
 pub fn set_bounds_exact(c: Capability, length: u32) -> Capability
     ensures { result ≡ set_bounds_exact_of c length }
 {
-    let unrounded = bounds::is_unrounded(c.address, length);
-    let exact = choices::both(covers_cut(c, length), unrounded);
+    let inside = covers_cut(c, length);
+    let exact = choices::both(inside, bounds::is_unrounded(c.address, length));
     cut_if(exact, c, length)
 }
 
@@ -83,6 +83,7 @@ pub fn set_bounds_exact(c: Capability, length: u32) -> Capability
 pub fn narrow_rights(c: Capability, mask: u32) -> Capability
     ensures { result ≡ narrow_of c mask }
 {
+    let kept = keep_tag_if(is_unsealed(c), c);
     let metadata = metadata::narrow(c.metadata, mask);
-    keep_tag_if(is_unsealed(c), Capability { metadata, ..c })
+    Capability { metadata, ..kept }
 }

@@ -104,8 +104,8 @@ pub fn seal(c: Capability, authority: Capability) -> Capability
         authorizes(authority, metadata::SE),
         permitted_type(c, authority.address),
     );
-    let kept = choices::both(!is_sealed(c), allowed);
-    keep_tag_if(kept, with_object_type(c, authority.address))
+    let kept = keep_tag_if(choices::both(!is_sealed(c), allowed), c);
+    with_object_type(kept, authority.address)
 }
 
 // All rights, without GL where the authority lacks it.
@@ -127,8 +127,8 @@ pub fn unseal(c: Capability, authority: Capability) -> Capability
         authorizes(authority, metadata::US),
         authority.address == object_type(c),
     );
-    let kept = choices::both(is_sealed(c), allowed);
+    let kept = keep_tag_if(choices::both(is_sealed(c), allowed), c);
     let narrowed = metadata::narrow(c.metadata, global_mask(authority));
     let metadata = metadata::with_type(narrowed, UNSEALED);
-    keep_tag_if(kept, Capability { metadata, ..c })
+    Capability { metadata, ..kept }
 }

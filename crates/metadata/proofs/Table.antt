@@ -1,4 +1,4 @@
--- The table of rights: its rule at all 64 entries by one test that antt computes, and what a match on a number has passed when no key fits.
+-- The table of rights: its rule at all 64 entries by one test that antt computes.
 -- Assumes nothing.
 use mathlib.Core.Path.{◌≡◌, sym, ◌∙◌, ap}
 use mathlib.Core.Bool.{Bool}
@@ -12,7 +12,7 @@ use lib.ListN.{get_or}
 use Rattle.choices.proofs.Every.{every_at}
 use Rattle.metadata.specs.Rights.{rights_of}
 
--- the entries of the table of rights, as MASKS has them: an arm that reads another number is not proved by the rule
+-- the entries of the table of rights, as MASKS has them
 unfoldable pub masks : List ℕ
 masks =
     0 ∷ 512 ∷ 1024 ∷ 1536 ∷ 2048 ∷ 2560 ∷ 3072 ∷ 3584 ∷ 352 ∷ 354 ∷ 360 ∷ 362 ∷ 480 ∷ 482 ∷ 488 ∷ 490
@@ -23,29 +23,11 @@ masks =
 right : ℕ → Bool
 right k = eqb (get_or masks k 0) (rights_of k)
 
--- the entry of a code, where the index reads it, is the code's rights
+-- the entry of a code is the code's rights
 pub masks_right : (code : ℕ) → code < 64 → get_or masks code 0 ≡ rights_of code
 unfolding masks right rights_of
 masks_right code h = eqb→eq (get_or masks code 0) (rights_of code) (every_at right 64 tt code h)
 
--- one entry for both ways of reading: where a code was found to be the key k, the case of k reads what the index reads
+-- codes that are one read one entry
 pub same_entry : {k code : ℕ} → code ≡ k → get_or masks k 0 ≡ get_or masks code 0
 same_entry {k} {code} e = ap (λ (i : ℕ). get_or masks i 0) (sym e)
-
--- so the case of a key reads the code's rights too
-pub key_right : {k code : ℕ} → code ≡ k → T (ltb k 64) → get_or masks k 0 ≡ rights_of code
-key_right {k} {code} e t = same_entry e ∙ masks_right code (rw e (ltb→lt k 64 t))
-
--- x is none of n keys from a first on
-abbrev pub Misses : (first n x : ℕ) → Type 0
-Misses first zero x = Unit
-Misses first (suc n) x = Misses first n x × (x ≡ first + n → ⊥)
-
--- and then lies beyond them
-pub beyond : (first n x : ℕ) → first ≤ x → Misses first n x → first + n ≤ x
-beyond first zero x h m = omega arith
-beyond first (suc n) x h (m, other) = go (eq-or-lt_of_le (beyond first n x h m))
-  where
-    go : (first + n ≡ x) ⊎ (first + n < x) → first + suc n ≤ x
-    go (inl e) = absurd (other (sym e))
-    go (inr l) = omega arith

@@ -32,11 +32,11 @@ pub fn split(word: u32) -> Fields
 {
     Fields {
         reserved: word / RESERVED_UNIT % RESERVED,
-        permissions: word / PERMISSIONS_UNIT % CODES,
-        otype: word / TYPE_UNIT % TYPES,
-        scale: word / SCALE_UNIT % SCALES,
-        top: word / TOP_UNIT % ENDS,
-        base: word % ENDS,
+        permissions: permissions(word),
+        otype: otype(word),
+        scale: scale_of(word),
+        top: top_of(word),
+        base: base_of(word),
     }
 }
 

@@ -3,6 +3,7 @@ pub mod Tests
 pub mod Word
 pub mod Shifts
 pub mod Bytes
+pub mod Arrays
 pub mod Bits
 pub mod Fits
 pub mod Readings

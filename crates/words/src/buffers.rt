@@ -1,6 +1,8 @@
 // Little-endian bytes of a lent buffer, and elements of a buffer of words. Outside a buffer 0 is read and nothing is stored.
-ghost use Rattle.std.specs.Prelude.{◌≡◌, ◌+◌, ◌%◌, ◌<◌, slice_index, slice_set};
+ghost use Rattle.std.specs.Prelude.{◌≡◌, ℕ, ◌+◌, ◌%◌, ◌<◌, ◌≤◌, slice_index, slice_set};
 ghost use Rattle.words.specs.Words.{le8, le16, le32, set8, set16, set32};
+
+use std::array;
 
 // What a byte's values number, and what a one stands for in a word's second, third and fourth byte.
 const BYTE: u32 = 1 << 8;
@@ -14,21 +16,29 @@ const FOURTH: u32 = 1 << 24;
 // Below this place no place and width together wrap.
 const FAR: usize = 1 << 63;
 
-pub(crate) fn wide(x: u8) -> u32
-    ensures { (result ≡ x) × (result < 256) }
-{
-    x as u32
-}
-
 // Byte k from a place on; 0 outside the buffer.
-pub(crate) fn byte_from(m: &[u8], at: usize, k: usize) -> u32
-    ensures { (result ≡ slice_index m.now (at + k)) × (result < 256) }
+pub(crate) fn byte_from(m: &[u8], at: usize, k: usize) -> u8
+    ensures { result ≡ slice_index m.now (at + k) }
 {
     if at < m.len() {
-        if k < m.len() - at { wide(m[at + k]) } else { 0 }
+        if k < m.len() - at { m[at + k] } else { 0 }
     } else {
         0
     }
+}
+
+// N bytes from a place on; 0 for each outside the buffer. Bytes that all lie in it are read, and stored, after one test: the other, that the sum
+// does not wrap, goes where the place is a u32.
+fn bytes_from<const N: usize>(m: &[u8], at: usize) -> [u8; N]
+    requires { N ≤ 4 }
+    ensures { (k : ℕ) → k < N → slice_index result k ≡ slice_index m.now (at + k) }
+{
+    if at < FAR {
+        if at + N <= m.len() {
+            return *m[at..at + N].first_chunk().unwrap();
+        }
+    }
+    array::from_fn(|k| byte_from(m, at, k))
 }
 
 // Byte k from a place on set; outside the buffer nothing is.
@@ -45,36 +55,19 @@ fn put_byte_from(m: &mut [u8], at: usize, k: usize, v: u32)
 pub fn load8(m: &[u8], at: usize) -> u32
     ensures { result ≡ le8 m.now at }
 {
-    byte_from(m, at, 0)
+    u32::from(byte_from(m, at, 0))
 }
 
-// Bytes that all lie in the buffer are read, and stored, after one test: the other, that the sum does not wrap, goes where the place is a u32.
 pub fn load16(m: &[u8], at: usize) -> u32
     ensures { result ≡ le16 m.now at }
 {
-    if at < FAR {
-        if at + 2 <= m.len() {
-            return wide(m[at]) + wide(m[at + 1]) * SECOND;
-        }
-    }
-    byte_from(m, at, 0) + byte_from(m, at, 1) * SECOND
+    u32::from(u16::from_le_bytes(bytes_from(m, at)))
 }
 
 pub fn load32(m: &[u8], at: usize) -> u32
     ensures { result ≡ le32 m.now at }
 {
-    if at < FAR {
-        if at + 4 <= m.len() {
-            return wide(m[at])
-                + wide(m[at + 1]) * SECOND
-                + wide(m[at + 2]) * THIRD
-                + wide(m[at + 3]) * FOURTH;
-        }
-    }
-    byte_from(m, at, 0)
-        + byte_from(m, at, 1) * SECOND
-        + byte_from(m, at, 2) * THIRD
-        + byte_from(m, at, 3) * FOURTH
+    u32::from_le_bytes(bytes_from(m, at))
 }
 
 pub fn store8(m: &mut [u8], at: usize, v: u32)

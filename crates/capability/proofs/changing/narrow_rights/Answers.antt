@@ -4,4 +4,4 @@ use Rattle.capability.proofs.changing.narrow_rights.Goals as goal
 
 pub returns : goal.returns
 unfolding narrow_of
-returns c = simp (c.keep_tag_if.ensures, c.narrow-metadata.ensures, c.is_unsealed.ensures)
+returns c = simp (c.keep_tag_if-kept.ensures, c.narrow-metadata.ensures, c.is_unsealed.ensures)

@@ -4,4 +4,4 @@ use Rattle.capability.proofs.changing.set_bounds_exact.Goals as goal
 
 pub returns : goal.returns
 unfolding set_bounds_exact_of
-returns c = simp (c.cut_if.ensures, c.both-exact.ensures, c.covers_cut.ensures, c.is_unrounded-unrounded.ensures)
+returns c = simp (c.cut_if.ensures, c.both-exact.ensures, c.covers_cut-inside.ensures, c.is_unrounded.ensures)

@@ -1,4 +1,4 @@
--- As `rights`, with the mask at the code's place.
+-- As `rights`.
 use mathlib.Core.Path.{◌∙◌, ap}
 use native.Mathlib.Omega.{arith}
 use Rattle.metadata.specs.Rights.{rights_of}

@@ -1,4 +1,4 @@
--- The mask of the code read is the table's, since the code is below 64; that it fits twelve bits is a law.
+-- The mask of the code read is the table's; that it fits twelve bits is a law.
 use mathlib.Core.Path.{◌∙◌, ap}
 use native.Mathlib.Omega.{arith}
 use Rattle.metadata.specs.Rights.{rights_of}
@@ -8,5 +8,5 @@ use Rattle.metadata.proofs.masks.rights.Goals as goal
 pub returns : goal.returns
 returns c =
     let code = c.permissions.ensures in
-    let e = c.mask_of.ensures code.1 ∙ ap rights_of code.0 in
+    let e = c.mask_at.ensures ∙ ap rights_of code.0 in
     (e, omega (arith, e, word_rights_lt c.args.metadata))

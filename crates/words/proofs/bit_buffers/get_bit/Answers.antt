@@ -5,4 +5,4 @@ use Rattle.words.proofs.bit_buffers.get_bit.Goals as goal
 
 pub returns : goal.returns
 unfolding bit_at
-returns c = simp (c.byte_from.ensures.0, add-zero)
+returns c = simp (c.from.ensures, c.byte_from.ensures, add-zero)

@@ -6,7 +6,7 @@ use Rattle.words.proofs.bit_buffers.put_bit.Goals as goal
 
 pub returns-then-at-t : goal.returns-then-at-t
 unfolding put_bit
-returns-then-at-t c = simp (c.with_bit.ensures.0, c.wide.ensures.0)
+returns-then-at-t c = simp (c.with_bit.ensures.0, c.from.ensures)
 
 pub returns-else-at-t : goal.returns-else-at-t
 unfolding put_bit

@@ -5,4 +5,4 @@ use Rattle.words.proofs.buffers.load8.Goals as goal
 
 pub returns : goal.returns
 unfolding le_bytes
-returns c = simp (c.byte_from.ensures.0, add-zero) (omega arith)
+returns c = simp (c.from.ensures, c.byte_from.ensures, add-zero) (omega arith)
