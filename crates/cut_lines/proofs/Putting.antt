@@ -1,6 +1,6 @@
 -- The rule on room: two ways to ask for it, and what a writer's answer is with it and without.
 -- Assumes nothing.
-use Rattle.std.proofs.Common.{◌≡◌, ℕ, ◌+◌, ◌-◌, ◌≤◌, Bool, true, false, leb, List, length, ◌<◌, arith, le-leb, leb-true, leb-false, Result, Ok, Err, is_ok, is_err, sym}
+use Rattle.std.proofs.Common.{◌≡◌, ℕ, ◌+◌, ◌-◌, ◌≤◌, true, false, leb, List, length, ◌<◌, arith, le-leb, leb-true, leb-false, Result, Ok, Err, is_ok, is_err, sym}
 use borrow.Author.Tests.{lt-leb}
 use Rattle.text.specs.Writing.{Puts}
 use Rattle.text.proofs.Putting.{placed}

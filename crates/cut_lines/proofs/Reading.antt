@@ -1,7 +1,7 @@
 -- A line read byte by byte: the state after its bytes tells what is written for it.
 -- Assumes nothing.
 use Rattle.std.proofs.Common.{◌≡◌, ℕ, zero, suc, ◌+◌, ◌*◌, ◌/◌, ◌%◌, ◌^◌, ◌<◌, ◌≤◌, Bool, true, false, cond, ◌&&◌, eqb, ltb, List, [], ◌∷◌, length, get_or}
-use Rattle.std.proofs.Common.{take, drop, sym, refl, ap, ◌∙◌, add-zero, zero-add, add-one, arith, length-drop, drop_of_length-le, length-take-le, drop-cons}
+use Rattle.std.proofs.Common.{take, drop, refl, ap, ◌∙◌, add-zero, zero-add, arith, length-drop, length-take-le}
 use Rattle.std.proofs.Common.{ltb-false, ltb-true, lt-ltb, eq-eqb, ne_eqb, eqb-true}
 use mathlib.Core.Bool.{and-true, and-false, and_assoc, and-eq-true_iff}
 use Rattle.std.specs.Prelude.{Option, Some, None, option_and_then}
@@ -179,10 +179,10 @@ fields_read n line h =
     let whole : shape 0 line ≡ true = rw zero-add at (shape_first 8 0 line refl) ∙ h in
     let value = value_read nothing_read line 0 whole refl in
     let a = apart (value_from 0 0 line % 2 ^ 64) (number_from (number_of (take 8 line)) (drop 9 line)) (number_of (take 8 line)) (number_of (drop 9 line))
-        (ap (λ (v : ℕ). v % 2 ^ 64) (value_first 8 0 0 line refl))
-        (number_after (number_of (take 8 line)) (drop 9 line) eight)
-        (number_word (take 8 line) (length-take-le 8 line (omega arith)) u.0)
-        (number_word (drop 9 line) eight w.1) in
+    (ap (λ (v : ℕ). v % 2 ^ 64) (value_first 8 0 0 line refl))
+    (number_after (number_of (take 8 line)) (drop 9 line) eight)
+    (number_word (take 8 line) (length-take-le 8 line (omega arith)) u.0)
+    (number_word (drop 9 line) eight w.1) in
     rw (line_read (start_of n) line, value, a.0, a.1) refl
 
 bad_read : (o : Option Fields) → is_whole o ≡ false → outcome o ≡ bad_text

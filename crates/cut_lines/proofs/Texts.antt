@@ -1,7 +1,7 @@
 -- An input in blocks: what is written is the text of the whole input, wherever the blocks were cut.
 -- Assumes nothing.
 use Rattle.std.proofs.Common.{◌≡◌, ℕ, suc, ◌+◌, ◌%◌, ◌^◌, ◌<◌, Bool, true, false, eqb, List, [], ◌∷◌, ◌++◌, length, take, sym, refl, ap, ◌∙◌, append_assoc}
-use Rattle.std.proofs.Common.{append-nil, arith, ne_eqb}
+use Rattle.std.proofs.Common.{append-nil, arith}
 use Rattle.std.proofs.lemmas.List.Sums.{fold-append}
 use Rattle.text.specs.Writing.{newline}
 use Rattle.cut_lines.specs.Lines.{header_text, line_text, start_line, lines_of, lines_text, text_of}

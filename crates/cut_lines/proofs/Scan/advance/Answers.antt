@@ -1,6 +1,5 @@
 -- `advance`: a line that may yet be well-formed takes the byte. Assumes nothing.
-use Rattle.std.proofs.Common.{arith, rules}
-use Rattle.std.proofs.lemmas.Grind.{common_steps}
+use Rattle.std.proofs.Common.{rules}
 use Rattle.cut_lines.specs.Scanning.{advanced}
 use Rattle.cut_lines.proofs.Scan.advance.Goals as goal
 

@@ -12,6 +12,6 @@ pub returns-in_default : goal.returns-in_default
 unfolding outcome
 returns-in_default c =
     elim c.in_default.branch [
-      in_default-via-in-Some+else-f-eq-LINE w ↦ rw (w.in-Some.is, ne_eqb w.in-Some.f.place 17 w.if-f-eq-LINE.false) c.put_bytes.ensures
-    | in_default-via-in_default w ↦ rw w.in_default.is c.put_bytes.ensures
+      | in_default-via-in-Some+else-f-eq-LINE w ↦ rw (w.in-Some.is, ne_eqb w.in-Some.f.place 17 w.if-f-eq-LINE.false) c.put_bytes.ensures
+      | in_default-via-in_default w ↦ rw w.in_default.is c.put_bytes.ensures
     ]
