@@ -115,9 +115,9 @@ stepped_hex s x h =
     by_test (eqb x tab)
     (λ t. rw t h)
     (λ t. rw t
-    (by_test (eqb s.field 0)
-    (λ u. rw u (omega arith))
-    (λ u. rw u (by_test (eqb x minus) (λ v. rw v h) (λ v. rw v h)))))
+    (by_test s.past_name
+    (λ u. rw u (by_test (eqb x minus) (λ v. rw v h) (λ v. rw v h)))
+    (λ u. rw u (omega arith))))
 
 scanned_hex : (s : Scan) (l : List ℕ) → s.hex < 2 ^ 32 → (scanned s l).hex < 2 ^ 32
 unfolding scanned

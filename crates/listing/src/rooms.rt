@@ -1,26 +1,9 @@
-// Room in a lent buffer, counted down, so that no total can overflow.
+// Room in a lent buffer, counted down, so that no total can overflow: what is left, or none once it was too little.
 ghost use Rattle.std.specs.Prelude.{◌≡◌};
 ghost use Rattle.listing.specs.Rooms.{spent};
 
-use crate::Room;
-
-pub(crate) fn spend(r: Room, n: usize) -> Room
-    ensures { result ≡ spent r n }
+pub(crate) fn spend(room: Option<usize>, n: usize) -> Option<usize>
+    ensures { result ≡ spent room n }
 {
-    if !r.enough {
-        return Room {
-            left: 0,
-            enough: false,
-        };
-    }
-    if r.left < n {
-        return Room {
-            left: 0,
-            enough: false,
-        };
-    }
-    Room {
-        left: r.left - n,
-        enough: true,
-    }
+    room?.checked_sub(n)
 }

@@ -1,12 +1,13 @@
--- Four bytes or two.
-use Rattle.listing.specs.Assembling.{bytes_of}
-use Rattle.std.proofs.Common.{eq-eqb, ne_eqb}
+-- The first two or four of the four bytes, the lowest first.
+use Rattle.std.proofs.Common.{refl}
+use Rattle.listing.proofs.Texts.{first_bytes}
 use Rattle.listing.proofs.assembling.put_word.Goals as goal
 
-pub returns-then-w-eq3 : goal.returns-then-w-eq3
-unfolding bytes_of
-returns-then-w-eq3 c = rw (eq-eqb _ _ c.if-w-eq3.true) c.put_long.ensures
+pub slice_bounds-bytes-end : goal.slice_bounds-bytes-end
+slice_bounds-bytes-end c = rw (c.to_le_bytes-bytes.ensures, c.bytes_length.ensures) (first_bytes c.args.w).1
+
+pub slice_bounds-put_bytes-end : goal.slice_bounds-put_bytes-end
+slice_bounds-put_bytes-end c = rw (c.to_le_bytes-bytes.ensures, c.bytes_length.ensures, (first_bytes c.args.w).0) refl
 
 pub returns : goal.returns
-unfolding bytes_of
-returns c = rw (ne_eqb _ _ c.if-w-eq3.false) c.put_half.ensures
+returns c = rw (c.to_le_bytes-bytes.ensures, c.bytes_length.ensures, (first_bytes c.args.w).0) at c.put_bytes.ensures

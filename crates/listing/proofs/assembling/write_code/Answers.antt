@@ -3,27 +3,18 @@ use Rattle.std.proofs.Common.{sym, refl, ◌∙◌, arith}
 use Rattle.text.proofs.Putting.{puts_length}
 use Rattle.listing.specs.Assembling.{line_word, assembly_of}
 use Rattle.listing.proofs.Walking.{going_start, going_next, going_end}
-use Rattle.listing.proofs.Texts.{past_lines, size_line, text_turn, coded_turn, coded_stop, good_end, good_before}
+use Rattle.listing.proofs.Texts.{past_lines, rest_is, size_line, text_turn, coded_turn, coded_stop, good_in, good_end, good_before}
 use Rattle.listing.proofs.assembling.write_code.Goals as goal
 
 pub loop-at-init : goal.loop-at-init
 loop-at-init c = (omega arith, c.requires, refl, going_start (assembly_of c.args.text.now) c.args.out.now)
-
-pub candidate-requires : goal.candidate-requires
-candidate-requires c = omega arith
-
-pub line_end-at-requires : goal.line_end-at-requires
-line_end-at-requires c = omega arith
-
-pub overflow_add-at : goal.overflow_add-at
-overflow_add-at c = omega (arith, c.line_end-at.ensures.1)
 
 pub loop-at-smaller : goal.loop-at-smaller
 loop-at-smaller c =
     let text = c.args.text.now in
     let at = c.loop-at.at in
     let g = good_before text at c.loop-at.invariant.1 (omega arith) in
-    omega (arith, c.line_end-at.ensures.0, good_end text at g, size_line text at)
+    omega (arith, rw (rest_is text at) at c.line_end-at.ensures.0, good_end text at g, size_line text at)
 
 pub loop-at-preserved : goal.loop-at-preserved
 unfolding line_word
@@ -31,9 +22,9 @@ loop-at-preserved c =
     let text = c.args.text.now in
     let at = c.loop-at.at in
     let g = good_before text at c.loop-at.invariant.1 (omega arith) in
-    let s = c.line_end-at.ensures.0 ∙ good_end text at g in
-    let p = rw c.candidate.ensures at c.put_word-to.ensures in (
-      omega (arith, c.line_end-at.ensures.1),
+    let s = (rw (rest_is text at) at c.line_end-at.ensures.0) ∙ good_end text at g in
+    let p = rw (c.candidate.ensures, rest_is text at) at c.put_word-to.ensures in (
+      omega (arith, s, good_in text at g (omega arith)),
       rw s (sym (text_turn text at g) ∙ c.loop-at.invariant.1),
       puts_length p ∙ c.loop-at.invariant.2,
       rw s (going_next (rw (coded_turn text at g) at c.loop-at.invariant.3) p),

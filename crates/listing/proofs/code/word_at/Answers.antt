@@ -1,17 +1,37 @@
--- A size is positive, so the first byte is there; its test says which of the two loads is the word.
-use Rattle.listing.specs.Code.{word_at}
-use Rattle.listing.proofs.Words.{size_positive}
-use Rattle.std.proofs.Common.{arith}
-use Rattle.words.proofs.Tests.{tests}
+-- Where the size passes the code's end the word is cut off; else the size says which of the two loads it is.
+use Rattle.std.proofs.Common.{◌+◌, length, refl, arith, le-leb}
+use borrow.Author.Tests.{lt-leb}
+use Rattle.listing.specs.Code.{size_at, whole_at, word_at}
+use Rattle.listing.proofs.Words.{size_four, size_two}
 use Rattle.listing.proofs.code.word_at.Goals as goal
 
-pub bounds-code-at : goal.bounds-code-at
-bounds-code-at c = omega (arith, size_positive c.args.code.now c.args.at, c.requires)
+pub returns-then-code-at : goal.returns-then-code-at
+unfolding whole_at
+returns-then-code-at c =
+    let code = c.args.code.now in
+    let at = c.args.at in
+    rw (lt-leb (at + size_at code at) (length code) (omega (arith, c.size_at-size.ensures.0, c.if-code-at.true))) refl
 
-pub returns-then-code-at-eq3 : goal.returns-then-code-at-eq3
-unfolding word_at
-returns-then-code-at-eq3 c = simp c.load32.ensures (search tests)
+pub returns-then-size-eq4 : goal.returns-then-size-eq4
+unfolding whole_at word_at
+returns-then-size-eq4 c =
+    let code = c.args.code.now in
+    let at = c.args.at in
+    let s = c.size_at-size.ensures.0 in
+    rw (
+      le-leb (at + size_at code at) (length code) (omega (arith, s, c.if-code-at.false)),
+      size_four code at (omega (arith, s, c.if-size-eq4.true)),
+      c.load32.ensures,
+    ) refl
 
 pub returns : goal.returns
-unfolding word_at
-returns c = simp c.load16.ensures (search tests)
+unfolding whole_at word_at
+returns c =
+    let code = c.args.code.now in
+    let at = c.args.at in
+    let s = c.size_at-size.ensures.0 in
+    rw (
+      le-leb (at + size_at code at) (length code) (omega (arith, s, c.if-code-at.false)),
+      size_two code at (λ e. c.if-size-eq4.false (omega (arith, s))),
+      c.load16.ensures,
+    ) refl

@@ -5,4 +5,4 @@ use Rattle.listing.proofs.reading.hex_of.Goals as goal
 
 pub returns : goal.returns
 unfolding hex_of
-returns c = (simp (c.wide-2.ensures.0, c.wide.ensures.0), search rules)
+returns c = (simp (c.from-2.ensures, c.from.ensures), search rules)

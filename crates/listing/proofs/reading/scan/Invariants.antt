@@ -1,10 +1,7 @@
--- `reading::scan` meets its contract. The invariant: reading what is left from the present state gives the whole.
-use Rattle.std.proofs.Common.{◌≡◌, ◌-◌, ◌≤◌, length, drop}
+-- The invariant: reading what is left from the present state gives the whole.
+use Rattle.std.proofs.Common.{◌≡◌, drop}
 use Rattle.listing.specs.Reading.{start, scanned}
 use Rattle.listing.proofs.reading.scan.Given as goal
 
-abbrev pub invariant-loop-i : goal.invariant-loop-i
-invariant-loop-i l = (l.i ≤ length l.text) × (scanned l.s (drop l.i l.text) ≡ scanned start (drop l.at l.text))
-
-abbrev pub decreases-loop-i : goal.decreases-loop-i
-decreases-loop-i l = length l.text - l.i
+abbrev pub invariant-loop-x : goal.invariant-loop-x
+invariant-loop-x l = scanned l.s (drop l.x-index l.text) ≡ scanned start l.text

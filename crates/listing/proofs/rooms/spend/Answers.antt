@@ -1,21 +1,12 @@
--- Enough so far, and enough for this.
-use Rattle.std.proofs.Common.{refl, le-leb}
-use borrow.Author.Tests.{not-true, not-false, lt-leb}
+-- None stays none; else the library's subtraction tests what the definition does.
+use Rattle.std.proofs.Common.{refl}
 use Rattle.listing.specs.Rooms.{spent}
+use Rattle.listing.proofs.Spending.{taken}
 use Rattle.listing.proofs.rooms.spend.Goals as goal
 
-pub returns-then-not-r : goal.returns-then-not-r
+pub returns-in_err-room : goal.returns-in_err-room
 unfolding spent
-returns-then-not-r c = rw (not-true c.args.r.enough c.if-not-r.true) refl
-
-pub returns-then-r-n : goal.returns-then-r-n
-unfolding spent
-returns-then-r-n c =
-    let r = c.args.r in
-    rw (not-false r.enough c.if-not-r.false, lt-leb _ _ c.if-r-n.true) refl
+returns-in_err-room c = rw (c.from_residual.ensures, c.in_err-room.was) refl
 
 pub returns : goal.returns
-unfolding spent
-returns c =
-    let r = c.args.r in
-    rw (not-false r.enough c.if-not-r.false, le-leb _ _ c.if-r-n.false) refl
+returns c = rw c.in_ok-room.was (taken _ _ _ c.checked_sub.ensures)

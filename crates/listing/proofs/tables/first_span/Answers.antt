@@ -8,4 +8,4 @@ pub returns : goal.returns
 unfolding starts starts_from names
 returns c =
     let row = c.args.row in
-    (c.wide-from.ensures ∙ get_or-take 86 starts row 0 (omega arith), c.wide-to.ensures ∙ get_or-take 86 starts (row + 1) 0 (omega arith))
+    (c.from-from.ensures ∙ get_or-take 86 starts row 0 (omega arith), c.from-to.ensures ∙ get_or-take 86 starts (row + 1) 0 (omega arith))

@@ -9,4 +9,4 @@ unfolding starts starts_from names
 returns c =
     let row = c.args.row in
     let n : 85 + (row + 1) ≡ 86 + row = omega arith in
-    (c.wide-from.ensures ∙ get_or-drop 85 starts row 0, c.wide-to.ensures ∙ get_or-drop 85 starts (row + 1) 0 ∙ ap (λ (k : ℕ). get_or starts k 0) n)
+    (c.from-from.ensures ∙ get_or-drop 85 starts row 0, c.from-to.ensures ∙ get_or-drop 85 starts (row + 1) 0 ∙ ap (λ (k : ℕ). get_or starts k 0) n)
