@@ -8,44 +8,45 @@ use lib.ListN.{length}
 use Rattle.state.specs.declared.Board.{Board}
 use Rattle.sweep.specs.Visits.{granules_in, visit_answer}
 use Rattle.sweep.specs.Passes.{Visits, ends, goes_on, Swept}
-use Rattle.sweep.specs.declared.SweepAnswer.{SweepAnswer}
-use Rattle.sweep.specs.declared.SweepAnswer.TheVariants.{Next, Last, Refused}
-use Rattle.sweep.proofs.Laws.{refused_number, next_small, visit_promised}
+use Rattle.std.specs.Prelude.{Option, Some, None, Result, Ok, Err}
+use Rattle.machine.specs.declared.answers.Refusal.{Refusal}
+use Rattle.machine.proofs.Laws.{number_positive}
+use Rattle.sweep.proofs.Laws.{next_small, visit_promised}
 use Rattle.sweep.proofs.Pass.{pass_claim}
 use Rattle.bench_api.specs.Packing.{packed_visit}
 use Rattle.bench_api.specs.Passes.{PackedVisits, PackedClaim}
 use Rattle.bench_api.specs.Passes as Packed
 
--- an answer that is neither a refusal with number 0 nor a large next granule
-module _ (a : SweepAnswer) (number : (n : ℕ) → a ≡ Refused n → n ≡ 0 → ⊥) (small : (n : ℕ) → a ≡ Next n → n < 2 ^ 32) where
-  unpack_next : (x : ℕ) → x < 2 ^ 32 → x ≡ packed_visit a → Next x ≡ a
+-- an answer that is no large next granule
+module _ (a : Result (Option ℕ) Refusal) (small : (n : ℕ) → a ≡ Ok (Some n) → n < 2 ^ 32) where
+  unpack_next : (x : ℕ) → x < 2 ^ 32 → x ≡ packed_visit a → Ok (Some x) ≡ a
   unpack_next x l e = go a refl
     where
-      go : (b : SweepAnswer) → a ≡ b → Next x ≡ a
-      go (Next n) q = let z : x ≡ n = omega (arith, e, ap packed_visit q) in ap Next z ∙ sym q
-      go Last q = absurd (omega (arith, l, e, ap packed_visit q))
-      go (Refused n) q = absurd (number n q (omega (arith, l, e, ap packed_visit q)))
+      go : (b : Result (Option ℕ) Refusal) → a ≡ b → Ok (Some x) ≡ a
+      go (Ok (Some n)) q = let z : x ≡ n = omega (arith, e, ap packed_visit q) in ap (λ y. Ok (Some y)) z ∙ sym q
+      go (Ok None) q = absurd (omega (arith, l, e, ap packed_visit q))
+      go (Err r) q = absurd (number_positive r (omega (arith, l, e, ap packed_visit q)))
 
-  unpack_last : 2 ^ 32 ≡ packed_visit a → Last ≡ a
+  unpack_last : 2 ^ 32 ≡ packed_visit a → Ok None ≡ a
   unpack_last e = go a refl
     where
-      go : (b : SweepAnswer) → a ≡ b → Last ≡ a
-      go (Next n) q = absurd (omega (arith, small n q, e, ap packed_visit q))
-      go Last q = sym q
-      go (Refused n) q = absurd (number n q (omega (arith, e, ap packed_visit q)))
+      go : (b : Result (Option ℕ) Refusal) → a ≡ b → Ok None ≡ a
+      go (Ok (Some n)) q = absurd (omega (arith, small n q, e, ap packed_visit q))
+      go (Ok None) q = sym q
+      go (Err r) q = absurd (number_positive r (omega (arith, e, ap packed_visit q)))
 
 module _ (board : Board) (revoked mem : List ℕ) where
   pub packed_visits : (calls granule : ℕ) (before after : List ℕ) → PackedVisits board revoked mem calls granule before after
       → Visits board revoked mem calls granule before after
   packed_visits calls granule before after (Packed.ends _ _ _ p) =
       ends granule before after
-      (visit_promised board revoked mem before granule after Last
-      (unpack_last (visit_answer board revoked mem before granule) (refused_number board revoked mem before granule)
+      (visit_promised board revoked mem before granule after (Ok None)
+      (unpack_last (visit_answer board revoked mem before granule)
       (next_small board revoked mem before granule) p.answer_is) p.tags_are)
   packed_visits calls granule before after (Packed.goes_on more _ next _ between _ l p rest) =
       goes_on more granule next before between after
-      (visit_promised board revoked mem before granule between (Next next)
-      (unpack_next (visit_answer board revoked mem before granule) (refused_number board revoked mem before granule)
+      (visit_promised board revoked mem before granule between (Ok (Some next))
+      (unpack_next (visit_answer board revoked mem before granule)
       (next_small board revoked mem before granule) next l p.answer_is) p.tags_are)
       (packed_visits more next between after rest)
 

@@ -1,13 +1,17 @@
 -- What the promises of the functions for C shut out: the wrong machines that document 01 lists under "Promises that pin the answer", and a run whose watch
 -- record stays. A number that C gets unpacks to the number and the counts of the definition, so what the machine's promises shut out, these do. Assumes
 -- nothing.
+use Rattle.std.specs.Prelude.{Result, Ok, Err}
+use Rattle.machine.specs.Refusals.{refusal_named}
+use Rattle.machine.specs.Run.{counts}
+use Rattle.machine.specs.declared.answers.Refusal.{Refusal}
 use mathlib.Core.Path.{◌≡◌, refl, sym, ap, ◌∙◌}
 use mathlib.Core.Bool.{Bool, true, false, cond}
 use mathlib.Core.List.{List, ◌∷◌, []}
 use Prim.Native.Nat.{ℕ, ◌+◌, ◌/◌, ◌%◌, ◌^◌, ◌≤◌, ◌<◌}
 use native.Mathlib.Omega.{arith}
 use lib.Dec.{eqb}
-use borrow.Author.Tests.{eqb-true}
+use borrow.Author.Tests.{eqb-true, eqb-false}
 use Rattle.watch.specs.declared.Watch.{Watch}
 use Rattle.instructions.specs.declared.Csr.TheVariants.{Mcause, Mtval}
 use Rattle.state.specs.Lent.{State}
@@ -20,9 +24,9 @@ use Rattle.machine.specs.Refusals.{refusal_of}
 use Rattle.machine.specs.Run.{step_refusal, step_answer, StepPromise, run_answer, RunPromise, retired_of, trapped_of, retired_by, trapped_by}
 use Rattle.machine.specs.Run.{step_number, step_retired, step_trapped, run_number, run_retired, run_trapped, ran_from}
 use Rattle.machine.specs.Watching.{WatchPromise}
-use Rattle.machine.specs.declared.StepAnswer.TheVariants.{Retired, Trapped, Refused}
-use Rattle.machine.specs.declared.RunAnswer.{RunAnswer}
-use Rattle.machine.proofs.Laws.{step_small, run_small}
+use Rattle.machine.specs.declared.answers.Step.TheVariants.{Retired, Trapped}
+use Rattle.machine.specs.declared.answers.Counts.{Counts}
+use Rattle.machine.proofs.Laws.{refusal_number, step_small, run_small}
 use Rattle.machine_laws.specs.Cases.{Case, board_in, before, top_of_memory, untagged_load, environment_call}
 use Rattle.machine_laws.proofs.Worked.{top_worked}
 use Rattle.machine_laws.proofs.ShutOut as Plain
@@ -51,18 +55,18 @@ module _ (board : Board) (revoked : List ℕ) (from : State) where
   step_number_of = go (eqb (step_refusal board revoked from) 0) refl (retires (effect_at board revoked from))
     where
       go : (t : Bool) → eqb (step_refusal board revoked from) 0 ≡ t → (r : Bool)
-          → step_number (cond t (cond r Retired Trapped) (Refused (step_refusal board revoked from))) ≡ step_refusal board revoked from
+          → step_number (cond t (Ok (cond r Retired Trapped)) (Err (refusal_named (step_refusal board revoked from)))) ≡ step_refusal board revoked from
       go true q true = sym (eqb-true (step_refusal board revoked from) 0 q)
       go true q false = sym (eqb-true (step_refusal board revoked from) 0 q)
-      go false q r = refl
+      go false q r = refusal_number 1 board revoked from (eqb-false (step_refusal board revoked from) 0 q)
 
   step_counts_of : (step_retired (step_answer board revoked from) ≡ retired_of board revoked from)
       × (step_trapped (step_answer board revoked from) ≡ trapped_of board revoked from)
   unfolding step_answer
   step_counts_of = go (eqb (step_refusal board revoked from) 0) (retires (effect_at board revoked from))
     where
-      go : (t r : Bool) → (step_retired (cond t (cond r Retired Trapped) (Refused (step_refusal board revoked from))) ≡ cond t (cond r 1 0) 0)
-          × (step_trapped (cond t (cond r Retired Trapped) (Refused (step_refusal board revoked from))) ≡ cond t (cond r 0 1) 0)
+      go : (t r : Bool) → (step_retired (cond t (Ok (cond r Retired Trapped)) (Err (refusal_named (step_refusal board revoked from)))) ≡ cond t (cond r 1 0) 0)
+          × (step_trapped (cond t (Ok (cond r Retired Trapped)) (Err (refusal_named (step_refusal board revoked from)))) ≡ cond t (cond r 0 1) 0)
       go true true = (refl, refl)
       go true false = (refl, refl)
       go false r = (refl, refl)
@@ -72,18 +76,18 @@ module _ (board : Board) (revoked : List ℕ) (from : State) where
   run_number_of n = go (eqb (refusal_of n board revoked from) 0) refl
     where
       go : (t : Bool) → eqb (refusal_of n board revoked from) 0 ≡ t
-          → run_number (cond t (RunAnswer.Ran (ran_from n board revoked from).retired (ran_from n board revoked from).trapped)
-          (RunAnswer.Refused (refusal_of n board revoked from))) ≡ refusal_of n board revoked from
+          → run_number (cond t (Ok (counts (ran_from n board revoked from).retired (ran_from n board revoked from).trapped))
+          (Err (refusal_named (refusal_of n board revoked from)))) ≡ refusal_of n board revoked from
       go true q = sym (eqb-true (refusal_of n board revoked from) 0 q)
-      go false q = refl
+      go false q = refusal_number n board revoked from (eqb-false (refusal_of n board revoked from) 0 q)
 
   run_counts_of : (n : ℕ) → (run_retired (run_answer n board revoked from) ≡ retired_by n board revoked from)
       × (run_trapped (run_answer n board revoked from) ≡ trapped_by n board revoked from)
   unfolding run_answer
   run_counts_of n = go (eqb (refusal_of n board revoked from) 0) (ran_from n board revoked from).retired (ran_from n board revoked from).trapped
     where
-      go : (b : Bool) (r t : ℕ) → (run_retired (cond b (RunAnswer.Ran r t) (RunAnswer.Refused (refusal_of n board revoked from))) ≡ cond b r 0)
-          × (run_trapped (cond b (RunAnswer.Ran r t) (RunAnswer.Refused (refusal_of n board revoked from))) ≡ cond b t 0)
+      go : (b : Bool) (r t : ℕ) → (run_retired (cond b (Ok (counts r t)) (Err (refusal_named (refusal_of n board revoked from)))) ≡ cond b r 0)
+          × (run_trapped (cond b (Ok (counts r t)) (Err (refusal_named (refusal_of n board revoked from)))) ≡ cond b t 0)
       go true r t = (refl, refl)
       go false r t = (refl, refl)
 
@@ -140,7 +144,7 @@ module _ (board : Board) (revoked : List ℕ) (from : State) where
       made : refusal_of n board revoked from ≡ 0
       made = omega (arith, low, run_number_told)
 
-      ran_kept : RunPromise n board revoked from after (RunAnswer.Ran (ran_from n board revoked from).retired (ran_from n board revoked from).trapped)
+      ran_kept : RunPromise n board revoked from after (Ok (counts (ran_from n board revoked from).retired (ran_from n board revoked from).trapped))
       unfolding run_answer
       ran_kept = rw made at run_kept
 
@@ -236,10 +240,10 @@ watched_counts_told board revoked from after lent n c d x p = counts_told board 
 
 -- the worked store is counted in the first range, and not in the second: no record that stays, and none with its counts swapped, keeps the promise
 module _ (after : State) where
-  pub staying_record_shut_out : (answer : RunAnswer) → WatchPromise 1 storing_board storing_bits storing_from after storing_watch storing_watch answer → ⊥
+  pub staying_record_shut_out : (answer : Result Counts Refusal) → WatchPromise 1 storing_board storing_bits storing_from after storing_watch storing_watch answer → ⊥
   staying_record_shut_out answer p = omega (arith, ap (λ (w : Watch). w.first.count) p.watch_is, storing_counts.first_is)
 
-  pub record_told : (left : Watch) (answer : RunAnswer) → WatchPromise 1 storing_board storing_bits storing_from after storing_watch left answer
+  pub record_told : (left : Watch) (answer : Result Counts Refusal) → WatchPromise 1 storing_board storing_bits storing_from after storing_watch left answer
       → (left.first.count ≡ 6) × (left.second.count ≡ 7)
   record_told left answer p = (
     ap (λ (w : Watch). w.first.count) p.watch_is ∙ storing_counts.first_is,

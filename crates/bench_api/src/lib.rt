@@ -3,15 +3,14 @@
 
 ghost use Rattle.std.specs.Prelude.{◌≡◌, ◌<◌, ◌≤◌, ◌^◌};
 ghost use Rattle.state.specs.Lent.{state, report_edition};
-ghost use Rattle.machine.specs.Run.{step_number, step_retired, step_trapped, run_number, run_retired, run_trapped};
-ghost use Rattle.sweep.specs.Visits.{visit_number};
+ghost use Rattle.machine.specs.Run.{counts, step_retired, step_trapped, run_retired, run_trapped};
+ghost use Rattle.bench_api.specs.Packing.{packed_answer};
 ghost use Rattle.bench_api.specs.Packing.{packed, board_of, StepPacked, RunPacked, packed_visit, VisitPacked};
 ghost use Rattle.bench_api.specs.Watches.{WatchPacked};
 ghost use Rattle.machine.specs.Watching.{watch_of};
 
-use machine::{RunAnswer, StepAnswer};
+use machine::{Counts, Refusal, Step};
 use state::{Board, REPORT_EDITION, Window};
-use sweep::SweepAnswer;
 
 // The places of a number, 2^48, of the trapped steps, 2^24, and of the word that says which granule was the last, 2^32, in an answer.
 pub const NUMBER_PLACE: u64 = 0x1_0000_0000_0000;
@@ -20,77 +19,44 @@ pub const TRAPPED_PLACE: u64 = 0x100_0000;
 
 pub const LAST_PLACE: u64 = 0x1_0000_0000;
 
-// number * 2^48 + trapped * 2^24 + retired.
-fn pack(number: u32, trapped: u32, retired: u32) -> u64
-    requires { (number < 2 ^ 15) × (trapped < 2 ^ 24) × (retired < 2 ^ 24) }
-    ensures { result ≡ packed number trapped retired }
+// The board of plain numbers.
+fn board_of(start: u32, window_start: u32, window_size: u32, edition: u32) -> Board
+    ensures { result ≡ board_of start window_start window_size edition }
 {
-    number as u64 * NUMBER_PLACE + trapped as u64 * TRAPPED_PLACE + retired as u64
-}
-
-fn step_number(a: StepAnswer) -> u32
-    ensures { result ≡ step_number a }
-{
-    match a {
-        StepAnswer::Retired => 0,
-        StepAnswer::Trapped => 0,
-        StepAnswer::Refused(n) => n,
+    Board {
+        start,
+        window: Window {
+            start: window_start,
+            size: window_size,
+        },
+        edition,
     }
 }
 
-fn step_trapped(a: StepAnswer) -> u32
-    ensures { result ≡ step_trapped a }
+// number * 2^48 + trapped * 2^24 + retired, of which a refusal has the number alone.
+fn pack(answer: Result<Counts, Refusal>) -> u64
+    requires { (run_trapped answer < 2 ^ 24) × (run_retired answer < 2 ^ 24) }
+    ensures { result ≡ packed_answer answer }
 {
-    match a {
-        StepAnswer::Retired => 0,
-        StepAnswer::Trapped => 1,
-        StepAnswer::Refused(_) => 0,
+    match answer {
+        Ok(counts) => counts.trapped as u64 * TRAPPED_PLACE + counts.retired as u64,
+        Err(refusal) => refusal.number() as u64 * NUMBER_PLACE,
     }
 }
 
-fn step_retired(a: StepAnswer) -> u32
-    ensures { result ≡ step_retired a }
+// A step as a run of one.
+fn counts_of(step: Step) -> Counts
+    ensures { result ≡ counts (step_retired (Ok step)) (step_trapped (Ok step)) }
 {
-    match a {
-        StepAnswer::Retired => 1,
-        StepAnswer::Trapped => 0,
-        StepAnswer::Refused(_) => 0,
-    }
-}
-
-fn run_number(a: RunAnswer) -> u32
-    ensures { result ≡ run_number a }
-{
-    match a {
-        RunAnswer::Ran {
-            retired: _,
-            trapped: _,
-        } => 0,
-        RunAnswer::Refused(n) => n,
-    }
-}
-
-fn run_trapped(a: RunAnswer) -> u32
-    ensures { result ≡ run_trapped a }
-{
-    match a {
-        RunAnswer::Ran {
-            retired: _,
-            trapped,
-        } => trapped,
-        RunAnswer::Refused(_) => 0,
-    }
-}
-
-fn run_retired(a: RunAnswer) -> u32
-    ensures { result ≡ run_retired a }
-{
-    match a {
-        RunAnswer::Ran {
-            retired,
-            trapped: _,
-        } => retired,
-        RunAnswer::Refused(_) => 0,
+    match step {
+        Step::Retired => Counts {
+            retired: 1,
+            trapped: 0,
+        },
+        Step::Trapped => Counts {
+            retired: 0,
+            trapped: 1,
+        },
     }
 }
 
@@ -109,16 +75,8 @@ pub extern "C" fn oddersnow_step(
     ensures { StepPacked (board_of start window_start window_size edition) revoked.now
         (state regs.old mem.old tags.old) (state regs.new mem.new tags.new) result }
 {
-    let board = Board {
-        start,
-        window: Window {
-            start: window_start,
-            size: window_size,
-        },
-        edition,
-    };
-    let a = machine::step(regs, board, mem, tags, revoked);
-    pack(step_number(a), step_trapped(a), step_retired(a))
+    let board = board_of(start, window_start, window_size, edition);
+    pack(machine::step(regs, board, mem, tags, revoked).map(counts_of))
 }
 
 // A run of some steps.
@@ -137,16 +95,8 @@ pub extern "C" fn oddersnow_run(
     ensures { RunPacked steps (board_of start window_start window_size edition) revoked.now
         (state regs.old mem.old tags.old) (state regs.new mem.new tags.new) result }
 {
-    let board = Board {
-        start,
-        window: Window {
-            start: window_start,
-            size: window_size,
-        },
-        edition,
-    };
-    let a = machine::run(regs, board, mem, tags, revoked, steps);
-    pack(run_number(a), run_trapped(a), run_retired(a))
+    let board = board_of(start, window_start, window_size, edition);
+    pack(machine::run(regs, board, mem, tags, revoked, steps))
 }
 
 // A run of some steps with a watch record: two ranges, and their counts, which rise in place.
@@ -172,18 +122,10 @@ pub extern "C" fn oddersnow_run_watched(
         (state regs.old mem.old tags.old) (state regs.new mem.new tags.new)
         (watch_of start1 length1 count1.old start2 length2 count2.old) count1.new count2.new result }
 {
-    let board = Board {
-        start,
-        window: Window {
-            start: window_start,
-            size: window_size,
-        },
-        edition,
-    };
-    let a = machine::run_counting(
-        regs, board, mem, tags, revoked, steps, start1, length1, count1, start2, length2, count2,
-    );
-    pack(run_number(a), run_trapped(a), run_retired(a))
+    let board = board_of(start, window_start, window_size, edition);
+    pack(machine::run_counting(
+            regs, board, mem, tags, revoked, steps, start1, length1, count1, start2, length2, count2,
+    ))
 }
 
 // The same run by the second engine: the same answer, buffers and counts.
@@ -209,29 +151,20 @@ pub extern "C" fn oddersnow_run_quick(
         (state regs.old mem.old tags.old) (state regs.new mem.new tags.new)
         (watch_of start1 length1 count1.old start2 length2 count2.old) count1.new count2.new result }
 {
-    let board = Board {
-        start,
-        window: Window {
-            start: window_start,
-            size: window_size,
-        },
-        edition,
-    };
-    let a = quick::run_quick_counting(
-        regs, board, mem, tags, revoked, steps, start1, length1, count1, start2, length2, count2,
-    );
-    pack(run_number(a), run_trapped(a), run_retired(a))
+    let board = board_of(start, window_start, window_size, edition);
+    pack(quick::run_quick_counting(
+            regs, board, mem, tags, revoked, steps, start1, length1, count1, start2, length2, count2,
+    ))
 }
 
 // number * 2^48 + last * 2^32 + next.
-fn pack_visit(a: SweepAnswer) -> u64
-    requires { visit_number a < 2 ^ 15 }
-    ensures { result ≡ packed_visit a }
+fn pack_visit(answer: Result<Option<u32>, Refusal>) -> u64
+    ensures { result ≡ packed_visit answer }
 {
-    match a {
-        SweepAnswer::Next(n) => n as u64,
-        SweepAnswer::Last => LAST_PLACE,
-        SweepAnswer::Refused(n) => n as u64 * NUMBER_PLACE,
+    match answer {
+        Ok(Some(next)) => next as u64,
+        Ok(None) => LAST_PLACE,
+        Err(why) => why.number() as u64 * NUMBER_PLACE,
     }
 }
 
@@ -249,14 +182,7 @@ pub extern "C" fn oddersnow_sweep(
     ensures { VisitPacked (board_of start window_start window_size report_edition) revoked.now mem.now granule
         tags.old tags.new result }
 {
-    let board = Board {
-        start,
-        window: Window {
-            start: window_start,
-            size: window_size,
-        },
-        // A sweep knows no edition.
-        edition: REPORT_EDITION,
-    };
+    // A sweep knows no edition.
+    let board = board_of(start, window_start, window_size, REPORT_EDITION);
     pack_visit(sweep::visit(board, mem, tags, revoked, granule))
 }

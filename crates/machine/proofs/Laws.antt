@@ -3,6 +3,7 @@ use Prim.Native.Nat.{ℕ, zero, suc, ◌+◌, ◌-◌, ◌*◌, ◌/◌, ◌%◌
 use mathlib.Core.Path.{◌≡◌, refl, sym, ap, ap₂, ◌∙◌}
 use mathlib.Core.Bool.{Bool, true, false, cond, not, ◌&&◌, true≢false}
 use mathlib.Core.List.{List}
+use Rattle.std.specs.Prelude.{Result, Ok, Err}
 use native.Mathlib.Omega.{arith}
 use lib.Dec.{ltb, leb, eqb}
 use lib.ListN.{get_or, length}
@@ -18,8 +19,13 @@ use Rattle.machine.specs.Refusals.{block_bytes, most_memory, most_steps, good_me
 use Rattle.machine.specs.Refusals.{sound_if_tagged, good_bounds, refusal_of}
 use Rattle.machine.specs.Run.{Ran, ran, one_more, iterate, ran_from, step_refusal, step_answer, step_after, StepPromise, run_answer, run_after, RunPromise}
 use Rattle.machine.specs.Run.{step_number, step_retired, step_trapped, run_number, run_retired, run_trapped, retired_by, trapped_by}
-use Rattle.machine.specs.declared.StepAnswer.{StepAnswer}
-use Rattle.machine.specs.declared.RunAnswer.{RunAnswer}
+use Rattle.machine.specs.Refusals.{number_of, number_in, refusal_named, refused_unless}
+use Rattle.machine.specs.Run.{counts}
+use Rattle.machine.specs.declared.answers.Counts.{Counts}
+use Rattle.machine.specs.declared.answers.Step.{Step}
+use Rattle.machine.specs.declared.answers.Step.TheVariants.{Retired, Trapped}
+use Rattle.machine.specs.declared.answers.Refusal.{Refusal}
+use Rattle.machine.specs.declared.answers.Refusal.TheVariants.{Registers, Memory, Bits, Words, Steps, Edition, Bounds, Granule, Rights, Place, Range}
 
 -- one turn of the loop over the tag words
 pub tags_turn : (regs : List ℕ) (i : ℕ) → i < capability_count
@@ -33,68 +39,61 @@ pub bounds_turn : (regs : List ℕ) (i : ℕ) → i < capability_count
 unfolding good_bounds
 bounds_turn regs i h = let e : capability_count - i ≡ suc (capability_count - (i + 1)) = omega arith in rw e refl
 
--- ---- the bounds after all other tests
+-- ---- the refusals by number
 
--- the others in a row, then what follows
-abbrev in_row : (a b w c d e f : Bool) → (last : ℕ) → ℕ
-in_row a b w c d e f last = fail_if a 1 (fail_if b 2 (fail_if w 2 (fail_if c 3 (fail_if d 4 (fail_if e 5 (fail_if f 7 last))))))
+pub refusal_named_number : (r : Refusal) → refusal_named (number_of r) ≡ r
+unfolding refusal_named
+refusal_named_number Registers = refl
+refusal_named_number Memory = refl
+refusal_named_number Bits = refl
+refusal_named_number Words = refl
+refusal_named_number Steps = refl
+refusal_named_number Edition = refl
+refusal_named_number Bounds = refl
+refusal_named_number Granule = refl
+refusal_named_number Rights = refl
+refusal_named_number Place = refl
+refusal_named_number Range = refl
 
--- where one of them fails, what follows makes no difference
-row_stops : (a b w c d e f : Bool) (last : ℕ) → (in_row a b w c d e f 0 ≡ 0 → ⊥) → in_row a b w c d e f 0 ≡ in_row a b w c d e f last
-row_stops true b w c d e f last h = refl
-row_stops false true w c d e f last h = refl
-row_stops false false true c d e f last h = refl
-row_stops false false false true d e f last h = refl
-row_stops false false false false true e f last h = refl
-row_stops false false false false false true f last h = refl
-row_stops false false false false false false true last h = refl
-row_stops false false false false false false false last h = absurd (h refl)
+-- no refusal has the number of a call that is not refused
+pub number_positive : (r : Refusal) → number_of r ≡ 0 → ⊥
+number_positive Registers z = omega arith
+number_positive Memory z = omega arith
+number_positive Bits z = omega arith
+number_positive Words z = omega arith
+number_positive Steps z = omega arith
+number_positive Edition z = omega arith
+number_positive Bounds z = omega arith
+number_positive Granule z = omega arith
+number_positive Rights z = omega arith
+number_positive Place z = omega arith
+number_positive Range z = omega arith
 
--- where all pass, it is the number
-row_passes : (a b w c d e f : Bool) (last : ℕ) → in_row a b w c d e f 0 ≡ 0 → last ≡ in_row a b w c d e f last
-row_passes true b w c d e f last h = absurd (omega arith)
-row_passes false true w c d e f last h = absurd (omega arith)
-row_passes false false true c d e f last h = absurd (omega arith)
-row_passes false false false true d e f last h = absurd (omega arith)
-row_passes false false false false true e f last h = absurd (omega arith)
-row_passes false false false false false true f last h = absurd (omega arith)
-row_passes false false false false false false true last h = absurd (omega arith)
-row_passes false false false false false false false last h = refl
+-- a number that is 0 or has a refusal
+abbrev pub IsNumber : ℕ → Type 0
+IsNumber k = (k ≡ 0 → ⊥) → number_of (refusal_named k) ≡ k
 
-module _ (n : ℕ) (board : Board) (revoked : List ℕ) (s : State) where
-  -- the number of a call by all tests but that of the bounds, before what follows
-  abbrev before : (last : ℕ) → ℕ
-  before last =
-      in_row (not (eqb (length s.regs) register_words)) (not (good_memory board (length s.mem))) (not (good_window board (length s.mem)))
-      (not (good_bits board revoked s)) (not (good_words s.regs)) (ltb most_steps n) (not (good_edition board)) last
+pub is_number : (r : Refusal) → IsNumber (number_of r)
+is_number r h = ap (λ x. number_of x) (refusal_named_number r)
 
-  abbrev pub earlier : ℕ
-  earlier = before 0
+pub no_number : IsNumber 0
+no_number h = absurd (h refl)
 
-  stops : (last : ℕ) → (before 0 ≡ 0 → ⊥) → before 0 ≡ before last
-  stops last =
-      row_stops (not (eqb (length s.regs) register_words)) (not (good_memory board (length s.mem))) (not (good_window board (length s.mem)))
-      (not (good_bits board revoked s)) (not (good_words s.regs)) (ltb most_steps n) (not (good_edition board)) last
+-- what the answer to a test says of the test
+module _ (good : Bool) (why : Refusal) where
+  pub test_passed : (u : Unit {0}) → Ok u ≡ refused_unless good why → good ≡ true
+  test_passed u e = go good e
+    where
+      go : (b : Bool) → Ok u ≡ refused_unless b why → b ≡ true
+      go true q = refl
+      go false q = absurd (number_positive why (sym (ap (λ (x : Result (Unit {0}) Refusal). number_in x) q)))
 
-  passes : (last : ℕ) → before 0 ≡ 0 → last ≡ before last
-  passes last =
-      row_passes (not (eqb (length s.regs) register_words)) (not (good_memory board (length s.mem))) (not (good_window board (length s.mem)))
-      (not (good_bits board revoked s)) (not (good_words s.regs)) (ltb most_steps n) (not (good_edition board)) last
-
-  pub refused_early : (m : ℕ) → m ≡ earlier → (m ≡ 0 → ⊥) → m ≡ refusal_of n board revoked s
-  unfolding refusal_of
-  refused_early m e h = e ∙ stops (fail_if (not (good_bounds capability_count s.regs 0)) 8 0) (λ z. h (e ∙ z))
-
-  module _ (m : ℕ) (e : m ≡ earlier) (z : m ≡ 0) where
-    refused_last : fail_if (not (good_bounds capability_count s.regs 0)) 8 0 ≡ refusal_of n board revoked s
-    unfolding refusal_of
-    refused_last = passes (fail_if (not (good_bounds capability_count s.regs 0)) 8 0) (sym e ∙ z)
-
-    pub refused_not : true ≡ good_bounds capability_count s.regs 0 → 0 ≡ refusal_of n board revoked s
-    refused_not q = rw (← q) at refused_last
-
-    pub refused_unsound : false ≡ good_bounds capability_count s.regs 0 → 8 ≡ refusal_of n board revoked s
-    refused_unsound q = rw (← q) at refused_last
+  pub test_failed : (r : Refusal) → Err r ≡ refused_unless good why → (good ≡ false) × (number_of r ≡ number_of why)
+  test_failed r e = go good e
+    where
+      go : (b : Bool) → Err r ≡ refused_unless b why → (b ≡ false) × (number_of r ≡ number_of why)
+      go true q = absurd (number_positive r (ap (λ (x : Result (Unit {0}) Refusal). number_in x) q))
+      go false q = (refl, ap (λ (x : Result (Unit {0}) Refusal). number_in x) q)
 
 -- one turn of a run, which retires or traps
 module _ (board : Board) (n k : ℕ) (revoked : List ℕ) (s after : State) (r t : ℕ) (more : k < n) (left : after ≡ step_of board revoked s) where
@@ -116,12 +115,12 @@ module _ (board : Board) (n k : ℕ) (revoked : List ℕ) (s after : State) (r t
 -- ---- the promise of a step, by how it ends
 
 module _ (board : Board) (revoked : List ℕ) (s : State) where
-  pub step_refused : (n : ℕ) → n ≡ step_refusal board revoked s → (n ≡ 0 → ⊥) → StepPromise board revoked s s (StepAnswer.Refused n)
+  pub step_refused : (r : Refusal) → number_of r ≡ step_refusal board revoked s → StepPromise board revoked s s (Err r)
   unfolding step_answer step_after
-  step_refused n e h =
-      let f : eqb (step_refusal board revoked s) 0 ≡ false = rw (← e) (ne_eqb n 0 h) in
+  step_refused r e =
+      let f : eqb (step_refusal board revoked s) 0 ≡ false = rw (← e) (ne_eqb (number_of r) 0 (number_positive r)) in
       record {
-        answer_is = rw (f, e);
+        answer_is = rw (f, ← e, refusal_named_number r);
         number_is = e;
         retired_is = rw f;
         trapped_is = rw f;
@@ -133,15 +132,14 @@ module _ (board : Board) (revoked : List ℕ) (s : State) where
   module _ (after : State) (b : Bool) (good : 0 ≡ step_refusal board revoked s) (retired : b ≡ retires (effect_at board revoked s))
       (left : after ≡ step_of board revoked s) where
     -- of an answer that is Retired or Trapped as the effect says
-    step_done : (a : StepAnswer) → a ≡ cond b StepAnswer.Retired StepAnswer.Trapped → step_number a ≡ 0 → step_retired a ≡ cond b 1 0 → step_trapped a
-        ≡ cond b 0 1
-        → StepPromise board revoked s after a
+    step_done : (a : Step) → a ≡ cond b Retired Trapped → step_retired (Ok a) ≡ cond b 1 0 → step_trapped (Ok a) ≡ cond b 0 1
+        → StepPromise board revoked s after (Ok a)
     unfolding step_answer step_after
-    step_done a q n r t =
+    step_done a q r t =
         let f : eqb (step_refusal board revoked s) 0 ≡ true = eq-eqb (step_refusal board revoked s) 0 (sym good) in
         record {
-          answer_is = rw (f, ← retired) q;
-          number_is = n ∙ good;
+          answer_is = rw (f, ← retired, q);
+          number_is = good;
           retired_is = rw (f, ← retired) r;
           trapped_is = rw (f, ← retired) t;
           registers_are = rw f (ap (λ x. x.regs) left);
@@ -149,11 +147,11 @@ module _ (board : Board) (revoked : List ℕ) (s : State) where
           tags_are = rw f (ap (λ x. x.tags) left);
         }
 
-    step_retired_lem : b ≡ true → StepPromise board revoked s after StepAnswer.Retired
-    step_retired_lem t = step_done StepAnswer.Retired (rw t) refl (rw t) (rw t)
+    step_retired_lem : b ≡ true → StepPromise board revoked s after (Ok Retired)
+    step_retired_lem t = step_done Retired (rw t) (rw t) (rw t)
 
-    step_trapped_lem : b ≡ false → StepPromise board revoked s after StepAnswer.Trapped
-    step_trapped_lem t = step_done StepAnswer.Trapped (rw t) refl (rw t) (rw t)
+    step_trapped_lem : b ≡ false → StepPromise board revoked s after (Ok Trapped)
+    step_trapped_lem t = step_done Trapped (rw t) (rw t) (rw t)
 
   -- of one turn of a run: it retires where it counts one retired
   module _ (after : State) (r t : ℕ) (good : 0 ≡ step_refusal board revoked s) (turned : ran after r t ≡ iterate 1 board revoked (ran s 0 0)) where
@@ -165,29 +163,29 @@ module _ (board : Board) (revoked : List ℕ) (s : State) where
     unfolding iterate one_more
     one_counted = omega (arith, ap (λ x. x.retired) turned)
 
-    pub one_retired : r ≡ 1 → StepPromise board revoked s after StepAnswer.Retired
+    pub one_retired : r ≡ 1 → StepPromise board revoked s after (Ok Retired)
     one_retired h = go (retires (effect_at board revoked s)) refl
       where
-        go : (b : Bool) → retires (effect_at board revoked s) ≡ b → StepPromise board revoked s after StepAnswer.Retired
+        go : (b : Bool) → retires (effect_at board revoked s) ≡ b → StepPromise board revoked s after (Ok Retired)
         go true q = step_retired_lem after true good (sym q) one_left refl
         go false q = absurd (omega (arith, h, one_counted ∙ ap (λ b. cond b 1 0) q))
 
-    pub one_trapped : (r ≡ 1 → ⊥) → StepPromise board revoked s after StepAnswer.Trapped
+    pub one_trapped : (r ≡ 1 → ⊥) → StepPromise board revoked s after (Ok Trapped)
     one_trapped h = go (retires (effect_at board revoked s)) refl
       where
-        go : (b : Bool) → retires (effect_at board revoked s) ≡ b → StepPromise board revoked s after StepAnswer.Trapped
+        go : (b : Bool) → retires (effect_at board revoked s) ≡ b → StepPromise board revoked s after (Ok Trapped)
         go true q = absurd (h (one_counted ∙ ap (λ b. cond b 1 0) q))
         go false q = step_trapped_lem after false good (sym q) one_left refl
 
 -- ---- the promise of a run, by how it ends
 
 module _ (n : ℕ) (board : Board) (revoked : List ℕ) (s : State) where
-  pub run_refused : (m : ℕ) → m ≡ refusal_of n board revoked s → (m ≡ 0 → ⊥) → RunPromise n board revoked s s (RunAnswer.Refused m)
+  pub run_refused : (r : Refusal) → number_of r ≡ refusal_of n board revoked s → RunPromise n board revoked s s (Err r)
   unfolding run_answer run_after
-  run_refused m e h =
-      let f : eqb (refusal_of n board revoked s) 0 ≡ false = rw (← e) (ne_eqb m 0 h) in
+  run_refused r e =
+      let f : eqb (refusal_of n board revoked s) 0 ≡ false = rw (← e) (ne_eqb (number_of r) 0 (number_positive r)) in
       record {
-        answer_is = rw (f, e);
+        answer_is = rw (f, ← e, refusal_named_number r);
         number_is = e;
         retired_is = rw f;
         trapped_is = rw f;
@@ -197,12 +195,12 @@ module _ (n : ℕ) (board : Board) (revoked : List ℕ) (s : State) where
       }
 
   pub run_done : (after : State) (r t : ℕ) → 0 ≡ refusal_of n board revoked s → ran after r t ≡ iterate n board revoked (ran s 0 0)
-      → RunPromise n board revoked s after (RunAnswer.Ran r t)
+      → RunPromise n board revoked s after (Ok (counts r t))
   unfolding run_answer run_after
   run_done after r t e g =
       let f : eqb (refusal_of n board revoked s) 0 ≡ true = eq-eqb (refusal_of n board revoked s) 0 (sym e) in
       record {
-        answer_is = rw f (ap₂ (λ x y. RunAnswer.Ran x y) (ap (λ x. x.retired) g) (ap (λ x. x.trapped) g));
+        answer_is = rw f (ap₂ (λ x y. Ok (counts x y)) (ap (λ x. x.retired) g) (ap (λ x. x.trapped) g));
         number_is = e;
         retired_is = rw f (ap (λ x. x.retired) g);
         trapped_is = rw f (ap (λ x. x.trapped) g);
@@ -214,7 +212,7 @@ module _ (n : ℕ) (board : Board) (revoked : List ℕ) (s : State) where
 -- ---- how large the numbers of an answer are
 
 -- a property of both values of a test is one of the test's
-either : {A : Type 0} (P : A → Type 0) (t : Bool) (x y : A) → P x → P y → P (cond t x y)
+pub either : {A : Type 0} (P : A → Type 0) (t : Bool) (x y : A) → P x → P y → P (cond t x y)
 either P true x y p q = p
 either P false x y p q = q
 
@@ -235,6 +233,19 @@ module _ (n : ℕ) (board : Board) (revoked : List ℕ) (s : State) where
       (small (not (good_edition board)) 7 _ (omega arith)
       (small (not (good_bounds capability_count s.regs 0)) 8 0 (omega arith) (omega arith))))))))
 
+  -- each is the number of a refusal
+  pub refusal_number : IsNumber (refusal_of n board revoked s)
+  unfolding refusal_of
+  refusal_number =
+      either IsNumber (not (eqb (length s.regs) register_words)) 1 _ (is_number Registers)
+      (either IsNumber (not (good_memory board (length s.mem))) 2 _ (is_number Memory)
+      (either IsNumber (not (good_window board (length s.mem))) 2 _ (is_number Memory)
+      (either IsNumber (not (good_bits board revoked s)) 3 _ (is_number Bits)
+      (either IsNumber (not (good_words s.regs)) 4 _ (is_number Words)
+      (either IsNumber (ltb most_steps n) 5 _ (is_number Steps)
+      (either IsNumber (not (good_edition board)) 7 _ (is_number Edition)
+      (either IsNumber (not (good_bounds capability_count s.regs 0)) 8 0 (is_number Bounds) no_number)))))))
+
   -- a run that is not refused asks no more than is allowed
   pub few_steps : refusal_of n board revoked s ≡ 0 → n ≤ most_steps
   unfolding refusal_of
@@ -243,7 +254,8 @@ module _ (n : ℕ) (board : Board) (revoked : List ℕ) (s : State) where
       (not (good_bits board revoked s)) (not (good_words s.regs)) (ltb most_steps n) (not (good_edition board))
       (fail_if (not (good_bounds capability_count s.regs 0)) 8 0) refl h
     where
-      go : (a b w c d e f : Bool) (last : ℕ) → ltb most_steps n ≡ e → in_row a b w c d e f last ≡ 0 → n ≤ most_steps
+      go : (a b w c d e f : Bool) (last : ℕ) → ltb most_steps n ≡ e
+          → fail_if a 1 (fail_if b 2 (fail_if w 2 (fail_if c 3 (fail_if d 4 (fail_if e 5 (fail_if f 7 last)))))) ≡ 0 → n ≤ most_steps
       go false false false false false false f last q z = ltb-false most_steps n q
       go false false false false false true f last q z = absurd (omega arith)
       go false false false false true e f last q z = absurd (omega arith)
@@ -277,20 +289,20 @@ run_counts_le n board revoked s = go (eqb (refusal_of n board revoked s) 0) refl
         (omega (arith, k, m), omega (arith, k, m))
     go false p = (omega arith, omega arith)
 
-step_counts_le : (a : StepAnswer) → (step_retired a ≤ 1) × (step_trapped a ≤ 1)
-step_counts_le StepAnswer.Retired = (omega arith, omega arith)
-step_counts_le StepAnswer.Trapped = (omega arith, omega arith)
-step_counts_le (StepAnswer.Refused n) = (omega arith, omega arith)
+step_counts_le : (a : Result Step Refusal) → (step_retired a ≤ 1) × (step_trapped a ≤ 1)
+step_counts_le (Ok Retired) = (omega arith, omega arith)
+step_counts_le (Ok Trapped) = (omega arith, omega arith)
+step_counts_le (Err r) = (omega arith, omega arith)
 
 -- so an answer fits its places in one 64-bit number
-pub step_small : (board : Board) (revoked : List ℕ) (before after : State) (a : StepAnswer) → StepPromise board revoked before after a
+pub step_small : (board : Board) (revoked : List ℕ) (before after : State) (a : Result Step Refusal) → StepPromise board revoked before after a
     → (step_number a < 2 ^ 15) × (step_trapped a < 2 ^ 24) × (step_retired a < 2 ^ 24)
 step_small board revoked before after a p =
     let n = refusal_le 1 board revoked before in
     let k = step_counts_le a in
     (omega (arith, n, p.number_is), omega (arith, k), omega (arith, k))
 
-pub run_small : (n : ℕ) (board : Board) (revoked : List ℕ) (before after : State) (a : RunAnswer) → RunPromise n board revoked before after a
+pub run_small : (n : ℕ) (board : Board) (revoked : List ℕ) (before after : State) (a : Result Counts Refusal) → RunPromise n board revoked before after a
     → (run_number a < 2 ^ 15) × (run_trapped a < 2 ^ 24) × (run_retired a < 2 ^ 24)
 run_small n board revoked before after a p =
     let m = refusal_le n board revoked before in

@@ -3,6 +3,7 @@ use Prim.Native.Nat.{ℕ, zero, suc, ◌+◌, ◌-◌, ◌^◌, ◌≤◌, ◌<�
 use mathlib.Core.Path.{◌≡◌, refl, sym, ap, ◌∙◌}
 use mathlib.Core.Bool.{Bool, true, false, cond}
 use mathlib.Core.List.{List}
+use Rattle.std.specs.Prelude.{Result, Ok, Err}
 use native.Mathlib.Omega.{arith}
 use lib.Dec.{eqb}
 use borrow.Author.Tests.{eq-eqb, ne_eqb}
@@ -18,7 +19,10 @@ use Rattle.execution.specs.Step.{effect_at, step_of}
 use Rattle.machine.specs.Refusals.{refusal_of}
 use Rattle.machine.specs.Run.{ran, iterate}
 use Rattle.machine.specs.Watching.{watch_step, watched_by, watch_left, WatchPromise, CountPromise, SameRanges}
-use Rattle.machine.specs.declared.RunAnswer.{RunAnswer}
+use Rattle.machine.specs.Refusals.{number_of}
+use Rattle.machine.specs.Run.{counts}
+use Rattle.machine.specs.declared.answers.Counts.{Counts}
+use Rattle.machine.specs.declared.answers.Refusal.{Refusal}
 use Rattle.machine.proofs.Laws as laws
 
 -- one turn: what is kept of it, beside the state that it leaves
@@ -56,21 +60,21 @@ module _ (board : Board) (n k : ℕ) (revoked : List ℕ) (s after : State) (kep
 -- ---- the promise, by how the run ends
 
 module _ (n : ℕ) (board : Board) (revoked : List ℕ) (s : State) (w : Watch) where
-  pub watched_refused : (m : ℕ) → m ≡ refusal_of n board revoked s → (m ≡ 0 → ⊥) → WatchPromise n board revoked s s w w (RunAnswer.Refused m)
+  pub watched_refused : (r : Refusal) → number_of r ≡ refusal_of n board revoked s → WatchPromise n board revoked s s w w (Err r)
   unfolding watch_left
-  watched_refused m e h =
-      let f : eqb (refusal_of n board revoked s) 0 ≡ false = rw (← e) (ne_eqb m 0 h) in
-      record { run_is = laws.run_refused n board revoked s m e h; watch_is = rw f }
+  watched_refused r e =
+      let f : eqb (refusal_of n board revoked s) 0 ≡ false = rw (← e) (ne_eqb (number_of r) 0 (laws.number_positive r)) in
+      record { run_is = laws.run_refused n board revoked s r e; watch_is = rw f }
 
   pub watched_done : (after : State) (left : Watch) (r t : ℕ) → 0 ≡ refusal_of n board revoked s → ran after r t ≡ iterate n board revoked (ran s 0 0)
-      → left ≡ watched_by n board revoked s w → WatchPromise n board revoked s after w left (RunAnswer.Ran r t)
+      → left ≡ watched_by n board revoked s w → WatchPromise n board revoked s after w left (Ok (counts r t))
   unfolding watch_left
   watched_done after left r t e g h =
       let f : eqb (refusal_of n board revoked s) 0 ≡ true = eq-eqb (refusal_of n board revoked s) 0 (sym e) in
       record { run_is = laws.run_done n board revoked s after r t e g; watch_is = rw f h }
 
 -- and so of a run whose ranges are plain numbers and whose counts are lent
-pub counts_of : (n : ℕ) (board : Board) (revoked : List ℕ) (before after : State) (w left : Watch) (answer : RunAnswer)
+pub counts_of : (n : ℕ) (board : Board) (revoked : List ℕ) (before after : State) (w left : Watch) (answer : Result Counts Refusal)
     → WatchPromise n board revoked before after w left answer → CountPromise n board revoked before after w left.first.count left.second.count answer
 counts_of n board revoked before after w left answer p = record {
   run_is = p.run_is;

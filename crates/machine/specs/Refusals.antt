@@ -1,6 +1,6 @@
 -- The refusals of a step and a run, in the order of their numbers: the lowest wins. Document 01, "What is lent" and "Answers"; document 02, 5, 8 and 13.
 -- Assumes nothing.
-use Rattle.std.specs.Prelude.{Bool, true, not, ◌&&◌, ◌||◌, List, ℕ, zero, suc, ◌+◌, ◌*◌, ◌/◌, ◌%◌, ◌^◌, eqb, leb, ltb, get_or, length}
+use Rattle.std.specs.Prelude.{Result, Ok, Err, Bool, true, cond, not, ◌&&◌, ◌||◌, List, ℕ, zero, suc, ◌+◌, ◌*◌, ◌/◌, ◌%◌, ◌^◌, eqb, leb, ltb, get_or, length}
 use Rattle.capability.specs.Capability.{low, high, tagged}
 use Rattle.capability.specs.declared.Capability.{Capability}
 use Rattle.state.specs.Layout.{register_words, capability_count, capability_words}
@@ -9,6 +9,41 @@ use Rattle.state.specs.Lent.{State, report_edition, later_edition}
 use Rattle.state.specs.Memory.{granule_bytes}
 use Rattle.state.specs.Checks.{fail_if}
 use Rattle.state.specs.declared.Board.{Board}
+use Rattle.machine.specs.declared.answers.Refusal.{Refusal}
+use Rattle.machine.specs.declared.answers.Refusal.TheVariants.{Registers, Memory, Bits, Words, Steps, Edition, Bounds, Granule, Rights, Place, Range}
+
+-- ---- the refusals by name
+
+-- the paper's number of each; the sweeper's is 9, and those from 20 on are of the search of what is reached
+abbrev pub number_of : Refusal → ℕ
+number_of Registers = 1
+number_of Memory = 2
+number_of Bits = 3
+number_of Words = 4
+number_of Steps = 5
+number_of Edition = 7
+number_of Bounds = 8
+number_of Granule = 9
+number_of Rights = 20
+number_of Place = 21
+number_of Range = 22
+
+-- the refusal of a number (laws `refusal_named_number`, `refusal_number`)
+unfoldable pub refusal_named : (number : ℕ) → Refusal
+refusal_named n =
+    cond (eqb n 1) Registers (cond (eqb n 2) Memory (cond (eqb n 3) Bits (cond (eqb n 4) Words (cond (eqb n 5) Steps
+    (cond (eqb n 7) Edition (cond (eqb n 8) Bounds (cond (eqb n 9) Granule (cond (eqb n 20) Rights (cond (eqb n 21) Place Range)))))))))
+
+-- the number of an answer; 0 where nothing is refused
+abbrev pub number_in : {A : Type 0} → Result A Refusal → ℕ
+number_in (Ok x) = 0
+number_in (Err r) = number_of r
+
+-- the answer to one test
+abbrev pub refused_unless : (good : Bool) → Refusal → Result (Unit {0}) Refusal
+refused_unless good why = cond good (Ok tt) (Err why)
+
+-- ---- the tests
 
 -- the bytes of memory that one byte of tags or revocation bits is for: the least memory, and what its size and the window's ends are multiples of
 abbrev pub block_bytes : ℕ

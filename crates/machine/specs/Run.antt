@@ -1,42 +1,40 @@
 -- The answers of a step and a run, and what they leave. Document 01, "Answers". Assumes nothing.
-use Rattle.std.specs.Prelude.{cond, List, ◌≡◌, ℕ, zero, suc, ◌+◌, eqb}
+use Rattle.std.specs.Prelude.{Result, Ok, Err, cond, List, ◌≡◌, ℕ, zero, suc, ◌+◌, eqb}
 use Rattle.state.specs.Lent.{State}
 use Rattle.state.specs.declared.Board.{Board}
 use Rattle.commit.specs.Commit.{retires}
 use Rattle.execution.specs.Step.{effect_at, step_of}
-use Rattle.machine.specs.Refusals.{refusal_of}
-use Rattle.machine.specs.declared.StepAnswer.{StepAnswer}
-use Rattle.machine.specs.declared.StepAnswer.TheVariants.{Retired, Trapped, Refused}
-use Rattle.machine.specs.declared.RunAnswer.{RunAnswer}
+use Rattle.machine.specs.Refusals.{number_in, refusal_named, refusal_of}
+use Rattle.machine.specs.declared.answers.Refusal.{Refusal}
+use Rattle.machine.specs.declared.answers.Step.{Step}
+use Rattle.machine.specs.declared.answers.Step.TheVariants.{Retired, Trapped}
+use Rattle.machine.specs.declared.answers.Counts.{Counts}
 
 -- ---- the paper's number and values of each answer; a refused call has both counts 0
 
-abbrev pub step_number : StepAnswer → ℕ
-step_number Retired = 0
-step_number Trapped = 0
-step_number (Refused n) = n
+abbrev pub step_number : Result Step Refusal → ℕ
+step_number a = number_in a
 
-abbrev pub step_retired : StepAnswer → ℕ
-step_retired Retired = 1
-step_retired Trapped = 0
-step_retired (Refused n) = 0
+abbrev pub step_retired : Result Step Refusal → ℕ
+step_retired (Ok Retired) = 1
+step_retired (Ok Trapped) = 0
+step_retired (Err refusal) = 0
 
-abbrev pub step_trapped : StepAnswer → ℕ
-step_trapped Retired = 0
-step_trapped Trapped = 1
-step_trapped (Refused n) = 0
+abbrev pub step_trapped : Result Step Refusal → ℕ
+step_trapped (Ok Retired) = 0
+step_trapped (Ok Trapped) = 1
+step_trapped (Err refusal) = 0
 
-abbrev pub run_number : RunAnswer → ℕ
-run_number (RunAnswer.Ran retired trapped) = 0
-run_number (RunAnswer.Refused n) = n
+abbrev pub run_number : Result Counts Refusal → ℕ
+run_number a = number_in a
 
-abbrev pub run_retired : RunAnswer → ℕ
-run_retired (RunAnswer.Ran retired trapped) = retired
-run_retired (RunAnswer.Refused n) = 0
+abbrev pub run_retired : Result Counts Refusal → ℕ
+run_retired (Ok counts) = counts.retired
+run_retired (Err refusal) = 0
 
-abbrev pub run_trapped : RunAnswer → ℕ
-run_trapped (RunAnswer.Ran retired trapped) = trapped
-run_trapped (RunAnswer.Refused n) = 0
+abbrev pub run_trapped : Result Counts Refusal → ℕ
+run_trapped (Ok counts) = counts.trapped
+run_trapped (Err refusal) = 0
 
 -- ---- one step
 
@@ -44,9 +42,10 @@ run_trapped (RunAnswer.Refused n) = 0
 abbrev pub step_refusal : Board → (revoked : List ℕ) → State → ℕ
 step_refusal board revoked s = refusal_of 1 board revoked s
 
-unfoldable pub step_answer : Board → (revoked : List ℕ) → State → StepAnswer
+unfoldable pub step_answer : Board → (revoked : List ℕ) → State → Result Step Refusal
 step_answer board revoked s =
-    cond (eqb (step_refusal board revoked s) 0) (cond (retires (effect_at board revoked s)) Retired Trapped) (Refused (step_refusal board revoked s))
+    cond (eqb (step_refusal board revoked s) 0) (Ok (cond (retires (effect_at board revoked s)) Retired Trapped))
+    (Err (refusal_named (step_refusal board revoked s)))
 
 unfoldable pub step_after : Board → (revoked : List ℕ) → State → State
 step_after board revoked s = cond (eqb (step_refusal board revoked s) 0) (step_of board revoked s) s
@@ -59,7 +58,7 @@ abbrev pub trapped_of : Board → (revoked : List ℕ) → State → ℕ
 trapped_of board revoked s = cond (eqb (step_refusal board revoked s) 0) (cond (retires (effect_at board revoked s)) 0 1) 0
 
 -- what a step promises: its answer, with its number and counts, and all that was lent as it leaves it
-pub record StepPromise (board : Board) (revoked : List ℕ) (before after : State) (answer : StepAnswer) : Type 0 where
+pub record StepPromise (board : Board) (revoked : List ℕ) (before after : State) (answer : Result Step Refusal) : Type 0 where
   pub answer_is : answer ≡ step_answer board revoked before
   pub number_is : step_number answer ≡ step_refusal board revoked before
   pub retired_is : step_retired answer ≡ retired_of board revoked before
@@ -92,10 +91,13 @@ iterate (suc n) board revoked r = iterate n board revoked (one_more board revoke
 abbrev pub ran_from : (n : ℕ) → Board → (revoked : List ℕ) → State → Ran
 ran_from n board revoked s = iterate n board revoked (ran s 0 0)
 
-unfoldable pub run_answer : (n : ℕ) → Board → (revoked : List ℕ) → State → RunAnswer
+abbrev pub counts : (retired trapped : ℕ) → Counts
+counts r t = record { retired = r; trapped = t }
+
+unfoldable pub run_answer : (n : ℕ) → Board → (revoked : List ℕ) → State → Result Counts Refusal
 run_answer n board revoked s =
-    cond (eqb (refusal_of n board revoked s) 0) (RunAnswer.Ran (ran_from n board revoked s).retired (ran_from n board revoked s).trapped)
-    (RunAnswer.Refused (refusal_of n board revoked s))
+    cond (eqb (refusal_of n board revoked s) 0) (Ok (counts (ran_from n board revoked s).retired (ran_from n board revoked s).trapped))
+    (Err (refusal_named (refusal_of n board revoked s)))
 
 unfoldable pub run_after : (n : ℕ) → Board → (revoked : List ℕ) → State → State
 run_after n board revoked s = cond (eqb (refusal_of n board revoked s) 0) (ran_from n board revoked s).at s
@@ -108,7 +110,7 @@ abbrev pub trapped_by : (n : ℕ) → Board → (revoked : List ℕ) → State �
 trapped_by n board revoked s = cond (eqb (refusal_of n board revoked s) 0) (ran_from n board revoked s).trapped 0
 
 -- what a run promises
-pub record RunPromise (n : ℕ) (board : Board) (revoked : List ℕ) (before after : State) (answer : RunAnswer) : Type 0 where
+pub record RunPromise (n : ℕ) (board : Board) (revoked : List ℕ) (before after : State) (answer : Result Counts Refusal) : Type 0 where
   pub answer_is : answer ≡ run_answer n board revoked before
   pub number_is : run_number answer ≡ refusal_of n board revoked before
   pub retired_is : run_retired answer ≡ retired_by n board revoked before

@@ -1,5 +1,5 @@
 -- The watch record over a run. Document 02, 14. Assumes nothing.
-use Rattle.std.specs.Prelude.{cond, List, ◌≡◌, ℕ, zero, suc, eqb}
+use Rattle.std.specs.Prelude.{Result, cond, List, ◌≡◌, ℕ, zero, suc, eqb}
 use Rattle.watch.specs.declared.Watch.{Watch}
 use Rattle.state.specs.Lent.{State}
 use Rattle.state.specs.Effects.{stored_by}
@@ -8,7 +8,8 @@ use Rattle.commit.specs.Kept.{watch_after}
 use Rattle.execution.specs.Step.{effect_at, step_of}
 use Rattle.machine.specs.Refusals.{refusal_of}
 use Rattle.machine.specs.Run.{RunPromise}
-use Rattle.machine.specs.declared.RunAnswer.{RunAnswer}
+use Rattle.machine.specs.declared.answers.Refusal.{Refusal}
+use Rattle.machine.specs.declared.answers.Counts.{Counts}
 
 -- the record after the next step from a state
 abbrev pub watch_step : Board → (revoked : List ℕ) → State → Watch → Watch
@@ -24,7 +25,7 @@ unfoldable pub watch_left : (n : ℕ) → Board → (revoked : List ℕ) → Sta
 watch_left n board revoked s w = cond (eqb (refusal_of n board revoked s) 0) (watched_by n board revoked s w) w
 
 -- what a run with a record promises: all that a run does, and the record
-pub record WatchPromise (n : ℕ) (board : Board) (revoked : List ℕ) (before after : State) (lent left : Watch) (answer : RunAnswer) : Type 0 where
+pub record WatchPromise (n : ℕ) (board : Board) (revoked : List ℕ) (before after : State) (lent left : Watch) (answer : Result Counts Refusal) : Type 0 where
   pub run_is : RunPromise n board revoked before after answer
   pub watch_is : left ≡ watch_left n board revoked before lent
 
@@ -34,7 +35,8 @@ watch_of start1 length1 count1 start2 length2 count2 =
     record { first = record { start = start1; length = length1; count = count1 }; second = record { start = start2; length = length2; count = count2 } }
 
 -- what a run with ranges as numbers and lent counts promises: all that a run does, and both counts
-pub record CountPromise (n : ℕ) (board : Board) (revoked : List ℕ) (before after : State) (lent : Watch) (count1 count2 : ℕ) (answer : RunAnswer) : Type 0
+pub record CountPromise (n : ℕ) (board : Board) (revoked : List ℕ) (before after : State) (lent : Watch) (count1 count2 : ℕ)
+    (answer : Result Counts Refusal) : Type 0
   where
     pub run_is : RunPromise n board revoked before after answer
     pub first_is : count1 ≡ (watch_left n board revoked before lent).first.count

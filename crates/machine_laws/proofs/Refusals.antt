@@ -19,8 +19,8 @@ use Rattle.state.specs.Lent.{State, report_edition, later_edition}
 use Rattle.machine.specs.Refusals.{block_bytes, most_memory, most_steps, good_memory, good_window, good_bits, good_tags, good_zero, good_words, good_edition}
 use Rattle.machine.specs.Refusals.{sound, sound_if_tagged, good_bounds, refusal_of}
 use Rattle.machine.specs.Run.{step_refusal, step_answer, step_after, run_answer, run_after}
-use Rattle.machine.specs.declared.StepAnswer.TheVariants.{Refused}
-use Rattle.machine.specs.declared.RunAnswer.TheVariants as RunAnswer
+use Rattle.machine.specs.Refusals.{refusal_named}
+use Rattle.std.specs.Prelude.{Err}
 use Rattle.machine_laws.specs.Lent.{LentRegisters, LentMemory, LentWindow, LentBits, ZeroRegister, LentWords, LentEdition, GoodState, Refusal}
 use Rattle.machine_laws.specs.Lent.{Sound, SoundRegisters}
 use Rattle.machine_laws.specs.Lent.{is_report, is_later, none, bad_registers, bad_memory, bad_window, bad_bits, bad_words, too_long, bad_edition, unsound}
@@ -355,7 +355,7 @@ module _ (board : Board) (revoked : List ℕ) (s : State) where
     unfolding step_after
     refused_step = rw (ne_eqb (step_refusal board revoked s) 0 refused)
 
-    pub refused_step_answer : step_answer board revoked s ≡ Refused (step_refusal board revoked s)
+    pub refused_step_answer : step_answer board revoked s ≡ Err (refusal_named (step_refusal board revoked s))
     unfolding step_answer
     refused_step_answer = rw (ne_eqb (step_refusal board revoked s) 0 refused)
 
@@ -382,7 +382,8 @@ module _ (board : Board) (revoked : List ℕ) (s : State) where
   unfolding run_after
   refused_run n h = rw (ne_eqb (refusal_of n board revoked s) 0 h)
 
-  pub refused_run_answer : (n : ℕ) → (refusal_of n board revoked s ≡ 0 → ⊥) → run_answer n board revoked s ≡ RunAnswer.Refused (refusal_of n board revoked s)
+  pub refused_run_answer : (n : ℕ) → (refusal_of n board revoked s ≡ 0 → ⊥) → run_answer n board revoked s
+      ≡ Err (refusal_named (refusal_of n board revoked s))
   unfolding run_answer
   refused_run_answer n h = rw (ne_eqb (refusal_of n board revoked s) 0 h)
 

@@ -14,8 +14,10 @@ use Rattle.execution.specs.Step.{effect_at, step_of}
 use Rattle.machine.specs.Refusals.{most_steps}
 use Rattle.state.specs.declared.Board.{Board}
 use Rattle.machine.specs.Run.{step_refusal, step_answer, step_after, Ran, ran, one_more, iterate, ran_from, run_answer, run_after, step_retired, step_trapped}
-use Rattle.machine.specs.declared.StepAnswer.TheVariants.{Retired, Trapped, Refused}
-use Rattle.machine.specs.declared.RunAnswer.TheVariants as RunAnswer
+use Rattle.machine.specs.declared.answers.Step.TheVariants.{Retired, Trapped}
+use Rattle.machine.specs.Refusals.{refusal_named}
+use Rattle.machine.specs.Run.{counts}
+use Rattle.std.specs.Prelude.{Ok, Err}
 use Rattle.machine_laws.specs.Steps.{steps_after, retired_in, trapped_in, SoundBetween}
 use Rattle.machine_laws.specs.Lent.{GoodState}
 use Rattle.machine_laws.proofs.Kept.{good_after}
@@ -52,7 +54,7 @@ module _ (board : Board) (revoked : List ℕ) where
     unfolding step_answer
     answer_retired = rw good (go (retires (effect_at board revoked s)))
       where
-        go : (b : Bool) → step_retired (cond b Retired Trapped) ≡ cond b 1 0
+        go : (b : Bool) → step_retired (Ok (cond b Retired Trapped)) ≡ cond b 1 0
         go true = refl
         go false = refl
 
@@ -60,7 +62,7 @@ module _ (board : Board) (revoked : List ℕ) where
     unfolding step_answer
     answer_trapped = rw good (go (retires (effect_at board revoked s)))
       where
-        go : (b : Bool) → step_trapped (cond b Retired Trapped) ≡ cond b 0 1
+        go : (b : Bool) → step_trapped (Ok (cond b Retired Trapped)) ≡ cond b 0 1
         go true = refl
         go false = refl
 
@@ -132,14 +134,14 @@ module _ (board : Board) (revoked : List ℕ) where
     unfolding run_after
     run_after_lem = rw (not_too_many board revoked s good n few) (ap (λ (r : Ran). r.at) (run_is_steps n s 0 0 good between))
 
-    pub run_answer_lem : run_answer n board revoked s ≡ RunAnswer.Ran (retired_in n board revoked s) (trapped_in n board revoked s)
+    pub run_answer_lem : run_answer n board revoked s ≡ Ok (counts (retired_in n board revoked s) (trapped_in n board revoked s))
     unfolding run_answer
     run_answer_lem =
         rw (not_too_many board revoked s good n few)
-        (ap (λ (r : Ran). RunAnswer.Ran r.retired r.trapped) (run_is_steps n s 0 0 good between) ∙ simp zero-add)
+        (ap (λ (r : Ran). Ok (counts r.retired r.trapped)) (run_is_steps n s 0 0 good between) ∙ simp zero-add)
 
   -- a public run of 0 steps changes nothing, and counts 0 and 0
-  pub run_of_none : (s : State) → step_refusal board revoked s ≡ 0 → (run_after 0 board revoked s ≡ s) × (run_answer 0 board revoked s ≡ RunAnswer.Ran 0 0)
+  pub run_of_none : (s : State) → step_refusal board revoked s ≡ 0 → (run_after 0 board revoked s ≡ s) × (run_answer 0 board revoked s ≡ Ok (counts 0 0))
   unfolding steps_after retired_in trapped_in
   run_of_none s good = (
     run_after_lem 0 s good (λ k a b. absurd (omega arith)) (omega arith),
@@ -154,8 +156,8 @@ module _ (board : Board) (revoked : List ℕ) where
   unfolding step_answer
   step_counted s = go (eqb (step_refusal board revoked s) 0) (retires (effect_at board revoked s))
     where
-      go : (a b : Bool) → step_retired (cond a (cond b Retired Trapped) (Refused (step_refusal board revoked s)))
-          + step_trapped (cond a (cond b Retired Trapped) (Refused (step_refusal board revoked s))) ≤ 1
+      go : (a b : Bool) → step_retired (cond a (Ok (cond b Retired Trapped)) (Err (refusal_named (step_refusal board revoked s))))
+          + step_trapped (cond a (Ok (cond b Retired Trapped)) (Err (refusal_named (step_refusal board revoked s)))) ≤ 1
       go true true = omega arith
       go true false = omega arith
       go false b = omega arith
@@ -166,8 +168,8 @@ module _ (board : Board) (revoked : List ℕ) where
   counted_accepted s h = go (eqb (step_refusal board revoked s) 0) refl h
     where
       go : (a : Bool) → eqb (step_refusal board revoked s) 0 ≡ a
-          → 1 ≤ step_retired (cond a (cond (retires (effect_at board revoked s)) Retired Trapped) (Refused (step_refusal board revoked s)))
-          + step_trapped (cond a (cond (retires (effect_at board revoked s)) Retired Trapped) (Refused (step_refusal board revoked s)))
+          → 1 ≤ step_retired (cond a (Ok (cond (retires (effect_at board revoked s)) Retired Trapped)) (Err (refusal_named (step_refusal board revoked s))))
+          + step_trapped (cond a (Ok (cond (retires (effect_at board revoked s)) Retired Trapped)) (Err (refusal_named (step_refusal board revoked s))))
           → step_refusal board revoked s ≡ 0
       go true q x = eqb-true (step_refusal board revoked s) 0 q
       go false q x = absurd (omega arith)

@@ -1,5 +1,10 @@
 -- What the promises of a step and of a run shut out: the wrong machines that document 01 lists under "Promises that pin the answer". Each law names an answer,
 -- or buffers, with which no program keeps the promise. Assumes nothing.
+use Rattle.std.specs.Prelude.{Result, Ok, Err, is_err}
+use Rattle.machine.specs.Refusals.{refusal_named}
+use Rattle.machine.specs.Run.{counts}
+use Rattle.machine.specs.declared.answers.Refusal.{Refusal}
+use Rattle.machine.proofs.Laws.{refusal_number}
 use mathlib.Core.Path.{◌≡◌, refl, sym, ap, ◌∙◌}
 use mathlib.Core.Bool.{Bool, true, false, cond, true≢false}
 use mathlib.Core.List.{List, [], ◌∷◌}
@@ -21,9 +26,9 @@ use Rattle.machine.specs.Run.{step_refusal, retired_of, trapped_of, step_trapped
 use Rattle.machine.specs.Run.{step_number}
 use Rattle.machine.specs.Run.{ran, ran_from}
 use Rattle.machine.specs.Run.{step_retired, run_number, run_retired, run_trapped}
-use Rattle.machine.specs.declared.StepAnswer.{StepAnswer}
-use Rattle.machine.specs.declared.StepAnswer.TheVariants.{Retired, Trapped, Refused}
-use Rattle.machine.specs.declared.RunAnswer.{RunAnswer}
+use Rattle.machine.specs.declared.answers.Step.{Step}
+use Rattle.machine.specs.declared.answers.Step.TheVariants.{Retired, Trapped}
+use Rattle.machine.specs.declared.answers.Counts.{Counts}
 use Rattle.machine_laws.specs.Cases.{Case, board_in, put, before, top_of_memory, untagged_load, environment_call}
 use Rattle.machine_laws.specs.Steps.{steps_after, retired_in, trapped_in, SoundBetween}
 use Rattle.machine_laws.proofs.Refusals.{refused_step, refused_too, refused_run, too_many, not_too_many, good_of}
@@ -34,31 +39,22 @@ use Rattle.machine_laws.proofs.Timer.{time_after}
 
 -- ---- a machine that refuses all calls
 
-abbrev is_refused : StepAnswer → Bool
-is_refused Retired = false
-is_refused Trapped = false
-is_refused (Refused n) = true
-
-abbrev is_refused_run : RunAnswer → Bool
-is_refused_run (RunAnswer.Ran r t) = false
-is_refused_run (RunAnswer.Refused n) = true
-
 module _ (board : Board) (revoked : List ℕ) (s : State) where
   answer_number : step_number (step_answer board revoked s) ≡ step_refusal board revoked s
   unfolding step_answer
   answer_number = go (eqb (step_refusal board revoked s) 0) refl (retires (effect_at board revoked s))
     where
       go : (t : Bool) → eqb (step_refusal board revoked s) 0 ≡ t → (r : Bool)
-          → step_number (cond t (cond r Retired Trapped) (Refused (step_refusal board revoked s))) ≡ step_refusal board revoked s
+          → step_number (cond t (Ok (cond r Retired Trapped)) (Err (refusal_named (step_refusal board revoked s)))) ≡ step_refusal board revoked s
       go true q true = sym (eqb-true (step_refusal board revoked s) 0 q)
       go true q false = sym (eqb-true (step_refusal board revoked s) 0 q)
-      go false q r = refl
+      go false q r = refusal_number 1 board revoked s (eqb-false (step_refusal board revoked s) 0 q)
 
   answer_retired : step_retired (step_answer board revoked s) ≡ retired_of board revoked s
   unfolding step_answer
   answer_retired = go (eqb (step_refusal board revoked s) 0) (retires (effect_at board revoked s))
     where
-      go : (t r : Bool) → step_retired (cond t (cond r Retired Trapped) (Refused (step_refusal board revoked s))) ≡ cond t (cond r 1 0) 0
+      go : (t r : Bool) → step_retired (cond t (Ok (cond r Retired Trapped)) (Err (refusal_named (step_refusal board revoked s)))) ≡ cond t (cond r 1 0) 0
       go true true = refl
       go true false = refl
       go false r = refl
@@ -67,41 +63,37 @@ module _ (board : Board) (revoked : List ℕ) (s : State) where
   unfolding step_answer
   answer_trapped = go (eqb (step_refusal board revoked s) 0) (retires (effect_at board revoked s))
     where
-      go : (t r : Bool) → step_trapped (cond t (cond r Retired Trapped) (Refused (step_refusal board revoked s))) ≡ cond t (cond r 0 1) 0
+      go : (t r : Bool) → step_trapped (cond t (Ok (cond r Retired Trapped)) (Err (refusal_named (step_refusal board revoked s)))) ≡ cond t (cond r 0 1) 0
       go true true = refl
       go true false = refl
       go false r = refl
 
-  answer_good : step_refusal board revoked s ≡ 0 → is_refused (step_answer board revoked s) ≡ false
+  answer_good : step_refusal board revoked s ≡ 0 → is_err (step_answer board revoked s) ≡ false
   unfolding step_answer
-  answer_good good = rw good (go (retires (effect_at board revoked s)))
-    where
-      go : (r : Bool) → is_refused (cond r Retired Trapped) ≡ false
-      go true = refl
-      go false = refl
+  answer_good good = rw good
 
 module _ (board : Board) (revoked : List ℕ) (from after : State) where
   -- of every start state: the number answered is that of the refusal that applies, and 0 where none does
-  pub step_number_lem : (a : StepAnswer) → StepPromise board revoked from after a → step_number a ≡ step_refusal board revoked from
+  pub step_number_lem : (a : Result Step Refusal) → StepPromise board revoked from after a → step_number a ≡ step_refusal board revoked from
   step_number_lem a p = p.number_is
 
-  pub run_number_lem : (n : ℕ) (a : RunAnswer) → RunPromise n board revoked from after a → run_number a ≡ refusal_of n board revoked from
+  pub run_number_lem : (n : ℕ) (a : Result Counts Refusal) → RunPromise n board revoked from after a → run_number a ≡ refusal_of n board revoked from
   run_number_lem n a p = p.number_is
 
   -- so no good start state is refused, by any number
   module _ (good : step_refusal board revoked from ≡ 0) where
-    pub good_step_not_refused : (k : ℕ) → StepPromise board revoked from after (Refused k) → ⊥
-    good_step_not_refused k p = true≢false (ap is_refused p.answer_is ∙ answer_good board revoked from good)
+    pub good_step_not_refused : (r : Refusal) → StepPromise board revoked from after (Err r) → ⊥
+    good_step_not_refused r p = true≢false (ap is_err p.answer_is ∙ answer_good board revoked from good)
 
-    pub good_run_not_refused : (n k : ℕ) → n ≤ most_steps → RunPromise n board revoked from after (RunAnswer.Refused k) → ⊥
+    pub good_run_not_refused : (n : ℕ) (r : Refusal) → n ≤ most_steps → RunPromise n board revoked from after (Err r) → ⊥
     unfolding run_answer
-    good_run_not_refused n k few p = true≢false (ap is_refused_run p.answer_is ∙ rw (not_too_many board revoked from good n few))
+    good_run_not_refused n r few p = true≢false (ap is_err p.answer_is ∙ rw (not_too_many board revoked from good n few))
 
 -- the promises at the start state of a worked case
-abbrev pub StepFrom : Case → (after : State) → StepAnswer → Type 0
+abbrev pub StepFrom : Case → (after : State) → Result Step Refusal → Type 0
 StepFrom c after a = StepPromise (board_in c) (c.revoked ∷ []) (before c) after a
 
-abbrev pub RunFrom : (n : ℕ) → Case → (after : State) → RunAnswer → Type 0
+abbrev pub RunFrom : (n : ℕ) → Case → (after : State) → Result Counts Refusal → Type 0
 RunFrom n c after a = RunPromise n (board_in c) (c.revoked ∷ []) (before c) after a
 
 worked_good : (c : Case) → Worked c → step_refusal (board_in c) (c.revoked ∷ []) (before c) ≡ 0
@@ -111,11 +103,11 @@ top_good : step_refusal (board_in top_of_memory) (top_of_memory.revoked ∷ []) 
 top_good = worked_good top_of_memory top_worked
 
 -- there is a start state that no step and no run of one refuses
-pub refusing_step_shut_out : (after : State) (k : ℕ) → StepFrom top_of_memory after (Refused k) → ⊥
-refusing_step_shut_out after k p = good_step_not_refused _ _ (before top_of_memory) after top_good k p
+pub refusing_step_shut_out : (after : State) (r : Refusal) → StepFrom top_of_memory after (Err r) → ⊥
+refusing_step_shut_out after r p = good_step_not_refused _ _ (before top_of_memory) after top_good r p
 
-pub refusing_run_shut_out : (after : State) (k : ℕ) → RunFrom 1 top_of_memory after (RunAnswer.Refused k) → ⊥
-refusing_run_shut_out after k p = good_run_not_refused _ _ (before top_of_memory) after top_good 1 k (omega arith) p
+pub refusing_run_shut_out : (after : State) (r : Refusal) → RunFrom 1 top_of_memory after (Err r) → ⊥
+refusing_run_shut_out after r p = good_run_not_refused _ _ (before top_of_memory) after top_good 1 r (omega arith) p
 
 -- ---- a step that leaves everything as it was
 
@@ -123,7 +115,7 @@ refusing_run_shut_out after k p = good_run_not_refused _ _ (before top_of_memory
 abbrev pcc_in : State → ℕ
 pcc_in s = get_or s.regs (pcc_index * 3) 0
 
-pcc_after : (after : State) (a : StepAnswer) → StepFrom top_of_memory after a → pcc_in after ≡ 0
+pcc_after : (after : State) (a : Result Step Refusal) → StepFrom top_of_memory after a → pcc_in after ≡ 0
 unfolding top_of_memory
 pcc_after after a p = ap (λ (l : List ℕ). get_or l (pcc_index * 3) 0) p.registers_are ∙ word_at_lem top_of_memory.after 0 _ top_worked.words_are
 
@@ -131,22 +123,22 @@ pcc_before : pcc_in (before top_of_memory) ≡ 0xFFFFFFFC
 unfolding top_of_memory before put set_capability
 pcc_before = refl
 
-pub unchanging_step_shut_out : (a : StepAnswer) → StepFrom top_of_memory (before top_of_memory) a → ⊥
+pub unchanging_step_shut_out : (a : Result Step Refusal) → StepFrom top_of_memory (before top_of_memory) a → ⊥
 unchanging_step_shut_out a p = omega (arith, pcc_before, pcc_after (before top_of_memory) a p)
 
 -- ---- a step with one trap for all
 
 -- one step does not trap, and one does not retire
-pub trapping_step_shut_out : (after : State) → StepFrom top_of_memory after Trapped → ⊥
+pub trapping_step_shut_out : (after : State) → StepFrom top_of_memory after (Ok Trapped) → ⊥
 unfolding top_of_memory
 trapping_step_shut_out after p = omega (arith, ap step_retired p.answer_is, top_worked.retired_is)
 
-pub retiring_step_shut_out : (after : State) → StepFrom environment_call after Retired → ⊥
+pub retiring_step_shut_out : (after : State) → StepFrom environment_call after (Ok Retired) → ⊥
 unfolding environment_call
 retiring_step_shut_out after p = omega (arith, ap step_retired p.answer_is, call_worked.retired_is)
 
 -- of two steps that trap, no one mcause is left by both, and no one mtval
-pub one_cause_shut_out : (x y : State) (a b : StepAnswer) → StepFrom untagged_load x a → StepFrom environment_call y b
+pub one_cause_shut_out : (x y : State) (a b : Result Step Refusal) → StepFrom untagged_load x a → StepFrom environment_call y b
     → csr_at x.regs Mcause ≡ csr_at y.regs Mcause → ⊥
 unfolding untagged_load environment_call
 one_cause_shut_out x y a b p q e =
@@ -158,7 +150,7 @@ one_cause_shut_out x y a b p q e =
       word_at_lem environment_call.after 7 _ call_worked.words_are,
     )
 
-pub one_value_shut_out : (x y : State) (a b : StepAnswer) → StepFrom untagged_load x a → StepFrom environment_call y b
+pub one_value_shut_out : (x y : State) (a b : Result Step Refusal) → StepFrom untagged_load x a → StepFrom environment_call y b
     → csr_at x.regs Mtval ≡ csr_at y.regs Mtval → ⊥
 unfolding untagged_load environment_call
 one_value_shut_out x y a b p q e =
@@ -182,7 +174,7 @@ module _ (board : Board) (revoked : List ℕ) (from after : State) where
       refused_run board revoked from 1 (refused_too board revoked from h 1) ∙ sym (refused_step board revoked from h))
 
   -- of every start state: a run of one leaves what the promise of a step says
-  pub run_of_one : (a : RunAnswer) → RunPromise 1 board revoked from after a → StepPromise board revoked from after (step_answer board revoked from)
+  pub run_of_one : (a : Result Counts Refusal) → RunPromise 1 board revoked from after a → StepPromise board revoked from after (step_answer board revoked from)
   run_of_one a p =
       record {
         answer_is = refl;
@@ -194,9 +186,9 @@ module _ (board : Board) (revoked : List ℕ) (from after : State) where
         tags_are = p.tags_are ∙ ap (λ (s : State). s.tags) one_step;
       }
 
-  module _ (n retired trapped : ℕ) (p : RunPromise n board revoked from after (RunAnswer.Ran retired trapped)) where
+  module _ (n retired trapped : ℕ) (p : RunPromise n board revoked from after (Ok (counts retired trapped))) where
     not_refused : refusal_of n board revoked from ≡ 0
-    not_refused = sym (run_number_lem board revoked from after n (RunAnswer.Ran retired trapped) p)
+    not_refused = sym (run_number_lem board revoked from after n (Ok (counts retired trapped)) p)
 
     ran_good : step_refusal board revoked from ≡ 0
     ran_good =
@@ -212,7 +204,7 @@ module _ (board : Board) (revoked : List ℕ) (from after : State) where
     pub counts_are : (retired ≡ (ran_from n board revoked from).retired) × (trapped ≡ (ran_from n board revoked from).trapped)
     unfolding run_answer
     counts_are =
-        let e : RunAnswer.Ran retired trapped ≡ RunAnswer.Ran (ran_from n board revoked from).retired (ran_from n board revoked from).trapped =
+        let e : Ok (counts retired trapped) ≡ Ok (counts (ran_from n board revoked from).retired (ran_from n board revoked from).trapped) =
         p.answer_is ∙ rw not_refused in
         (ap run_retired e, ap run_trapped e)
 
@@ -236,8 +228,8 @@ module _ (board : Board) (revoked : List ℕ) (from after : State) where
 
 -- of every start state: no other number of steps leaves what n steps leave
 pub more_steps_shut_out : (board : Board) (revoked : List ℕ) (from after : State) → time_of from.regs < 2 ^ 64
-    → (n m retired trapped retired' trapped' : ℕ) → RunPromise n board revoked from after (RunAnswer.Ran retired trapped)
-    → RunPromise m board revoked from after (RunAnswer.Ran retired' trapped') → m ≡ n
+    → (n m retired trapped retired' trapped' : ℕ) → RunPromise n board revoked from after (Ok (counts retired trapped))
+    → RunPromise m board revoked from after (Ok (counts retired' trapped')) → m ≡ n
 more_steps_shut_out board revoked from after fits n m retired trapped retired' trapped' p q =
     let x = ran_time board revoked from after n retired trapped p fits in
     let y = ran_time board revoked from after m retired' trapped' q fits in

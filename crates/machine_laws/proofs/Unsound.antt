@@ -26,7 +26,8 @@ use Rattle.execution.specs.Step.{met_of, effect_of, instruction_in, word_in, len
 use Rattle.machine.specs.Refusals.{good_memory, good_window, good_tags, good_zero, good_words, good_bits, good_edition, sound, sound_if_tagged, good_bounds}
 use Rattle.machine.specs.Refusals.{refusal_of}
 use Rattle.machine.specs.Run.{step_refusal, step_after, one_more, iterate, run_answer, run_after}
-use Rattle.machine.specs.declared.RunAnswer.TheVariants as RunAnswer
+use Rattle.machine.specs.Run.{counts}
+use Rattle.std.specs.Prelude.{Ok}
 use Rattle.machine_laws.specs.Steps.{steps_after, SoundBetween}
 use Rattle.machine_laws.specs.Unsound.{told, ones, board, revoked, stored, loader}
 use Rattle.machine_laws.proofs.Runs.{run_after_lem}
@@ -37,7 +38,7 @@ unfolding told ones sound sound_if_tagged good_bounds capability_at set_capabili
 ones_told = tt
 
 record Computed : Type 0 where
-  goes_on : run_answer 2 board revoked loader ≡ RunAnswer.Ran 2 0
+  goes_on : run_answer 2 board revoked loader ≡ Ok (counts 2 0)
   held : capability_at (run_after 2 board revoked loader).regs 2 ≡ stored
   written : capability_at (run_after 2 board revoked loader).regs 3 ≡ integer 5
   first_accepted : step_refusal board revoked loader ≡ 0
@@ -59,7 +60,7 @@ computed =
     record { goes_on = refl; held = refl; written = refl; first_accepted = refl; next_refused = refl; unwritten = refl }
 
 -- both steps of the run retire; c2 has the value, tagged, and x3 what the second step writes
-pub run_goes_on : run_answer 2 board revoked loader ≡ RunAnswer.Ran 2 0
+pub run_goes_on : run_answer 2 board revoked loader ≡ Ok (counts 2 0)
 run_goes_on = computed.goes_on
 
 pub value_held : capability_at (run_after 2 board revoked loader).regs 2 ≡ stored

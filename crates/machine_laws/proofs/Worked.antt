@@ -6,7 +6,9 @@ use lib.Dec.{T, eqb, eqb→eq}
 use lib.ListN.{get_or}
 use Rattle.choices.proofs.Every.{and_left, and_right}
 use Rattle.state.specs.Lent.{State}
-use Rattle.machine.specs.declared.StepAnswer.{StepAnswer}
+use Rattle.machine.specs.declared.answers.Step.{Step}
+use Rattle.machine.specs.declared.answers.Refusal.{Refusal}
+use Rattle.std.specs.Prelude.{Result}
 use Rattle.machine.specs.Run.{step_answer, step_after, step_number, step_retired}
 use Rattle.machine_laws.proofs.Cases.{cases_hold}
 use Rattle.machine_laws.specs.Cases.{Word, Case, board_in, before, found, holds, Hold, ◌&◌, cases, top_of_memory, untagged_load}
@@ -14,7 +16,7 @@ use Rattle.machine_laws.specs.Cases.{environment_call}
 
 -- ---- what a case answers and leaves
 
-abbrev pub answer_in : Case → StepAnswer
+abbrev pub answer_in : Case → Result Step Refusal
 answer_in c = step_answer (board_in c) (c.revoked ∷ []) (before c)
 
 abbrev pub after_in : Case → State

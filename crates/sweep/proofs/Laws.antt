@@ -18,11 +18,14 @@ use Rattle.state.proofs.Laws.{cond_holds, capability_in_granule}
 use Rattle.memory_instructions.specs.Access.{revoked_value}
 use Rattle.memory_instructions.proofs.Laws.{untagged_unrevoked}
 use Rattle.machine.specs.Refusals.{block_bytes, most_memory, good_memory, good_window, good_bits}
-use Rattle.machine.proofs.Laws.{good_size, good_tag_bytes, bits_alike}
+use Rattle.machine.proofs.Laws.{good_size, good_tag_bytes, bits_alike, refusal_named_number, number_positive, IsNumber, is_number, no_number}
+use Rattle.machine.proofs.Laws as machine_laws
 use Rattle.sweep.specs.Visits.{granules_in, stored_in, visit_refusal, swept_tags, next_after, visit_answer, tags_after, VisitPromise}
 use Rattle.sweep.specs.Visits.{visit_number, visit_last, visit_next, last_told, next_told}
-use Rattle.sweep.specs.declared.SweepAnswer.{SweepAnswer}
-use Rattle.sweep.specs.declared.SweepAnswer.TheVariants.{Next, Last, Refused}
+use Rattle.std.specs.Prelude.{Option, Some, None, Result, Ok, Err}
+use Rattle.machine.specs.Refusals.{number_of, refusal_named}
+use Rattle.machine.specs.declared.answers.Refusal.{Refusal}
+use Rattle.machine.specs.declared.answers.Refusal.TheVariants.{Memory, Bits, Granule}
 
 -- ---- what a granule holds
 
@@ -71,6 +74,15 @@ module _ (board : Board) (revoked mem : List ℕ) where
         go true p false b q c r z = absurd (omega arith)
         go false p w b q c r z = absurd (omega arith)
 
+    -- each number is that of a refusal
+    pub visit_number_of : IsNumber (visit_refusal board revoked mem tags granule)
+    unfolding visit_refusal
+    visit_number_of =
+        machine_laws.either IsNumber (not (good_memory board (length mem))) 2 _ (is_number Memory)
+        (machine_laws.either IsNumber (not (good_window board (length mem))) 2 _ (is_number Memory)
+        (machine_laws.either IsNumber (not (good_bits board revoked (state [] mem tags))) 3 _ (is_number Bits)
+        (machine_laws.either IsNumber (not (ltb granule (granules_in (length mem)))) 9 0 (is_number Granule) no_number)))
+
     -- the numbers of granules stay small
     pub few_granules : visit_refusal board revoked mem tags granule ≡ 0 → granule < 2 ^ 17
     few_granules h = let v = visitable h in omega (arith, v.few, v.there)
@@ -89,33 +101,21 @@ module _ (board : Board) (revoked mem : List ℕ) where
         go false false false false = omega arith
 
   -- with as many tags, another granule is refused only for its number
-  -- a refusal's number is not 0, and the number of a next granule is small
+  -- the number of a next granule is small
   module _ (tags : List ℕ) (granule : ℕ) where
-    abbrev kind : SweepAnswer → ℕ
-    kind (Next n) = 0
-    kind Last = 1
-    kind (Refused n) = 2
+    abbrev kind : Result (Option ℕ) Refusal → ℕ
+    kind (Ok (Some n)) = 0
+    kind (Ok None) = 1
+    kind (Err r) = 2
 
-    pub refused_number : (n : ℕ) → visit_answer board revoked mem tags granule ≡ Refused n → n ≡ 0 → ⊥
-    unfolding visit_answer next_after
-    refused_number n e z = go (eqb (visit_refusal board revoked mem tags granule) 0) refl (eqb (granule + 1) (granules_in (length mem))) e
-      where
-        r : ℕ
-        r = visit_refusal board revoked mem tags granule
-
-        go : (a : Bool) → eqb r 0 ≡ a → (b : Bool) → cond a (cond b Last (Next (granule + 1))) (Refused r) ≡ Refused n → ⊥
-        go true p true q = let z : ◌≡◌ {A = ℕ} 1 2 = ap kind q in omega (arith, z)
-        go true p false q = let z : ◌≡◌ {A = ℕ} 0 2 = ap kind q in omega (arith, z)
-        go false p b q = eqb-false r 0 p (ap visit_number q ∙ z)
-
-    pub next_small : (n : ℕ) → visit_answer board revoked mem tags granule ≡ Next n → n < 2 ^ 32
+    pub next_small : (n : ℕ) → visit_answer board revoked mem tags granule ≡ Ok (Some n) → n < 2 ^ 32
     unfolding visit_answer next_after
     next_small n e = go (eqb (visit_refusal board revoked mem tags granule) 0) refl (eqb (granule + 1) (granules_in (length mem))) e
       where
         r : ℕ
         r = visit_refusal board revoked mem tags granule
 
-        go : (a : Bool) → eqb r 0 ≡ a → (b : Bool) → cond a (cond b Last (Next (granule + 1))) (Refused r) ≡ Next n → n < 2 ^ 32
+        go : (a : Bool) → eqb r 0 ≡ a → (b : Bool) → cond a (Ok (cond b None (Some (granule + 1)))) (Err (refusal_named r)) ≡ Ok (Some n) → n < 2 ^ 32
         go true p true q = let z : ◌≡◌ {A = ℕ} 1 0 = ap kind q in absurd (omega (arith, z))
         go true p false q = let z : granule + 1 ≡ n = ap visit_next q in omega (arith, few_granules tags granule (eqb-true r 0 p), z)
         go false p b q = let z : ◌≡◌ {A = ℕ} 2 0 = ap kind q in absurd (omega (arith, z))
@@ -166,18 +166,18 @@ module _ (board : Board) (revoked mem before : List ℕ) (g : ℕ) where
   abbrev no : ℕ
   no = visit_refusal board revoked mem before g
 
-  abbrev told : (good last : Bool) → SweepAnswer
-  told good last = cond good (cond last Last (Next (g + 1))) (Refused no)
+  abbrev told : (good last : Bool) → Result (Option ℕ) Refusal
+  told good last = cond good (Ok (cond last None (Some (g + 1)))) (Err (refusal_named no))
 
   -- number and values of the answer
-  number_of : visit_number (visit_answer board revoked mem before g) ≡ no
+  number_told : visit_number (visit_answer board revoked mem before g) ≡ no
   unfolding visit_answer next_after
-  number_of = go (eqb no 0) refl (eqb (g + 1) (granules_in (length mem)))
+  number_told = go (eqb no 0) refl (eqb (g + 1) (granules_in (length mem)))
     where
       go : (a : Bool) → eqb no 0 ≡ a → (b : Bool) → visit_number (told a b) ≡ no
       go true q true = sym (eqb-true no 0 q)
       go true q false = sym (eqb-true no 0 q)
-      go false q b = refl
+      go false q b = visit_number_of board revoked mem before g (eqb-false no 0 q)
 
   last_of : visit_last (visit_answer board revoked mem before g) ≡ last_told board revoked mem before g
   unfolding visit_answer next_after
@@ -198,33 +198,33 @@ module _ (board : Board) (revoked mem before : List ℕ) (g : ℕ) where
       go false b = refl
 
   -- so the answer and the tags are all that is to be shown
-  pub visit_promised : (after : List ℕ) (answer : SweepAnswer) → answer ≡ visit_answer board revoked mem before g → after ≡ tags_after board revoked mem before
+  pub visit_promised : (after : List ℕ) (answer : Result (Option ℕ) Refusal) → answer ≡ visit_answer board revoked mem before g → after ≡ tags_after board revoked mem before
       g
       → VisitPromise board revoked mem g before after answer
   visit_promised after answer a t = record {
     answer_is = a;
-    number_is = ap visit_number a ∙ number_of;
+    number_is = ap visit_number a ∙ number_told;
     last_is = ap visit_last a ∙ last_of;
     next_is = ap visit_next a ∙ next_of;
     tags_are = t;
   }
 
   -- refused: nothing changes
-  pub visit_refused : (n : ℕ) → n ≡ visit_refusal board revoked mem before g → (n ≡ 0 → ⊥) → VisitPromise board revoked mem g before before (Refused n)
+  pub visit_refused : (r : Refusal) → number_of r ≡ visit_refusal board revoked mem before g → VisitPromise board revoked mem g before before (Err r)
   unfolding visit_answer tags_after
-  visit_refused n e h =
-      let f : eqb (visit_refusal board revoked mem before g) 0 ≡ false = rw (← e) (ne_eqb n 0 h) in
-      visit_promised before (Refused n) (rw (f, e)) (rw f)
+  visit_refused r e =
+      let f : eqb (visit_refusal board revoked mem before g) 0 ≡ false = rw (← e) (ne_eqb (number_of r) 0 (number_positive r)) in
+      visit_promised before (Err r) (rw (f, ← e, refusal_named_number r)) (rw f)
 
   -- not refused
-  pub visit_done : (after : List ℕ) (answer : SweepAnswer) → 0 ≡ visit_refusal board revoked mem before g → after ≡ swept_tags board revoked mem before g
-      → answer ≡ next_after (length mem) g → VisitPromise board revoked mem g before after answer
+  pub visit_done : (after : List ℕ) (next : Option ℕ) → 0 ≡ visit_refusal board revoked mem before g → after ≡ swept_tags board revoked mem before g
+      → next ≡ next_after (length mem) g → VisitPromise board revoked mem g before after (Ok next)
   unfolding visit_answer tags_after
-  visit_done after answer e t a =
+  visit_done after next e t a =
       let f : eqb (visit_refusal board revoked mem before g) 0 ≡ true = eq-eqb (visit_refusal board revoked mem before g) 0 (sym e) in
-      visit_promised after answer (rw f a) (rw f t)
+      visit_promised after (Ok next) (rw (f, a)) (rw f t)
 
-  module _ (after : List ℕ) (answer : SweepAnswer) (p : VisitPromise board revoked mem g before after answer) where
+  module _ (after : List ℕ) (answer : Result (Option ℕ) Refusal) (p : VisitPromise board revoked mem g before after answer) where
     -- its number is that of the refusal
     pub number_small : visit_number answer ≤ 9
     number_small = omega (arith, p.number_is, refusal_small board revoked mem before g)
@@ -262,24 +262,24 @@ module _ (board : Board) (revoked mem before : List ℕ) (g : ℕ) where
     pub swept : after ≡ swept_tags board revoked mem before g
 
   module _ (after : List ℕ) where
-    pub told_last : VisitPromise board revoked mem g before after Last → Told after × (g + 1 ≡ granules_in (length mem))
+    pub told_last : VisitPromise board revoked mem g before after (Ok None) → Told after × (g + 1 ≡ granules_in (length mem))
     unfolding visit_answer tags_after next_after
     told_last p = go (eqb (visit_refusal board revoked mem before g) 0) refl (eqb (g + 1) (granules_in (length mem))) refl p.answer_is p.tags_are
       where
         go : (a : Bool) → eqb (visit_refusal board revoked mem before g) 0 ≡ a → (b : Bool) → eqb (g + 1) (granules_in (length mem)) ≡ b
-            → Last ≡ cond a (cond b Last (Next (g + 1))) (Refused (visit_refusal board revoked mem before g))
+            → Ok None ≡ cond a (Ok (cond b None (Some (g + 1)))) (Err (refusal_named (visit_refusal board revoked mem before g)))
             → after ≡ cond a (swept_tags board revoked mem before g) before → Told after × (g + 1 ≡ granules_in (length mem))
         go true q true r e t =
             (record { good = eqb-true (visit_refusal board revoked mem before g) 0 q; swept = t }, eqb-true (g + 1) (granules_in (length mem)) r)
         go true q false r e t = absurd (omega (arith, ap visit_last e))
         go false q b r e t = absurd (omega (arith, ap visit_last e))
 
-    pub told_next : (n : ℕ) → VisitPromise board revoked mem g before after (Next n) → Told after × (n ≡ g + 1) × (g + 1 < granules_in (length mem))
+    pub told_next : (n : ℕ) → VisitPromise board revoked mem g before after (Ok (Some n)) → Told after × (n ≡ g + 1) × (g + 1 < granules_in (length mem))
     unfolding visit_answer tags_after next_after
     told_next n p = go (eqb (visit_refusal board revoked mem before g) 0) refl (eqb (g + 1) (granules_in (length mem))) refl p.answer_is p.tags_are
       where
         go : (a : Bool) → eqb (visit_refusal board revoked mem before g) 0 ≡ a → (b : Bool) → eqb (g + 1) (granules_in (length mem)) ≡ b
-            → Next n ≡ cond a (cond b Last (Next (g + 1))) (Refused (visit_refusal board revoked mem before g))
+            → Ok (Some n) ≡ cond a (Ok (cond b None (Some (g + 1)))) (Err (refusal_named (visit_refusal board revoked mem before g)))
             → after ≡ cond a (swept_tags board revoked mem before g) before → Told after × (n ≡ g + 1) × (g + 1 < granules_in (length mem))
         go true q false r e t =
             let z = eqb-true (visit_refusal board revoked mem before g) 0 q in
@@ -287,7 +287,4 @@ module _ (board : Board) (revoked mem before : List ℕ) (g : ℕ) where
             let l = (visitable board revoked mem before g z).there in
             (record { good = z; swept = t }, ap visit_next e, omega (arith, l, d))
         go true q true r e t = absurd (omega (arith, ap visit_last e))
-        go false q b r e t = absurd (refusal_not e)
-          where
-            refusal_not : Next n ≡ Refused (visit_refusal board revoked mem before g) → ⊥
-            refusal_not x = absurd (eqb-false (visit_refusal board revoked mem before g) 0 q (sym (ap visit_number x)))
+        go false q b r e t = absurd (number_positive _ (sym (ap visit_number e)))

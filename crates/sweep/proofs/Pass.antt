@@ -14,7 +14,7 @@ use Rattle.state.specs.declared.Board.{Board}
 use Rattle.memory_instructions.specs.Access.{revoked_value}
 use Rattle.sweep.specs.Visits.{granules_in, stored_in, visit_refusal, swept_tags, next_after, VisitPromise}
 use Rattle.sweep.specs.Passes.{Visits, ends, goes_on, Pass, Swept, PassClaim}
-use Rattle.sweep.specs.declared.SweepAnswer.TheVariants.{Next, Last}
+use Rattle.std.specs.Prelude.{Some, None, Ok}
 use Rattle.sweep.proofs.Laws.{stored_alike, untagged_stays, Visitable, visitable, visitable_too, swept_size, swept_other, swept_tag, visit_done}
 use Rattle.sweep.proofs.Laws.{Told, told_last, told_next}
 
@@ -103,14 +103,14 @@ module _ (board : Board) (revoked mem : List ℕ) where
   -- ---- a pass comes to its end
 
   visited : (before : List ℕ) (g : ℕ) → visit_refusal board revoked mem before g ≡ 0
-      → VisitPromise board revoked mem g before (swept_tags board revoked mem before g) (next_after (length mem) g)
+      → VisitPromise board revoked mem g before (swept_tags board revoked mem before g) (Ok (next_after (length mem) g))
   visited before g z = visit_done board revoked mem before g (swept_tags board revoked mem before g) (next_after (length mem) g) (sym z) refl refl
 
-  at_last : (g : ℕ) → g + 1 ≡ granules_in (length mem) → next_after (length mem) g ≡ Last
+  at_last : (g : ℕ) → g + 1 ≡ granules_in (length mem) → next_after (length mem) g ≡ None
   unfolding next_after
   at_last g e = rw (eq-eqb (g + 1) (granules_in (length mem)) e)
 
-  at_next : (g : ℕ) → (g + 1 ≡ granules_in (length mem) → ⊥) → next_after (length mem) g ≡ Next (g + 1)
+  at_next : (g : ℕ) → (g + 1 ≡ granules_in (length mem) → ⊥) → next_after (length mem) g ≡ Some (g + 1)
   unfolding next_after
   at_next g d = rw (ne_eqb (g + 1) (granules_in (length mem)) d)
 

@@ -1,16 +1,15 @@
 -- A pass of the sweeper: visits from granule 0 to the last, with nothing else writing what is lent. Document 02, 10. Assumes nothing.
-use Rattle.std.specs.Prelude.{false, cond, List, ◌≡◌, ℕ, suc, ◌<◌, length}
+use Rattle.std.specs.Prelude.{Some, None, Ok, false, cond, List, ◌≡◌, ℕ, suc, ◌<◌, length}
 use Rattle.words.specs.Words.{bit_at}
 use Rattle.state.specs.declared.Board.{Board}
 use Rattle.memory_instructions.specs.Access.{revoked_value}
 use Rattle.sweep.specs.Visits.{granules_in, stored_in, visit_refusal, VisitPromise}
-use Rattle.sweep.specs.declared.SweepAnswer.TheVariants.{Next, Last}
 
 -- Visits one after another, by any code that keeps its promise, with one board, one memory and the same revocation bits: some number of them from a granule on.
 -- Each is given the number that the one before gave back, and the tags as that one left them; the last is told that it was.
 pub data Visits (board : Board) (revoked mem : List ℕ) : (calls granule : ℕ) → (before after : List ℕ) → Type 0 where
-  ends : (granule : ℕ) (before after : List ℕ) → VisitPromise board revoked mem granule before after Last → Visits board revoked mem 1 granule before after
-  goes_on : (calls granule next : ℕ) (before between after : List ℕ) → VisitPromise board revoked mem granule before between (Next next)
+  ends : (granule : ℕ) (before after : List ℕ) → VisitPromise board revoked mem granule before after (Ok None) → Visits board revoked mem 1 granule before after
+  goes_on : (calls granule next : ℕ) (before between after : List ℕ) → VisitPromise board revoked mem granule before between (Ok (Some next))
       → Visits board revoked mem calls next between after → Visits board revoked mem (suc calls) granule before after
 
 -- a full pass

@@ -1,5 +1,5 @@
 -- A visit of the sweeper: one granule of memory, by its number. Document 02, 10. Assumes nothing.
-use Rattle.std.specs.Prelude.{cond, not, List, [], ◌≡◌, ℕ, ◌+◌, ◌*◌, ◌/◌, eqb, ltb, length}
+use Rattle.std.specs.Prelude.{Option, Some, None, Result, Ok, Err, cond, not, List, [], ◌≡◌, ℕ, ◌+◌, ◌*◌, ◌/◌, eqb, ltb, length}
 use Rattle.words.specs.Words.{put_bit}
 use Rattle.capability.specs.declared.Capability.{Capability}
 use Rattle.state.specs.Lent.{state}
@@ -7,9 +7,8 @@ use Rattle.state.specs.Memory.{capability_in, granule_bytes}
 use Rattle.state.specs.Checks.{fail_if}
 use Rattle.state.specs.declared.Board.{Board}
 use Rattle.memory_instructions.specs.Access.{revoked_value}
-use Rattle.machine.specs.Refusals.{good_memory, good_window, good_bits}
-use Rattle.sweep.specs.declared.SweepAnswer.{SweepAnswer}
-use Rattle.sweep.specs.declared.SweepAnswer.TheVariants.{Next, Last, Refused}
+use Rattle.machine.specs.Refusals.{good_memory, good_window, good_bits, number_in, refusal_named}
+use Rattle.machine.specs.declared.answers.Refusal.{Refusal}
 
 -- how many granules a memory of some bytes has; their numbers start at 0
 abbrev pub granules_in : (size : ℕ) → ℕ
@@ -32,13 +31,14 @@ visit_refusal board revoked mem tags granule =
 unfoldable pub swept_tags : Board → (revoked mem tags : List ℕ) → (granule : ℕ) → List ℕ
 swept_tags board revoked mem tags granule = cond (revoked_value board revoked (stored_in mem tags granule)) (put_bit tags granule 0) tags
 
--- the number to visit next, or that this granule was the last
-unfoldable pub next_after : (size granule : ℕ) → SweepAnswer
-next_after size granule = cond (eqb (granule + 1) (granules_in size)) Last (Next (granule + 1))
+-- the number to visit next; none where this granule was the last
+unfoldable pub next_after : (size granule : ℕ) → Option ℕ
+next_after size granule = cond (eqb (granule + 1) (granules_in size)) None (Some (granule + 1))
 
-unfoldable pub visit_answer : Board → (revoked mem tags : List ℕ) → (granule : ℕ) → SweepAnswer
+unfoldable pub visit_answer : Board → (revoked mem tags : List ℕ) → (granule : ℕ) → Result (Option ℕ) Refusal
 visit_answer board revoked mem tags granule =
-    cond (eqb (visit_refusal board revoked mem tags granule) 0) (next_after (length mem) granule) (Refused (visit_refusal board revoked mem tags granule))
+    cond (eqb (visit_refusal board revoked mem tags granule) 0) (Ok (next_after (length mem) granule))
+    (Err (refusal_named (visit_refusal board revoked mem tags granule)))
 
 -- the tags after a visit; memory's bytes and the registers are not lent to it for writing
 unfoldable pub tags_after : Board → (revoked mem tags : List ℕ) → (granule : ℕ) → List ℕ
@@ -47,20 +47,18 @@ tags_after board revoked mem tags granule =
 
 -- ---- the paper's number and values of each answer: the next granule is 0 after the last one and where the visit is refused
 
-abbrev pub visit_number : SweepAnswer → ℕ
-visit_number (Next n) = 0
-visit_number Last = 0
-visit_number (Refused n) = n
+abbrev pub visit_number : Result (Option ℕ) Refusal → ℕ
+visit_number a = number_in a
 
-abbrev pub visit_last : SweepAnswer → ℕ
-visit_last (Next n) = 0
-visit_last Last = 1
-visit_last (Refused n) = 0
+abbrev pub visit_last : Result (Option ℕ) Refusal → ℕ
+visit_last (Ok (Some n)) = 0
+visit_last (Ok None) = 1
+visit_last (Err refusal) = 0
 
-abbrev pub visit_next : SweepAnswer → ℕ
-visit_next (Next n) = n
-visit_next Last = 0
-visit_next (Refused n) = 0
+abbrev pub visit_next : Result (Option ℕ) Refusal → ℕ
+visit_next (Ok (Some n)) = n
+visit_next (Ok None) = 0
+visit_next (Err refusal) = 0
 
 -- the values that a visit tells: 1 where the granule was the last, and the number of the one to visit next; 0 and 0 where the visit is refused
 abbrev pub last_told : Board → (revoked mem tags : List ℕ) → (granule : ℕ) → ℕ
@@ -72,7 +70,7 @@ next_told board revoked mem tags granule =
     cond (eqb (visit_refusal board revoked mem tags granule) 0) (cond (eqb (granule + 1) (granules_in (length mem))) 0 (granule + 1)) 0
 
 -- what a visit promises: its answer, with its number and values, and the tags as it leaves them
-pub record VisitPromise (board : Board) (revoked mem : List ℕ) (granule : ℕ) (before after : List ℕ) (answer : SweepAnswer) : Type 0 where
+pub record VisitPromise (board : Board) (revoked mem : List ℕ) (granule : ℕ) (before after : List ℕ) (answer : Result (Option ℕ) Refusal) : Type 0 where
   pub answer_is : answer ≡ visit_answer board revoked mem before granule
   pub number_is : visit_number answer ≡ visit_refusal board revoked mem before granule
   pub last_is : visit_last answer ≡ last_told board revoked mem before granule

@@ -1,55 +1,38 @@
 // The sweeper: one granule of memory a call, by its number. The tag of a capability that the load filter's revocation test would clear goes.
 #![tactic(auto)]
 
-ghost use Rattle.std.specs.Prelude.{◌≡◌, not, ◌<◌, ◌^◌};
-ghost use Rattle.state.specs.Checks.{fail_if};
+ghost use Rattle.std.specs.Prelude.{◌≡◌, ◌<◌, ◌^◌};
+ghost use Rattle.machine.specs.Refusals.{number_in};
 ghost use Rattle.memory_instructions.specs.Access.{revoked_value};
 ghost use Rattle.sweep.specs.Visits.{stored_in, visit_refusal, swept_tags, next_after, VisitPromise};
 
+use machine::{Refusal, refuse_unless};
 use state::{Board, GRANULE, GRANULE_BYTES};
 
-// The answer to a visit: the number of the next granule, or that this was the last one.
-#[derive(Clone, Copy)]
-pub enum SweepAnswer {
-    Next(u32),
-    Last,
-    Refused(u32),
-}
-
-// The number of the first test that fails, or 0.
-fn first_refusal(memory: bool, window: bool, bits: bool, granule: bool) -> u32
-    ensures { result ≡ fail_if (not memory) 2 (fail_if (not window) 2 (fail_if (not bits) 3 (fail_if (not granule) 9 0))) }
+// The first refusal that applies to a visit of a granule.
+#[tactic(
+    auto,
+    using(machine::proofs::Laws::test_passed, machine::proofs::Laws::test_failed),
+    unfolding(crate::specs::Visits::visit_refusal, machine::specs::Refusals::good_bits)
+)]
+fn refusal(
+    board: Board,
+    mem: &[u8],
+    tags: &[u8],
+    revoked: &[u8],
+    granule: u32,
+) -> Result<(), Refusal>
+    ensures { number_in result ≡ visit_refusal board revoked.now mem.now tags.now granule }
 {
-    if !memory {
-        return 2;
-    }
-    if !window {
-        return 2;
-    }
-    if !bits {
-        return 3;
-    }
-    if !granule {
-        return 9;
-    }
-    0
-}
-
-// The number of the first refusal that applies to a visit of a granule, or 0.
-fn refusal(board: Board, mem: &[u8], tags: &[u8], revoked: &[u8], granule: u32) -> u32
-    ensures { result ≡ visit_refusal board revoked.now mem.now tags.now granule }
-{
-    first_refusal(
-        machine::good_memory(board, mem.len()),
-        machine::good_window(board, mem.len()),
-        machine::good_lengths(
-            mem.len(),
-            board.window.size as usize,
-            tags.len(),
-            revoked.len(),
-        ),
-        (granule as usize) < mem.len() / GRANULE,
-    )
+    let size = mem.len();
+    let window = board.window.size as usize;
+    refuse_unless(machine::good_memory(board, size), Refusal::Memory)?;
+    refuse_unless(machine::good_window(board, size), Refusal::Memory)?;
+    refuse_unless(
+        machine::good_lengths(size, window, tags.len(), revoked.len()),
+        Refusal::Bits,
+    )?;
+    refuse_unless((granule as usize) < size / GRANULE, Refusal::Granule)
 }
 
 // Whether the revocation test takes the tag of what a granule holds. Most granules are not tagged: that is asked first.
@@ -74,27 +57,30 @@ fn sweep_granule(board: Board, mem: &[u8], tags: &mut [u8], revoked: &[u8], gran
     }
 }
 
-// The answer to a visit of a granule of a memory of size bytes.
-fn next_after(size: usize, granule: u32) -> SweepAnswer
+// The granule to visit after one of a memory of size bytes; none after the last.
+fn next_after(size: usize, granule: u32) -> Option<u32>
     requires { granule < 2 ^ 17 }
     ensures { result ≡ next_after size granule }
 {
     let next = granule + 1;
     if next as usize == size / GRANULE {
-        SweepAnswer::Last
+        None
     } else {
-        SweepAnswer::Next(next)
+        Some(next)
     }
 }
 
-// A visit of one granule. A refusal changes nothing.
-pub fn visit(board: Board, mem: &[u8], tags: &mut [u8], revoked: &[u8], granule: u32) -> SweepAnswer
+// A visit of one granule, which answers the number of the next one. A refusal changes nothing.
+pub fn visit(
+    board: Board,
+    mem: &[u8],
+    tags: &mut [u8],
+    revoked: &[u8],
+    granule: u32,
+) -> Result<Option<u32>, Refusal>
     ensures { VisitPromise board revoked.now mem.now granule tags.old tags.new result }
 {
-    let no = refusal(board, mem, tags, revoked, granule);
-    if no != 0 {
-        return SweepAnswer::Refused(no);
-    }
+    refusal(board, mem, tags, revoked, granule)?;
     sweep_granule(board, mem, tags, revoked, granule);
-    next_after(mem.len(), granule)
+    Ok(next_after(mem.len(), granule))
 }

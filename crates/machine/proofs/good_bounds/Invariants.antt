@@ -7,6 +7,3 @@ use Rattle.machine.proofs.good_bounds.Given as goal
 
 abbrev pub invariant-loop-i : goal.invariant-loop-i
 invariant-loop-i l = (l.i ≤ capability_count) × (good_bounds (capability_count - l.i) l.regs l.i ≡ good_bounds capability_count l.regs 0)
-
-abbrev pub decreases-loop-i : goal.decreases-loop-i
-decreases-loop-i l = capability_count - l.i

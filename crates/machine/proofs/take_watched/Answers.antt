@@ -14,12 +14,6 @@ loop-k-init c =
     let e : n - 0 ≡ n = omega arith in
     (omega arith, omega arith, omega arith, omega arith, omega arith, rw e, rw e)
 
-pub overflow_add-k : goal.overflow_add-k
-overflow_add-k c = omega arith
-
-pub loop-k-smaller : goal.loop-k-smaller
-loop-k-smaller c = omega arith
-
 pub loop-k-preserved : goal.loop-k-preserved
 loop-k-preserved c =
     let was = c.loop-k.invariant in

@@ -15,6 +15,3 @@ invariant-loop-k l =
     ≡ iterate l.n l.board l.revoked (ran (state l.initial.regs l.initial.mem l.initial.tags) 0 0))
     × (watched_by (l.n - l.k) l.board l.revoked (state l.regs l.mem l.tags) l.kept.watch ≡ watched_by l.n l.board l.revoked
     (state l.initial.regs l.initial.mem l.initial.tags) l.initial.kept.watch)
-
-abbrev pub decreases-loop-k : goal.decreases-loop-k
-decreases-loop-k l = l.n - l.k
