@@ -12,7 +12,6 @@ ghost use Rattle.commit.specs.Kept.{with_store, with_trap, kept_after};
 use capability::Capability;
 use instructions::{Csr, Scr, StoreKind};
 use state::{Effect, GRANULE, GRANULE_BYTES, MEPCC_INDEX, MTCC_INDEX, PCC_INDEX};
-use std::num::wrapping_add_u32;
 use watch::Watch;
 
 // What a run keeps beside the buffers: how many steps trapped, and the watch record. It goes through the commit, and not the commit's answer back to the
@@ -29,8 +28,8 @@ impl Kept {
         ensures { result ≡ with_store self address width }
     {
         Kept {
-            trapped: self.trapped,
             watch: self.watch.touched(address, width),
+            ..self
         }
     }
 
@@ -38,20 +37,20 @@ impl Kept {
     fn with_trap(self) -> Kept
         ensures { result ≡ with_trap self }
     {
-        let watch = self.watch;
         Kept {
-            trapped: wrapping_add_u32(self.trapped, 1),
-            watch,
+            trapped: self.trapped.wrapping_add(1),
+            ..self
         }
     }
 }
 
 // PCC after an instruction of some bytes.
+#[tactic(auto, unfolding(crate::specs::Commit::advanced))]
 pub fn advance(regs: &mut [u32], bytes: u32)
     ensures { regs.new ≡ advanced bytes regs.old }
 {
     let pcc = state::pcc_of(regs);
-    let next = capability::move_address(pcc, wrapping_add_u32(pcc.address, bytes));
+    let next = capability::move_address(pcc, pcc.address.wrapping_add(bytes));
     state::set_capability(regs, PCC_INDEX, next);
 }
 
@@ -66,6 +65,7 @@ fn set_csrs(regs: &mut [u32], mstatus: u32, cause: u32, value: u32)
 }
 
 // Trap entry.
+#[tactic(auto, unfolding(crate::specs::Commit::trapped))]
 fn enter_trap(regs: &mut [u32], cause: u32, value: u32)
     ensures { regs.new ≡ trapped regs.old cause value }
 {
@@ -78,6 +78,7 @@ fn enter_trap(regs: &mut [u32], cause: u32, value: u32)
 }
 
 // A jump: the link, PCC and mstatus.
+#[tactic(auto, unfolding(crate::specs::Commit::jumped))]
 fn jump(regs: &mut [u32], rd: u32, link: Capability, target: Capability, mstatus: u32)
     ensures { regs.new ≡ jumped regs.old rd link target mstatus }
 {
@@ -87,6 +88,7 @@ fn jump(regs: &mut [u32], rd: u32, link: Capability, target: Capability, mstatus
 }
 
 // A special register written, and the register that receives its old value.
+#[tactic(auto, unfolding(crate::specs::Commit::with_scr))]
 fn write_scr(regs: &mut [u32], bytes: u32, rd: u32, old: Capability, scr: Scr, value: Capability)
     ensures { regs.new ≡ with_scr bytes regs.old rd old scr value }
 {
@@ -96,6 +98,7 @@ fn write_scr(regs: &mut [u32], bytes: u32, rd: u32, old: Capability, scr: Scr, v
 }
 
 // A CSR written, and the register that receives its old value.
+#[tactic(auto, unfolding(crate::specs::Commit::with_csr))]
 fn write_csr(regs: &mut [u32], bytes: u32, rd: u32, old: u32, csr: Csr, value: u32)
     ensures { regs.new ≡ with_csr bytes regs.old rd old csr value }
 {
@@ -116,6 +119,7 @@ fn put_bytes(mem: &mut [u8], kind: StoreKind, at: usize, value: u32)
 }
 
 // A store's bytes, and the tag of their granule cleared.
+#[tactic(auto, unfolding(crate::specs::Commit::stored, crate::specs::Commit::retagged))]
 pub fn store(mem: &mut [u8], tags: &mut [u8], kind: StoreKind, at: u32, value: u32)
     ensures { (mem.new ≡ stored mem.old (store_width kind) at value)
         × (tags.new ≡ retagged mem.old tags.old (store_width kind) at 0) }
@@ -127,6 +131,7 @@ pub fn store(mem: &mut [u8], tags: &mut [u8], kind: StoreKind, at: u32, value: u
 }
 
 // A capability's words, and its tag.
+#[tactic(auto, unfolding(crate::specs::Commit::stored_capability, crate::specs::Commit::retagged))]
 pub fn store_capability(mem: &mut [u8], tags: &mut [u8], at: u32, c: Capability)
     ensures { (mem.new ≡ stored_capability mem.old at c)
         × (tags.new ≡ retagged mem.old tags.old granule_bytes at c.tag) }
@@ -140,6 +145,7 @@ pub fn store_capability(mem: &mut [u8], tags: &mut [u8], at: u32, c: Capability)
 }
 
 // All but time: the effect of an instruction of some bytes, and the mark, which a store may move. Answers what is kept.
+#[tactic(auto, unfolding(crate::specs::Kept::kept_after, crate::specs::Commit::retires))]
 fn write_effect(
     regs: &mut [u32],
     start: u32,
@@ -163,7 +169,7 @@ fn write_effect(
             kept
         }
         Effect::Store { kind, at, value } => {
-            let address = wrapping_add_u32(start, at);
+            let address = start.wrapping_add(at);
             // First: so the loop is shortest.
             let after = kept.with_store(address, state::store_width(kind));
             store(mem, tags, kind, at, value);
@@ -172,7 +178,7 @@ fn write_effect(
             after
         }
         Effect::StoreCapability { at, value } => {
-            let address = wrapping_add_u32(start, at);
+            let address = start.wrapping_add(at);
             let after = kept.with_store(address, GRANULE_BYTES);
             store_capability(mem, tags, at, value);
             advance(regs, bytes);
@@ -214,6 +220,7 @@ fn write_effect(
 }
 
 // The effect of an instruction of some bytes on the lent buffers, memory from a start on. Answers what is kept.
+#[tactic(auto, unfolding(crate::specs::Commit::apply_effect))]
 pub fn commit_effect(
     regs: &mut [u32],
     start: u32,

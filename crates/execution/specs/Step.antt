@@ -1,5 +1,5 @@
 -- One step: interrupt or fetch, decode, effect, commit; nothing is refused. Document 01, "Traps"; document 02, 3 and 6; CHERIoT report, 7.5. Assumes nothing.
-use Rattle.std.specs.Prelude.{cond, List, ℕ}
+use Rattle.std.specs.Prelude.{Ok, Err, cond, List, ℕ}
 use Rattle.instructions.specs.Decode.{decode_of}
 use Rattle.instructions.specs.declared.Instruction.{Instruction}
 use Rattle.instructions.specs.declared.Instruction.TheVariants.{Integer, Jump, Memory, Capability, System, Illegal}
@@ -12,9 +12,8 @@ use Rattle.state.specs.Checks.{illegal_instruction}
 use Rattle.state.specs.declared.Board.{Board}
 use Rattle.state.specs.declared.Effect.{Effect}
 use Rattle.state.specs.declared.Effect.TheVariants.{Trap}
-use Rattle.fetch.specs.Fetch.{fetch_of}
-use Rattle.fetch.specs.declared.Fetched.{Fetched}
-use Rattle.fetch.specs.declared.Fetched.TheVariants.{Long, Half, Fault}
+use Rattle.fetch.specs.Fetch.{Met, fault, fetch_of}
+use Rattle.fetch.specs.declared.Fetched.TheVariants.{Long, Half}
 use Rattle.integer_instructions.specs.Integer.{integer_effect}
 use Rattle.memory_instructions.specs.Access.{memory_effect}
 use Rattle.jump_instructions.specs.Jumps.{jump_effect}
@@ -33,31 +32,31 @@ effect_of bytes (System i) word regs m = system_effect i regs
 effect_of bytes Illegal word regs m = Trap illegal_instruction word
 
 -- What was fetched, as an instruction: a half is decoded as its long form.
-unfoldable pub instruction_in : Fetched → Instruction
-instruction_in (Fault cause value) = Illegal
-instruction_in (Long w) = decode_of w
-instruction_in (Half h) = decode_of (long_form h)
+unfoldable pub instruction_in : Met → Instruction
+instruction_in (Err trap) = Illegal
+instruction_in (Ok (Long w)) = decode_of w
+instruction_in (Ok (Half h)) = decode_of (long_form h)
 
 -- what stands in mtval where that is illegal
-unfoldable pub word_in : Fetched → ℕ
-word_in (Fault cause value) = 0
-word_in (Long w) = w
-word_in (Half h) = h
+unfoldable pub word_in : Met → ℕ
+word_in (Err trap) = 0
+word_in (Ok (Long w)) = w
+word_in (Ok (Half h)) = h
 
 -- how far PCC moves where the instruction moves on
-unfoldable pub length_in : Fetched → ℕ
-length_in (Fault cause value) = 0
-length_in (Long w) = long_bytes
-length_in (Half h) = half_bytes
+unfoldable pub length_in : Met → ℕ
+length_in (Err trap) = 0
+length_in (Ok (Long w)) = long_bytes
+length_in (Ok (Half h)) = half_bytes
 
 -- the trap of a fetch that failed, else the effect
-unfoldable pub trap_or : Fetched → Effect → Effect
-trap_or (Fault cause value) e = Trap cause value
-trap_or (Long w) e = e
-trap_or (Half h) e = e
+unfoldable pub trap_or : Met → Effect → Effect
+trap_or (Err trap) e = Trap trap.cause trap.value
+trap_or (Ok (Long w)) e = e
+trap_or (Ok (Half h)) e = e
 
 -- what a fetch leads to
-unfoldable pub effect_in : Fetched → (regs : List ℕ) → Lent → Effect
+unfoldable pub effect_in : Met → (regs : List ℕ) → Lent → Effect
 effect_in f regs m = trap_or f (effect_of (length_in f) (instruction_in f) (word_in f) regs m)
 
 -- the memory, its tags and what is only read, as an effect sees them
@@ -65,10 +64,10 @@ abbrev pub seen : Board → (revoked : List ℕ) → State → Lent
 seen board revoked s = lent board s.mem s.tags revoked
 
 -- what the next step meets: the timer's interrupt before anything of a fetch, else what it fetches; and what it does
-unfoldable pub met_of : Board → (regs mem : List ℕ) → Fetched
-met_of board regs mem = cond (interrupted regs) (Fault timer_interrupt 0) (fetch_of (pcc_of regs) board.start mem)
+unfoldable pub met_of : Board → (regs mem : List ℕ) → Met
+met_of board regs mem = cond (interrupted regs) (fault timer_interrupt 0) (fetch_of (pcc_of regs) board.start mem)
 
-abbrev pub fetched_in : Board → State → Fetched
+abbrev pub fetched_in : Board → State → Met
 fetched_in board s = met_of board s.regs s.mem
 
 abbrev pub effect_at : Board → (revoked : List ℕ) → State → Effect

@@ -3,14 +3,15 @@
 
 ghost use Rattle.std.specs.Prelude.{◌≡◌};
 ghost use Rattle.state.specs.Lent.{lent, state};
-ghost use Rattle.execution.specs.Step.{effect_of, instruction_in, word_in, length_in, trap_or, effect_in, met_of, turn_of};
+ghost use Rattle.execution.specs.Step.{effect_of, instruction_in, word_in, length_in, effect_in, met_of, turn_of};
 
-use fetch::Fetched;
+use fetch::{Fetched, Trap};
 use instructions::Instruction;
 use short_forms::{HALF_BYTES, LONG_BYTES};
 use state::{Board, Effect, ILLEGAL_INSTRUCTION, TIMER_INTERRUPT};
 
 // What an instruction of some bytes does.
+#[tactic(auto, unfolding(crate::specs::Step::effect_of))]
 fn execute(
     bytes: u32,
     i: Instruction,
@@ -39,82 +40,72 @@ fn execute(
 }
 
 // What was fetched, as an instruction: a half by its long form.
-fn instruction_in(f: Fetched) -> Instruction
-    ensures { result ≡ instruction_in f }
+#[tactic(auto, unfolding(crate::specs::Step::instruction_in))]
+fn instruction_in(fetched: Fetched) -> Instruction
+    ensures { result ≡ instruction_in (Ok fetched) }
 {
-    match f {
-        Fetched::Fault { cause: _, value: _ } => Instruction::Illegal,
+    match fetched {
         Fetched::Long(word) => instructions::decode(word),
         Fetched::Half(half) => short_forms::instruction_of(half),
     }
 }
 
 // What stands in mtval where it is illegal.
-fn word_in(f: Fetched) -> u32
-    ensures { result ≡ word_in f }
+#[tactic(auto, unfolding(crate::specs::Step::word_in))]
+fn word_in(fetched: Fetched) -> u32
+    ensures { result ≡ word_in (Ok fetched) }
 {
-    match f {
-        Fetched::Fault { cause: _, value: _ } => 0,
+    match fetched {
         Fetched::Long(word) => word,
         Fetched::Half(half) => half,
     }
 }
 
 // How far PCC moves where it moves on.
-fn length_in(f: Fetched) -> u32
-    ensures { result ≡ length_in f }
+#[tactic(auto, unfolding(crate::specs::Step::length_in))]
+fn length_in(fetched: Fetched) -> u32
+    ensures { result ≡ length_in (Ok fetched) }
 {
-    match f {
-        Fetched::Fault { cause: _, value: _ } => 0,
+    match fetched {
         Fetched::Long(_) => LONG_BYTES,
         Fetched::Half(_) => HALF_BYTES,
     }
 }
 
-// The trap of a fetch that failed, else the effect.
-fn trap_or(f: Fetched, e: Effect) -> Effect
-    ensures { result ≡ trap_or f e }
-{
-    match f {
-        Fetched::Fault { cause, value } => Effect::Trap { cause, value },
-        Fetched::Long(_) => e,
-        Fetched::Half(_) => e,
-    }
-}
-
-// What a fetch leads to. One call of `execute` serves both lengths, so that its code stands once.
+// What was fetched does this. One call of `execute` serves both lengths, so that its code stands once.
+#[tactic(auto, unfolding(crate::specs::Step::effect_in, crate::specs::Step::trap_or))]
 fn effect_in(
-    f: Fetched,
+    fetched: Fetched,
     regs: &[u32],
     board: Board,
     mem: &[u8],
     tags: &[u8],
     revoked: &[u8],
 ) -> Effect
-    ensures { result ≡ effect_in f regs.now (lent board mem.now tags.now revoked.now) }
+    ensures { result ≡ effect_in (Ok fetched) regs.now (lent board mem.now tags.now revoked.now) }
 {
-    let e = execute(
-        length_in(f),
-        instruction_in(f),
-        word_in(f),
+    execute(
+        length_in(fetched),
+        instruction_in(fetched),
+        word_in(fetched),
         regs,
         board,
         mem,
         tags,
         revoked,
-    );
-    trap_or(f, e)
+    )
 }
 
 // What the next step meets: the timer's interrupt, or what it fetches.
-fn met_at(regs: &[u32], board: Board, mem: &[u8]) -> Fetched
+#[tactic(auto, unfolding(crate::specs::Step::met_of))]
+fn met_at(regs: &[u32], board: Board, mem: &[u8]) -> Result<Fetched, Trap>
     ensures { result ≡ met_of board regs.now mem.now }
 {
     if state::interrupt_due(regs) {
-        return Fetched::Fault {
+        return Err(Trap {
             cause: TIMER_INTERRUPT,
             value: 0,
-        };
+        });
     }
     fetch::fetch(state::pcc_of(regs), board.start, mem)
 }
@@ -127,12 +118,18 @@ pub struct Turn {
 }
 
 // The next step. Nothing is refused: what lies outside a buffer reads as 0.
+#[tactic(auto, unfolding(crate::specs::Step::effect_in, crate::specs::Step::length_in, crate::specs::Step::trap_or))]
 pub fn turn_at(regs: &[u32], board: Board, mem: &[u8], tags: &[u8], revoked: &[u8]) -> Turn
     ensures { result ≡ turn_of board revoked.now (state regs.now mem.now tags.now) }
 {
-    let f = met_at(regs, board, mem);
-    Turn {
-        bytes: length_in(f),
-        effect: effect_in(f, regs, board, mem, tags, revoked),
+    match met_at(regs, board, mem) {
+        Ok(fetched) => Turn {
+            bytes: length_in(fetched),
+            effect: effect_in(fetched, regs, board, mem, tags, revoked),
+        },
+        Err(Trap { cause, value }) => Turn {
+            bytes: 0,
+            effect: Effect::Trap { cause, value },
+        },
     }
 }

@@ -12,6 +12,7 @@ use Rattle.state.specs.declared.Place.TheVariants.{At}
 use Rattle.state.proofs.Laws.{place_from}
 use Rattle.fetch.specs.Fetch.{second_of, stands_of, fetched_at, fetch_of}
 use Rattle.fetch.specs.declared.Fetched.TheVariants.{Long, Half}
+use Rattle.std.specs.Prelude.{Ok}
 
 both : (a b : Bool) → (a && b) ≡ true → (a ≡ true) × (b ≡ true)
 both true b h = (refl, h)
@@ -47,8 +48,8 @@ module _ (pcc : Capability) (start : ℕ) (mem : List ℕ) (allowed : access_cau
       rw (place_from start (length mem) pcc.address half_bytes even above, t) refl
 
   pub fetched_there : fetch_of pcc start mem
-      ≡ cond (is_long (le_bytes half_bytes mem (pcc.address - start))) (Long (le_bytes long_bytes mem (pcc.address - start)))
-      (Half (le_bytes half_bytes mem (pcc.address - start)))
+      ≡ cond (is_long (le_bytes half_bytes mem (pcc.address - start))) (Ok (Long (le_bytes long_bytes mem (pcc.address - start))))
+      (Ok (Half (le_bytes half_bytes mem (pcc.address - start))))
   unfolding fetch_of fetched_at stands_of second_of
   fetched_there =
       let p = allowed_shorter pcc pcc.address allowed in

@@ -10,8 +10,9 @@ use Rattle.short_forms.specs.Standing.{is_long, half_bytes, long_bytes}
 use Rattle.state.specs.Memory.{place_of}
 use Rattle.state.specs.Checks.{in_bounds, access_cause, execute_cause, fetch_fault, fetch_misaligned, capability_fault}
 use Rattle.fetch.specs.Fetch.{shut_out, second_of, stands_of, fetched_at, fetch_of, Reached, Whole}
-use Rattle.fetch.specs.declared.Fetched.{Fetched}
-use Rattle.fetch.specs.declared.Fetched.TheVariants.{Long, Half, Fault}
+use Rattle.fetch.specs.declared.Fetched.TheVariants.{Long, Half}
+use Rattle.fetch.specs.Fetch.{Met, fault}
+use Rattle.std.specs.Prelude.{Ok}
 
 -- no cause: every check passed, and so that of the bounds
 last_passed : (t s g i : Bool) → ◌≡◌ {A = ℕ} (cond (not t) 2 (cond s 3 (cond (not g) 17 (cond (not i) 1 0)))) 0 → i ≡ true
@@ -37,9 +38,9 @@ module _ (pcc : Capability) (start : ℕ) (mem : List ℕ) where
   abbrev pub long_there : ℕ
   long_there = le_bytes long_bytes mem (pcc.address - start)
 
-  module _ (P : Fetched → Type 0) (fault : (n v : ℕ) → n < 2 ^ 32 → (pcc.address < 2 ^ 32 → v < 2 ^ 32) → P (Fault n v))
-      (long : Reached pcc start mem long_bytes → is_long half_there ≡ true → P (Long long_there))
-      (half : Reached pcc start mem half_bytes → is_long half_there ≡ false → P (Half half_there)) where
+  module _ (P : Met → Type 0) (traps : (n v : ℕ) → n < 2 ^ 32 → (pcc.address < 2 ^ 32 → v < 2 ^ 32) → P (fault n v))
+      (long : Reached pcc start mem long_bytes → is_long half_there ≡ true → P (Ok (Long long_there)))
+      (half : Reached pcc start mem half_bytes → is_long half_there ≡ false → P (Ok (Half half_there))) where
     second_holds : Reached pcc start mem half_bytes → is_long half_there ≡ true
         → P (second_of pcc long_there (leb (pcc.address - start + long_bytes) (length mem)))
     unfolding second_of shut_out
@@ -54,8 +55,8 @@ module _ (pcc : Capability) (start : ℕ) (mem : List ℕ) where
           inside = omega (arith, r.above, leb-true (pcc.address - start + long_bytes) (length mem) s);
         })
         t))
-        (λ s. rw s (fault fetch_fault (wrap (pcc.address + half_bytes)) (omega arith) (λ h. omega arith)))))
-        (λ b. rw b (fault capability_fault _ (omega arith) (λ h. omega arith)))
+        (λ s. rw s (traps fetch_fault (wrap (pcc.address + half_bytes)) (omega arith) (λ h. omega arith)))))
+        (λ b. rw b (traps capability_fault _ (omega arith) (λ h. omega arith)))
 
     stands_holds : Reached pcc start mem half_bytes → P (stands_of pcc half_there long_there (leb (pcc.address - start + long_bytes) (length mem)))
     unfolding stands_of
@@ -75,9 +76,9 @@ module _ (pcc : Capability) (start : ℕ) (mem : List ℕ) where
           above = leb-true start pcc.address q.0;
           inside = leb-true (pcc.address + half_bytes) (start + length mem) q.1;
         })))
-        (λ k. rw k (fault fetch_fault pcc.address (omega arith) (λ h. h)))))
-        (λ v. rw v (fault fetch_misaligned pcc.address (omega arith) (λ h. h)))))
-        (λ t. rw t (fault capability_fault _ (omega arith) (λ h. omega arith)))
+        (λ k. rw k (traps fetch_fault pcc.address (omega arith) (λ h. h)))))
+        (λ v. rw v (traps fetch_misaligned pcc.address (omega arith) (λ h. h)))))
+        (λ t. rw t (traps capability_fault _ (omega arith) (λ h. omega arith)))
 
   -- what is fetched is whole
   pub fetch_whole : Whole pcc start mem (fetch_of pcc start mem)

@@ -9,13 +9,12 @@ use Rattle.state.specs.Memory.{place_of}
 use Rattle.state.specs.declared.Place.TheVariants.{At, Misaligned, Outside}
 use Rattle.state.proofs.Laws.{place_misaligned, place_below, place_from}
 use Rattle.fetch.specs.Fetch.{stands_of, fetched_at}
-use Rattle.fetch.specs.declared.Fetched.{Fetched}
-use Rattle.fetch.specs.declared.Fetched.TheVariants.{Fault}
+use Rattle.fetch.specs.Fetch.{Met, fault}
 
 module _ (pcc : Capability) (mem : List ℕ) where
   -- what is found from place i on, counted from memory's start
-  abbrev pub found_from : ℕ → Fetched
-  found_from i = cond (leb (i + half_bytes) (length mem)) (fetched_at (At i) pcc mem) (Fault fetch_fault pcc.address)
+  abbrev pub found_from : ℕ → Met
+  found_from i = cond (leb (i + half_bytes) (length mem)) (fetched_at (At i) pcc mem) (fault fetch_fault pcc.address)
 
   -- the first half in memory, and the second there or not: one load of four bytes gives both
   pub found_there : Bytes mem → (i word : ℕ) (inside : Bool) → word ≡ le_bytes long_bytes mem i → leb (i + long_bytes) (length mem) ≡ inside
@@ -23,17 +22,17 @@ module _ (pcc : Capability) (mem : List ℕ) where
   unfolding fetched_at
   found_there b i word inside e t s = rw (s, e, t, low_half mem i b) refl
 
-  pub found_outside : (i : ℕ) → leb (i + half_bytes) (length mem) ≡ false → Fault fetch_fault pcc.address ≡ found_from i
+  pub found_outside : (i : ℕ) → leb (i + half_bytes) (length mem) ≡ false → fault fetch_fault pcc.address ≡ found_from i
   found_outside i s = rw s refl
 
-  chosen : (b : Bool) (i : ℕ) → cond b (fetched_at (At i) pcc mem) (Fault fetch_fault pcc.address) ≡ fetched_at (cond b (At i) Outside) pcc mem
+  chosen : (b : Bool) (i : ℕ) → cond b (fetched_at (At i) pcc mem) (fault fetch_fault pcc.address) ≡ fetched_at (cond b (At i) Outside) pcc mem
   unfolding fetched_at
   chosen true i = refl
   chosen false i = refl
 
   module _ (start : ℕ) where
     -- the definition, by the place of PCC's address
-    abbrev pub definition : Fetched
+    abbrev pub definition : Met
     definition = fetched_at (place_of start (length mem) pcc.address half_bytes) pcc mem
 
     pub found_misaligned : (pcc.address % half_bytes ≡ 0 → ⊥) → fetched_at Misaligned pcc mem ≡ definition

@@ -5,7 +5,7 @@ ghost use Rattle.std.specs.Prelude.{◌≡◌, ◌+◌, cond, length, nat_le};
 ghost use Rattle.short_forms.specs.Standing.{half_bytes};
 ghost use Rattle.state.specs.Memory.{place_of};
 ghost use Rattle.state.specs.Checks.{fetch_fault};
-ghost use Rattle.fetch.specs.Fetch.{shut_out, second_of, stands_of, fetched_at, fetch_of};
+ghost use Rattle.fetch.specs.Fetch.{fault, shut_out, second_of, stands_of, fetched_at, fetch_of};
 
 use capability::Capability;
 use short_forms::{HALF_BYTES, LONG_BYTES};
@@ -14,63 +14,72 @@ use state::{
     PCC_REGISTER, Place, TARGET_ALIGNMENT,
 };
 
-// What a fetch finds: a long word, a half, or a trap's mcause and mtval.
+// What a fetch finds: a long word or a half.
 #[derive(Clone, Copy)]
 pub enum Fetched {
     Long(u32),
     Half(u32),
-    Fault { cause: u32, value: u32 },
+}
+
+// What traps before anything is executed: mcause and mtval.
+#[derive(Clone, Copy)]
+pub struct Trap {
+    pub cause: u32,
+    pub value: u32,
 }
 
 // A capability trap of PCC.
-fn shut_out(cause: u32) -> Fetched
-    ensures { result ≡ shut_out cause }
+#[tactic(auto, unfolding(crate::specs::Fetch::shut_out))]
+fn shut_out(cause: u32) -> Trap
+    ensures { Err result ≡ shut_out cause }
 {
-    Fetched::Fault {
+    Trap {
         cause: CAPABILITY_FAULT,
         value: PCC_REGISTER * 32 + cause % 32,
     }
 }
 
 // A long word: its second half in bounds, then in memory.
-fn second_half(pcc: Capability, word: u32, inside: bool) -> Fetched
+#[tactic(auto, unfolding(crate::specs::Fetch::second_of))]
+fn second_half(pcc: Capability, word: u32, inside: bool) -> Result<Fetched, Trap>
     ensures { result ≡ second_of pcc word inside }
 {
     if !state::in_bounds(pcc, pcc.address, LONG_BYTES) {
-        return shut_out(BOUNDS_CAUSE);
+        return Err(shut_out(BOUNDS_CAUSE));
     }
     if inside {
-        return Fetched::Long(word);
+        return Ok(Fetched::Long(word));
     }
-    Fetched::Fault {
+    Err(Trap {
         cause: FETCH_FAULT,
-        value: std::num::wrapping_add_u32(pcc.address, HALF_BYTES),
-    }
+        value: pcc.address.wrapping_add(HALF_BYTES),
+    })
 }
 
 // A first half and the four bytes that start with it, of which the last two are in memory or not.
-fn stands(pcc: Capability, half: u32, word: u32, inside: bool) -> Fetched
+#[tactic(auto, unfolding(crate::specs::Fetch::stands_of))]
+fn stands(pcc: Capability, half: u32, word: u32, inside: bool) -> Result<Fetched, Trap>
     ensures { result ≡ stands_of pcc half word inside }
 {
     match half % 4 {
-        3 => return second_half(pcc, word, inside),
-        _ => return Fetched::Half(half),
+        3 => second_half(pcc, word, inside),
+        _ => Ok(Fetched::Half(half)),
     }
 }
 
-fn outside(pcc: Capability) -> Fetched
-    ensures { result ≡ Fetched.Fault fetch_fault pcc.address }
+fn outside(pcc: Capability) -> Trap
+    ensures { Err result ≡ fault fetch_fault pcc.address }
 {
-    Fetched::Fault {
+    Trap {
         cause: FETCH_FAULT,
         value: pcc.address,
     }
 }
 
 // At a place from memory's start on: one load of four bytes, of which those outside memory are 0, gives both halves.
-fn fetched_from(pcc: Capability, at: u32, mem: &[u8]) -> Fetched
+fn fetched_from(pcc: Capability, at: u32, mem: &[u8]) -> Result<Fetched, Trap>
     ensures { result ≡ cond (nat_le (at + half_bytes) (length mem.now)) (fetched_at (Place.At at) pcc mem.now)
-        (Fetched.Fault fetch_fault pcc.address) }
+        (fault fetch_fault pcc.address) }
 {
     let size = mem.len() as u64;
     if at as u64 + LONG_BYTES as u64 <= size {
@@ -81,33 +90,34 @@ fn fetched_from(pcc: Capability, at: u32, mem: &[u8]) -> Fetched
         let word = words::load32(mem, at as usize);
         return stands(pcc, word % 0x1_0000, word, false);
     }
-    outside(pcc)
+    Err(outside(pcc))
 }
 
 // After PCC's checks: alignment, then the first half in memory.
-fn fetched_at(pcc: Capability, start: u32, mem: &[u8]) -> Fetched
+fn fetched_at(pcc: Capability, start: u32, mem: &[u8]) -> Result<Fetched, Trap>
     ensures { result ≡ fetched_at (place_of start (length mem.now) pcc.address half_bytes) pcc mem.now }
 {
     if pcc.address % TARGET_ALIGNMENT != 0 {
-        return Fetched::Fault {
+        return Err(Trap {
             cause: FETCH_MISALIGNED,
             value: pcc.address,
-        };
+        });
     }
     if start <= pcc.address {
         return fetched_from(pcc, pcc.address - start, mem);
     }
-    outside(pcc)
+    Err(outside(pcc))
 }
 
 // The fetch at PCC.
-pub fn fetch(pcc: Capability, start: u32, mem: &[u8]) -> Fetched
+#[tactic(auto, unfolding(crate::specs::Fetch::fetch_of))]
+pub fn fetch(pcc: Capability, start: u32, mem: &[u8]) -> Result<Fetched, Trap>
     ensures { result ≡ fetch_of pcc start mem.now }
 {
     let cause = state::access_cause(pcc, metadata::EX, EXECUTE_CAUSE, pcc.address, HALF_BYTES);
     if cause == NO_CAUSE {
         fetched_at(pcc, start, mem)
     } else {
-        shut_out(cause)
+        Err(shut_out(cause))
     }
 }

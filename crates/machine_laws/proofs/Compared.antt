@@ -27,13 +27,14 @@ use Rattle.state.specs.declared.Effect.{Effect}
 use Rattle.state.specs.declared.Effect.TheVariants as effect
 use Rattle.jump_instructions.specs.Compared.{SameButType, SameButMie, ApartJump, jump_apart, InEditions, links_by, goes_by, accepted_in}
 use Rattle.jump_instructions.proofs.Compared.{jump_compared, in_editions}
-use Rattle.fetch.specs.declared.Fetched.{Fetched}
-use Rattle.fetch.specs.declared.Fetched.TheVariants.{Long, Half, Fault}
+use Rattle.fetch.specs.declared.Fetched.TheVariants.{Long, Half}
 use Rattle.commit.specs.Commit.{apply_effect}
 use Rattle.commit.proofs.Views.{registers_are}
 use Rattle.execution.specs.Step.{effect_of, instruction_in, word_in, length_in, trap_or, effect_in, seen, met_of, fetched_in, step_of}
 use Rattle.machine_laws.specs.Editions.{with_edition, in_edition, NoJump, type_place, ApartState, JumpInEditions}
 use Rattle.machine_laws.proofs.Editions.{edition_alone}
+use Rattle.fetch.specs.Fetch.{Met}
+use Rattle.std.specs.Prelude.{Ok, Err}
 
 -- ---- two lists, word by word
 
@@ -178,13 +179,13 @@ module _ (rd : ℕ) where
 -- ---- the step
 
 -- a fetch that failed has no instruction
-fetched_compared : (f : Fetched) (i : JumpInstruction) → instruction_in f ≡ Jump i → (regs : List ℕ) (m : Lent)
+fetched_compared : (f : Met) (i : JumpInstruction) → instruction_in f ≡ Jump i → (regs : List ℕ) (m : Lent)
     → InEditions (ApartJump (links_by i)) (capability_trap (goes_by i) seal_cause) (accepted_in report_edition i regs) (accepted_in later_edition i regs)
     (effect_in f regs (in_edition report_edition m)) (effect_in f regs (in_edition later_edition m))
 unfolding effect_in trap_or length_in instruction_in word_in effect_of is_legal
-fetched_compared (Fault cause value) i h regs m = absurd (true≢false (sym (ap is_legal h)))
-fetched_compared (Long w) i h regs m = rw h (jump_compared long_bytes i regs)
-fetched_compared (Half k) i h regs m = rw h (jump_compared half_bytes i regs)
+fetched_compared (Err trap) i h regs m = absurd (true≢false (sym (ap is_legal h)))
+fetched_compared (Ok (Long w)) i h regs m = rw h (jump_compared long_bytes i regs)
+fetched_compared (Ok (Half k)) i h regs m = rw h (jump_compared half_bytes i regs)
 
 module _ (board : Board) (revoked : List ℕ) (s : State) where
   pub jump_in_editions : (i : JumpInstruction) → instruction_in (fetched_in board s) ≡ Jump i → JumpInEditions board revoked s i

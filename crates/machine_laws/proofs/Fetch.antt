@@ -25,11 +25,10 @@ use Rattle.jump_instructions.proofs.Laws.{jump_storeless, jump_good}
 use Rattle.capability_instructions.proofs.Laws.{capability_storeless, capability_good}
 use Rattle.system_instructions.proofs.Laws.{system_storeless, system_good}
 use Rattle.fetch.specs.Fetch.{fetch_of}
-use Rattle.fetch.specs.declared.Fetched.{Fetched}
-use Rattle.fetch.specs.declared.Fetched.TheVariants.{Fault}
 use Rattle.fetch.proofs.Laws.{fetch_holds}
 use Rattle.execution.specs.Step.{effect_of, instruction_in, word_in, length_in, trap_or, effect_in, seen, met_of, effect_at}
 use Rattle.machine_laws.specs.Steps.{length_at, standing_at, word_at}
+use Rattle.fetch.specs.Fetch.{Met, fault}
 
 -- what the instruction at PCC does, once it is fetched
 abbrev pub fetched_effect : Board → (revoked : List ℕ) → State → Effect
@@ -40,8 +39,8 @@ pub fetched_holds : (P : Effect → Type 0) (board : Board) (revoked : List ℕ)
     → P (effect_at board revoked s)
 unfolding met_of effect_in trap_or length_in instruction_in word_in
 fetched_holds P board revoked s t h =
-    let Q : Fetched → Type 0 = λ f. P (effect_in f s.regs (seen board revoked s)) in
-    cond_holds Q (interrupted s.regs) (Fault timer_interrupt 0) (fetch_of (pcc_of s.regs) board.start s.mem) (t timer_interrupt 0)
+    let Q : Met → Type 0 = λ f. P (effect_in f s.regs (seen board revoked s)) in
+    cond_holds Q (interrupted s.regs) (fault timer_interrupt 0) (fetch_of (pcc_of s.regs) board.start s.mem) (t timer_interrupt 0)
     (fetch_holds (pcc_of s.regs) board.start s.mem Q (λ n v a b. t n v) (λ r l. rw l at h) (λ r l. rw l at h))
 
 -- every store of an instruction lies in one granule of memory

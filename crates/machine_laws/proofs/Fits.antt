@@ -24,8 +24,6 @@ use Rattle.state.specs.Registers.{pcc_of, pc_of}
 use Rattle.short_forms.specs.Standing.{half_bytes, long_bytes}
 use Rattle.short_forms.specs.Long.{long_form}
 use Rattle.fetch.specs.Fetch.{fetch_of}
-use Rattle.fetch.specs.declared.Fetched.{Fetched}
-use Rattle.fetch.specs.declared.Fetched.TheVariants.{Fault}
 use Rattle.fetch.proofs.Laws.{fetch_holds}
 use Rattle.state.specs.Timer.{timer_interrupt, interrupted}
 use Rattle.state.specs.Lent.{Lent, State}
@@ -49,6 +47,7 @@ use Rattle.commit.proofs.Registers.{Holds, Rule, Keeps, keeps_of, each_applied}
 use Rattle.machine_laws.proofs.Refusals.{good_of, refused_too, refused_run}
 use Rattle.machine_laws.proofs.Kept.{Tag, tags_stay}
 use Rattle.machine_laws.proofs.Bytes.{bytes_stay}
+use Rattle.fetch.specs.Fetch.{Met, fault}
 
 -- ---- the next effect
 
@@ -68,8 +67,8 @@ unfolding met_of effect_in trap_or length_in instruction_in word_in
 next_fits board revoked s h b =
     let m = seen board revoked s in
     let at = pc_of s.regs - board.start in
-    let Q : Fetched → Type 0 = λ f. FitsEffect (effect_in f s.regs m) in
-    cond_holds Q (interrupted s.regs) (Fault timer_interrupt 0) (fetch_of (pcc_of s.regs) board.start s.mem) (tt, (omega arith, omega arith))
+    let Q : Met → Type 0 = λ f. FitsEffect (effect_in f s.regs m) in
+    cond_holds Q (interrupted s.regs) (fault timer_interrupt 0) (fetch_of (pcc_of s.regs) board.start s.mem) (tt, (omega arith, omega arith))
     (fetch_holds (pcc_of s.regs) board.start s.mem Q
     (λ n v a k. (tt, (a, k (pcc_fits s.regs h).address_fits)))
     (λ r l. effect_fits s.regs m h b long_bytes (decode_of (le_bytes long_bytes s.mem at)) _ (decoded_in_range _) (le_bytes_lt long_bytes s.mem at b))

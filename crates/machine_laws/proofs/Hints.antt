@@ -26,14 +26,15 @@ use Rattle.state.specs.declared.Effect.TheVariants.{Advance, Write}
 use Rattle.integer_instructions.specs.Integer.{integer_effect}
 use Rattle.capability_instructions.specs.Derivation.{capability_effect}
 use Rattle.system_instructions.specs.System.{system_effect}
-use Rattle.fetch.specs.declared.Fetched.{Fetched}
-use Rattle.fetch.specs.declared.Fetched.TheVariants.{Long, Half, Fault}
+use Rattle.fetch.specs.declared.Fetched.TheVariants.{Long, Half}
 use Rattle.commit.specs.Commit.{advanced, registers_after, marked_by, memory_after, tags_after, apply_effect, retires}
 use Rattle.commit.proofs.Lengths.{applied_long}
 use Rattle.commit.proofs.Next.{advanced_elsewhere}
 use Rattle.commit.proofs.Records.{ticked_below, ticked_above}
 use Rattle.execution.specs.Step.{effect_of, instruction_in, word_in, length_in, trap_or, effect_in, seen, fetched_in, effect_at, step_of}
 use Rattle.machine_laws.specs.Hints.{HintFetched, OnlyPccAndTime, HintStep}
+use Rattle.fetch.specs.Fetch.{Met}
+use Rattle.std.specs.Prelude.{Ok, Err}
 
 -- an effect that only moves on
 record Idle (e : Effect) : Type 0 where
@@ -59,11 +60,11 @@ hint_idle n _ word regs m of_multiply = zero_idle _
 hint_idle n _ word regs m of_divide = zero_idle _
 hint_idle n _ word regs m of_fence = none_idle
 
-fetched_idle : (f : Fetched) (regs : List ℕ) (m : Lent) → HintFetched f → Idle (effect_in f regs m)
+fetched_idle : (f : Met) (regs : List ℕ) (m : Lent) → HintFetched f → Idle (effect_in f regs m)
 unfolding effect_in trap_or length_in instruction_in word_in
-fetched_idle (Fault cause value) regs m h = absurd h
-fetched_idle (Long w) regs m h = hint_idle long_bytes (decode_of w) w regs m h
-fetched_idle (Half k) regs m h = hint_idle half_bytes (decode_of (long_form k)) k regs m (half_hint k h)
+fetched_idle (Err trap) regs m h = absurd h
+fetched_idle (Ok (Long w)) regs m h = hint_idle long_bytes (decode_of w) w regs m h
+fetched_idle (Ok (Half k)) regs m h = hint_idle half_bytes (decode_of (long_form k)) k regs m (half_hint k h)
 
 -- a word that is none of time's
 ticked_other : (l : List ℕ) (i : ℕ) → (i ≡ time_index → ⊥) → (i ≡ time_index + 1 → ⊥) → get_or (ticked l) i 0 ≡ get_or l i 0

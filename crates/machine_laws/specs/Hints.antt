@@ -5,17 +5,18 @@ use Rattle.short_forms.specs.Hints.{Hint, HintHalf}
 use Rattle.state.specs.Layout.{capability_words, pcc_index, time_index}
 use Rattle.state.specs.Lent.{State}
 use Rattle.state.specs.declared.Board.{Board}
-use Rattle.fetch.specs.declared.Fetched.{Fetched}
-use Rattle.fetch.specs.declared.Fetched.TheVariants.{Long, Half, Fault}
+use Rattle.fetch.specs.declared.Fetched.TheVariants.{Long, Half}
 use Rattle.commit.specs.Commit.{retires}
 use Rattle.commit.specs.Touched.{SameMemory}
 use Rattle.execution.specs.Step.{effect_at, step_of}
+use Rattle.fetch.specs.Fetch.{Met}
+use Rattle.std.specs.Prelude.{Ok, Err}
 
 -- what was fetched is a hint
-abbrev pub HintFetched : Fetched → Type 0
-HintFetched (Fault cause value) = ⊥
-HintFetched (Long w) = Hint (decode_of w)
-HintFetched (Half h) = HintHalf h
+abbrev pub HintFetched : Met → Type 0
+HintFetched (Err trap) = ⊥
+HintFetched (Ok (Long w)) = Hint (decode_of w)
+HintFetched (Ok (Half h)) = HintHalf h
 
 -- every word but those of PCC and of time, every byte and every tag is the same
 pub record OnlyPccAndTime (before after : State) : Type 0 where

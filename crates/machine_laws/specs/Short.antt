@@ -10,13 +10,14 @@ use Rattle.jump_instructions.specs.Lengths.{LengthOnly}
 use Rattle.fetch.specs.declared.Fetched.TheVariants.{Long, Half}
 use Rattle.commit.specs.Commit.{retires}
 use Rattle.execution.specs.Step.{effect_in}
+use Rattle.std.specs.Prelude.{Ok}
 
 -- what the long form does where it stands as a long word, and what the half does
 abbrev pub as_long : (half : ℕ) → (regs : List ℕ) → Lent → Effect
-as_long h regs m = effect_in (Long (long_form h)) regs m
+as_long h regs m = effect_in (Ok (Long (long_form h))) regs m
 
 abbrev pub as_half : (half : ℕ) → (regs : List ℕ) → Lent → Effect
-as_half h regs m = effect_in (Half h) regs m
+as_half h regs m = effect_in (Ok (Half h)) regs m
 
 -- Of a legal half they are the same, links apart: so they store the same, and both retire or both trap. (PCC's next address is what `registers_after` makes of
 -- the length: law `next_alone` of crate commit. An illegal half differs in mtval.)

@@ -8,13 +8,13 @@ use Rattle.state.specs.Effects.{Beside, neither, special, control, writes_of}
 use Rattle.state.specs.declared.Board.{Board}
 use Rattle.state.specs.declared.Effect.{Effect}
 use Rattle.fetch.specs.Fetch.{fetch_of}
-use Rattle.fetch.specs.declared.Fetched.{Fetched}
 use Rattle.commit.specs.Commit.{apply_effect, retires}
 use Rattle.execution.specs.Step.{length_in, effect_in, seen}
 use Rattle.machine.specs.Run.{Ran, ran}
+use Rattle.fetch.specs.Fetch.{Met}
 
 -- a step that fetches whatever the time is
-abbrev pub fetched_untimed : Board → State → Fetched
+abbrev pub fetched_untimed : Board → State → Met
 fetched_untimed board s = fetch_of (pcc_of s.regs) board.start s.mem
 
 abbrev pub effect_untimed : Board → (revoked : List ℕ) → State → Effect

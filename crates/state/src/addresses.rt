@@ -1,20 +1,29 @@
 // At which addresses MTCC and MEPCC may stand.
-ghost use Rattle.std.specs.Prelude.{◌≡◌};
+ghost use Rattle.std.specs.Prelude.{◌≡◌, ◌<◌};
 ghost use Rattle.state.specs.Addresses.{legalized, vector_alignment, return_alignment};
 
 use crate::{RETURN_ALIGNMENT, VECTOR_ALIGNMENT};
 use capability::Capability;
 
-// MTCC where it is used: its low address bits cleared, by the address-move rule.
+// A capability with its low address bits cleared, by the address-move rule.
+#[tactic(auto, unfolding(crate::specs::Addresses::legalized))]
+fn legalized<const UNIT: u32>(c: Capability) -> Capability
+    requires { 0 < UNIT }
+    ensures { result ≡ legalized UNIT c }
+{
+    capability::move_address(c, c.address / UNIT * UNIT)
+}
+
+// MTCC where it is used.
 pub fn vector(c: Capability) -> Capability
     ensures { result ≡ legalized vector_alignment c }
 {
-    capability::move_address(c, c.address / VECTOR_ALIGNMENT * VECTOR_ALIGNMENT)
+    legalized::<VECTOR_ALIGNMENT>(c)
 }
 
-// MEPCC where it is used, likewise.
+// MEPCC where it is used.
 pub fn return_address(c: Capability) -> Capability
     ensures { result ≡ legalized return_alignment c }
 {
-    capability::move_address(c, c.address / RETURN_ALIGNMENT * RETURN_ALIGNMENT)
+    legalized::<RETURN_ALIGNMENT>(c)
 }

@@ -5,7 +5,7 @@ ghost use Rattle.std.specs.Prelude.{◌≡◌};
 ghost use Rattle.watch.specs.Watch.{hits, one_more_hit, range_touched, touched_at, no_watch};
 
 // A range of addresses, and how many stores have touched it.
-#[derive(Clone, Copy)]
+#[derive(Clone, Copy, Debug, PartialEq, Eq)]
 pub struct Range {
     pub start: u32,
     pub length: u32,
@@ -13,20 +13,18 @@ pub struct Range {
 }
 
 // The two watched ranges.
-#[derive(Clone, Copy)]
+#[derive(Clone, Copy, Debug, PartialEq, Eq)]
 pub struct Watch {
     pub first: Range,
     pub second: Range,
 }
 
-// Where a count stops.
-pub const MOST_HITS: u32 = 0xFFFF_FFFF;
-
-// One more, unless the count has stopped.
+// One more, unless the count has stopped: at the largest word.
+#[tactic(auto, unfolding(crate::specs::Watch::one_more_hit))]
 fn one_more(count: u32) -> u32
     ensures { result ≡ one_more_hit count }
 {
-    if count < MOST_HITS { count + 1 } else { count }
+    count.saturating_add(1)
 }
 
 impl Range {
@@ -43,14 +41,14 @@ impl Range {
     }
 
     // The range after a store of some bytes at an address.
+    #[tactic(auto, using(crate::proofs::Laws::missed_stays), unfolding(crate::specs::Watch::range_touched))]
     pub fn touched(self, address: u32, width: u32) -> Range
         ensures { result ≡ range_touched self address width }
     {
         if self.is_hit(address, width) {
             return Range {
-                start: self.start,
-                length: self.length,
                 count: one_more(self.count),
+                ..self
             };
         }
         self

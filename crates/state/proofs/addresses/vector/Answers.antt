@@ -1,7 +1,0 @@
--- MTCC moved down to its alignment, which is the move that makes it legal.
-use Rattle.state.specs.Addresses.{legalized}
-use Rattle.state.proofs.addresses.vector.Goals as goal
-
-pub returns : goal.returns
-unfolding legalized
-returns c = c.move_address.ensures
