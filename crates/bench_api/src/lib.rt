@@ -76,7 +76,8 @@ pub extern "C" fn oddersnow_step(
         (state regs.old mem.old tags.old) (state regs.new mem.new tags.new) result }
 {
     let board = board_of(start, window_start, window_size, edition);
-    pack(machine::step(regs, board, mem, tags, revoked).map(counts_of))
+    let answer = machine::step(regs, board, mem, tags, revoked);
+    pack(answer.map(counts_of))
 }
 
 // A run of some steps.
@@ -96,7 +97,8 @@ pub extern "C" fn oddersnow_run(
         (state regs.old mem.old tags.old) (state regs.new mem.new tags.new) result }
 {
     let board = board_of(start, window_start, window_size, edition);
-    pack(machine::run(regs, board, mem, tags, revoked, steps))
+    let answer = machine::run(regs, board, mem, tags, revoked, steps);
+    pack(answer)
 }
 
 // A run of some steps with a watch record: two ranges, and their counts, which rise in place.
@@ -123,9 +125,10 @@ pub extern "C" fn oddersnow_run_watched(
         (watch_of start1 length1 count1.old start2 length2 count2.old) count1.new count2.new result }
 {
     let board = board_of(start, window_start, window_size, edition);
-    pack(machine::run_counting(
-            regs, board, mem, tags, revoked, steps, start1, length1, count1, start2, length2, count2,
-    ))
+    let answer = machine::run_counting(
+        regs, board, mem, tags, revoked, steps, start1, length1, count1, start2, length2, count2,
+    );
+    pack(answer)
 }
 
 // The same run by the second engine: the same answer, buffers and counts.
@@ -152,9 +155,10 @@ pub extern "C" fn oddersnow_run_quick(
         (watch_of start1 length1 count1.old start2 length2 count2.old) count1.new count2.new result }
 {
     let board = board_of(start, window_start, window_size, edition);
-    pack(quick::run_quick_counting(
-            regs, board, mem, tags, revoked, steps, start1, length1, count1, start2, length2, count2,
-    ))
+    let answer = quick::run_quick_counting(
+        regs, board, mem, tags, revoked, steps, start1, length1, count1, start2, length2, count2,
+    );
+    pack(answer)
 }
 
 // number * 2^48 + last * 2^32 + next.

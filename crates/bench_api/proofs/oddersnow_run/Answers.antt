@@ -3,23 +3,13 @@ use Rattle.machine.proofs.Laws as laws
 use Rattle.bench_api.proofs.oddersnow_run.Goals as goal
 
 pub pack-requires : goal.pack-requires
-pack-requires c =
-    rw (c.run_number.ensures, c.run_trapped.ensures, c.run_retired.ensures)
-    (laws.run_small _ _ _ _ _ _ c.run-a.ensures)
+pack-requires c = let small = laws.run_small _ _ _ _ _ _ c.run-answer.ensures in (small.1, small.2)
 
 pub returns : goal.returns
 returns c =
-    let p = c.run-a.ensures in
+    let p = rw c.board_of-board.ensures at c.run-answer.ensures in
     record {
-      answer_is = simp (
-        c.pack.ensures,
-        c.run_number.ensures,
-        c.run_trapped.ensures,
-        c.run_retired.ensures,
-        p.number_is,
-        p.trapped_is,
-        p.retired_is,
-      );
+      answer_is = simp (c.pack.ensures, p.number_is, p.trapped_is, p.retired_is);
       registers_are = p.registers_are;
       memory_is = p.memory_is;
       tags_are = p.tags_are;
