@@ -15,6 +15,7 @@ pub fn either(a: bool, b: bool) -> bool
     a || b
 }
 
+// Three and four by name: over an array of tests the same is a loop.
 pub fn all_three(a: bool, b: bool, c: bool) -> bool
     ensures { result ≡ (a && (b && c)) }
 {
@@ -37,5 +38,5 @@ pub fn choose(test: bool, a: u32, b: u32) -> u32
 pub fn one_if(test: bool) -> u32
     ensures { (result ≡ cond test 1 0) × (1 - result ≡ cond test 0 1) × (result ≤ 1) }
 {
-    if test { 1 } else { 0 }
+    u32::from(test)
 }

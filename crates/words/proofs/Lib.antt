@@ -4,6 +4,7 @@ pub mod Word
 pub mod Shifts
 pub mod Bytes
 pub mod Arrays
+pub mod Puts
 pub mod Bits
 pub mod Fits
 pub mod Readings

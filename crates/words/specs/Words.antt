@@ -1,5 +1,5 @@
 -- Words of 32 bits as numbers below 2 ^ 32: what the integer instructions compute, bytes of a list, one bit of a list of bytes.
-use Rattle.std.specs.Prelude.{ℕ, zero, suc, ◌+◌, ◌-◌, ◌*◌, ◌/◌, ◌%◌, ◌^◌, ◌<◌, Bool, cond, List, nat_lt, slice_index, slice_set}
+use Rattle.std.specs.Prelude.{ℕ, zero, suc, ◌+◌, ◌-◌, ◌*◌, ◌/◌, ◌%◌, ◌^◌, ◌<◌, Bool, cond, List, [], ◌∷◌, nat_lt, slice_index, slice_set}
 
 -- a sum or a product as the word that is left of it
 abbrev pub wrap : ℕ → ℕ
@@ -61,6 +61,11 @@ set16 m i v = set_bytes 2 m i v
 
 abbrev pub set32 : List ℕ → ℕ → ℕ → List ℕ
 set32 m i v = set_bytes 4 m i v
+
+-- bytes put one after another from a place on
+unfoldable pub put_list : (bytes : List ℕ) → List ℕ → ℕ → List ℕ
+put_list [] m i = m
+put_list (b ∷ bs) m i = put_list bs (slice_set m i b) (i + 1)
 
 -- each element is a byte
 abbrev pub Bytes : List ℕ → Type 0

@@ -1,17 +1,8 @@
 // Little-endian bytes of a lent buffer, and elements of a buffer of words. Outside a buffer 0 is read and nothing is stored.
-ghost use Rattle.std.specs.Prelude.{◌≡◌, ℕ, ◌+◌, ◌%◌, ◌<◌, ◌≤◌, slice_index, slice_set};
-ghost use Rattle.words.specs.Words.{le8, le16, le32, set8, set16, set32};
+ghost use Rattle.std.specs.Prelude.{◌≡◌, ℕ, ◌+◌, ◌<◌, ◌≤◌, slice_index, slice_set};
+ghost use Rattle.words.specs.Words.{le8, le16, le32, put_list, set8, set16, set32};
 
 use std::array;
-
-// What a byte's values number, and what a one stands for in a word's second, third and fourth byte.
-const BYTE: u32 = 1 << 8;
-
-const SECOND: u32 = 1 << 8;
-
-const THIRD: u32 = 1 << 16;
-
-const FOURTH: u32 = 1 << 24;
 
 // Below this place no place and width together wrap.
 const FAR: usize = 1 << 63;
@@ -42,13 +33,29 @@ fn bytes_from<const N: usize>(m: &[u8], at: usize) -> [u8; N]
 }
 
 // Byte k from a place on set; outside the buffer nothing is.
-fn put_byte_from(m: &mut [u8], at: usize, k: usize, v: u32)
-    ensures { m.new ≡ slice_set m.old (at + k) (v % 256) }
+fn put_byte_from(m: &mut [u8], at: usize, k: usize, byte: u8)
+    ensures { m.new ≡ slice_set m.old (at + k) byte }
 {
     if at < m.len() {
         if k < m.len() - at {
-            m[at + k] = (v % BYTE) as u8;
+            m[at + k] = byte;
         }
+    }
+}
+
+// N bytes from a place on set; outside the buffer none is.
+fn put_bytes<const N: usize>(m: &mut [u8], at: usize, bytes: [u8; N])
+    requires { N ≤ 4 }
+    ensures { m.new ≡ put_list bytes.entry m.old at }
+{
+    if at < FAR {
+        if at + N <= m.len() {
+            m[at..at + N].copy_from_slice(&bytes);
+            return;
+        }
+    }
+    for (k, byte) in bytes.iter().enumerate() {
+        put_byte_from(m, at, k, *byte);
     }
 }
 
@@ -73,49 +80,31 @@ pub fn load32(m: &[u8], at: usize) -> u32
 pub fn store8(m: &mut [u8], at: usize, v: u32)
     ensures { m.new ≡ set8 m.old at v }
 {
-    put_byte_from(m, at, 0, v);
+    let [low, ..] = v.to_le_bytes();
+    put_byte_from(m, at, 0, low);
 }
 
 pub fn store16(m: &mut [u8], at: usize, v: u32)
     ensures { m.new ≡ set16 m.old at v }
 {
-    if at < FAR {
-        if at + 2 <= m.len() {
-            m[at] = (v % BYTE) as u8;
-            m[at + 1] = (v / SECOND % BYTE) as u8;
-            return;
-        }
-    }
-    put_byte_from(m, at, 0, v);
-    put_byte_from(m, at, 1, v / SECOND);
+    let [low, high, ..] = v.to_le_bytes();
+    put_bytes(m, at, [low, high]);
 }
 
 pub fn store32(m: &mut [u8], at: usize, v: u32)
     ensures { m.new ≡ set32 m.old at v }
 {
-    if at < FAR {
-        if at + 4 <= m.len() {
-            m[at] = (v % BYTE) as u8;
-            m[at + 1] = (v / SECOND % BYTE) as u8;
-            m[at + 2] = (v / THIRD % BYTE) as u8;
-            m[at + 3] = (v / FOURTH % BYTE) as u8;
-            return;
-        }
-    }
-    put_byte_from(m, at, 0, v);
-    put_byte_from(m, at, 1, v / SECOND);
-    put_byte_from(m, at, 2, v / THIRD);
-    put_byte_from(m, at, 3, v / FOURTH);
+    put_bytes(m, at, v.to_le_bytes());
 }
 
 // Element i of a buffer of words; 0 outside.
 pub fn word_at(l: &[u32], i: usize) -> u32
     ensures { result ≡ slice_index l.now i }
 {
-    if i < l.len() { l[i] } else { 0 }
+    l.get(i).copied().unwrap_or(0)
 }
 
-// Element i set; outside nothing is.
+// Element i set; outside nothing is. By a test and the index, since of the element that `get_mut` lends the kit says nothing after the write.
 pub fn put_word(l: &mut [u32], i: usize, v: u32)
     ensures { l.new ≡ slice_set l.old i v }
 {
