@@ -54,8 +54,9 @@ moved_on s t buffer left mid leaves held kept holds (bytes, c, w, e) (more, c', 
       e' ∙ ap (λ (x : Scan). scanned x more) e ∙ sym (scanned_append (start_of 1) bytes more),
     )
 
-pub moved_end : (s : Scan) (buffer : List ℕ) (r : Result (Unit {0}) Failure) (left mid leaves held kept there holds : Option (List ℕ)) → Moved s left mid held kept
-    → TurnMoves s buffer mid leaves kept there (Ok None) → OnOk r (Appends there holds (last_text s)) → RunMoves buffer left leaves held holds r
+pub moved_end : (s : Scan) (buffer : List ℕ) (r : Result (Unit {0}) Failure) (left mid leaves held kept there holds : Option (List ℕ))
+    → Moved s left mid held kept → TurnMoves s buffer mid leaves kept there (Ok None) → OnOk r (Appends there holds (last_text s))
+    → RunMoves buffer left leaves held holds r
 moved_end s buffer (Ok done) left mid leaves held kept there holds (bytes, c, w, e) (c', end, w') l =
     let l' : Appends there holds (last_text (scanned (start_of 1) bytes)) = rw (← e) l in
     let c'' = Consumes-trans left mid leaves bytes [] c c' in

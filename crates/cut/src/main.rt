@@ -38,7 +38,8 @@ enum Failure {
     OutOfTurns,
 }
 
-// The output buffer: it has room for the longest line.
+// The output buffer: it has room for the longest line. Its writer stays beside it: of a `&mut` in a
+// struct each contract would have to say that it is still the same one.
 #[derive(Drop)]
 struct Output<const N: usize> {
     bytes: [u8; N],
@@ -167,6 +168,7 @@ fn cut_all<R: Read, W: Write>(reader: &mut R, writer: &mut W) -> Result<(), Fail
     take_all(&mut input, &mut output, reader, writer)
 }
 
+// A failure is told on standard error alone; the status is 0.
 fn main(rt: HostRuntime) {
     let mut reader = rt.stdin();
     let mut writer = rt.stdout();

@@ -1,6 +1,7 @@
 -- The rule on room: two ways to ask for it, and what a writer's answer is with it and without.
 -- Assumes nothing.
-use Rattle.std.proofs.Common.{◌≡◌, ℕ, ◌+◌, ◌-◌, ◌≤◌, true, false, leb, List, length, ◌<◌, arith, le-leb, leb-true, leb-false, Result, Ok, Err, is_ok, is_err, sym}
+use Rattle.std.proofs.Common.{◌≡◌, ℕ, ◌+◌, ◌-◌, ◌≤◌, true, false, leb, List, length, ◌<◌, arith, le-leb, leb-true, leb-false, sym}
+use Rattle.std.proofs.Common.{Result, Ok, Err, is_ok, is_err}
 use borrow.Author.Tests.{lt-leb}
 use Rattle.text.specs.Writing.{Puts}
 use Rattle.text.proofs.Putting.{placed}

@@ -5,7 +5,8 @@ use Rattle.std.proofs.Common.{append-nil, arith}
 use Rattle.std.proofs.lemmas.List.Sums.{fold-append}
 use Rattle.text.specs.Writing.{newline}
 use Rattle.cut_lines.specs.Lines.{header_text, line_text, start_line, lines_of, lines_text, text_of}
-use Rattle.cut_lines.specs.Scanning.{start_of, advanced, has_begun, answered, stepped, step_text, read_line, scanned, scan_text, last_text, Session, ended, block}
+use Rattle.cut_lines.specs.Scanning.{start_of, advanced, has_begun, answered, stepped, step_text, read_line, scanned, scan_text, last_text}
+use Rattle.cut_lines.specs.Scanning.{Session, ended, block}
 use Rattle.cut_lines.specs.declared.Scan.{Scan}
 use Rattle.text.proofs.Putting.{placed_take}
 use Rattle.cut_lines.proofs.Reading.{number_read, begun_read, answered_line}

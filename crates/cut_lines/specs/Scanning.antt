@@ -1,6 +1,7 @@
 -- Reading an input byte by byte, in blocks of any sizes: the state between two bytes, and what is written meanwhile.
 -- Assumes nothing.
-use Rattle.std.specs.Prelude.{◌≡◌, ℕ, suc, ◌+◌, ◌-◌, ◌*◌, ◌/◌, ◌%◌, ◌^◌, Bool, true, false, cond, ◌&&◌, List, [], ◌∷◌, ◌++◌, length, take, ◌==◌, nat_lt, Option, Some, None, option_and_then, fold}
+use Rattle.std.specs.Prelude.{◌≡◌, ℕ, suc, ◌+◌, ◌-◌, ◌*◌, ◌/◌, ◌%◌, ◌^◌, Bool, true, false, cond, ◌&&◌, List, [], ◌∷◌, ◌++◌, length, take, ◌==◌, nat_lt}
+use Rattle.std.specs.Prelude.{Option, Some, None, option_and_then, fold}
 use Rattle.bounds.specs.Cutting.{cut_of}
 use Rattle.text.specs.Digits.{digit_of, is_digit, decimal}
 use Rattle.text.specs.Writing.{tab, newline, Placed}

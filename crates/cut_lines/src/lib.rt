@@ -42,7 +42,7 @@ pub struct Scan {
     pub fields: Option<Fields>,
 }
 
-// What `process` did with a block.
+// What `process` did with a block: counts, as parts of the slices would keep them lent.
 #[derive(Clone, Copy, Debug, PartialEq, Eq)]
 pub struct Progress {
     pub scan: Scan,
@@ -87,7 +87,7 @@ pub fn process(scan: Scan, input: &[u8], output: &mut [u8]) -> Progress
 {
     let mut s = scan;
     let mut at = 0;
-    for (i, b) in input.iter().enumerate() {
+    for (i, &b) in input.iter().enumerate() {
         if need_room(output, at).is_err() {
             return Progress {
                 scan: s,
@@ -95,8 +95,8 @@ pub fn process(scan: Scan, input: &[u8], output: &mut [u8]) -> Progress
                 written: at,
             };
         }
-        at = put_step(output, at, s, *b);
-        s = s.step(*b);
+        at = put_step(output, at, s, b);
+        s = s.step(b);
     }
     Progress {
         scan: s,

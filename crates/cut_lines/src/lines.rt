@@ -1,5 +1,6 @@
 // What belongs to a line, written into a buffer from index `at` on, as far as the buffer reaches. Each
-// function returns the index after what it wrote.
+// function returns the index after what it wrote. Buffer and index stay apart, as the writers of
+// `text` take them.
 ghost use Rattle.std.specs.Prelude.{◌≡◌, ◌≤◌, length, if◌then◌else◌, is_ok};
 ghost use Rattle.cut_lines.specs.Lines.{cut_text, no_text, region_text, yes_text};
 ghost use Rattle.cut_lines.specs.Scanning.{answered, last_text, outcome, step_text};

@@ -19,6 +19,7 @@ returns-in-None-clause-moved g c =
 pub loop-preserved : goal.loop-preserved
 loop-preserved g c =
     let t = c.in-Some.next in
+    let input = c.take_turn.new.input in
     let turn = rw c.in-Some.is at c.in_ok-next.ensures.turn in
     let moved = rw c.in-Some.is at c.in_ok-next.ensures.moved in
-    (turn_on _ c.take_turn.new.input c.take_turn.new.output.bytes t turn c.loop.invariant.0, moved_on _ t c.take_turn.new.input _ _ _ _ _ _ c.loop.invariant.1 moved)
+    (turn_on _ input c.take_turn.new.output.bytes t turn c.loop.invariant.0, moved_on _ t input _ _ _ _ _ _ c.loop.invariant.1 moved)

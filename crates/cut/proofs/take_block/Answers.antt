@@ -15,7 +15,10 @@ pub slice_bounds-rest-start : goal.slice_bounds-rest-start
 slice_bounds-rest-start g c = read_le c.process-p.ensures
 
 pub loop-rest-smaller : goal.loop-rest-smaller
-loop-rest-smaller g c = left_smaller c.process-p.ensures c.loop-rest.output.room (let h = c.loop-rest-test.true in let i = c.is_empty.ensures in grind (arith, common_steps))
+loop-rest-smaller g c =
+    let test = c.loop-rest-test.true in
+    let told = c.is_empty.ensures in
+    left_smaller c.process-p.ensures c.loop-rest.output.room (grind (arith, common_steps))
 
 pub loop-rest-preserved : goal.loop-rest-preserved
 loop-rest-preserved g c = part_next c.loop-rest.invariant _ c.process-p.ensures c.in_ok-send.ensures.written
