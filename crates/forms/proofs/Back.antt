@@ -2,6 +2,7 @@
 -- words. One law a format, and the decoder's own tests, walked by search: a row more needs no line here.
 use Rattle.std.proofs.Common.{◌≡◌, ℕ, ◌+◌, ◌*◌, ◌/◌, ◌%◌, ◌^◌, ◌<◌, ◌≤◌, Bool, true, false, cond, ◌&&◌, eqb, ltb, get_or, sym, refl, ap, ◌∙◌, arith, eq-eqb}
 use Rattle.std.proofs.Common.{ne_eqb, eqb-true}
+use denote.Enum.Bare.{sameb, same_true}
 use mathlib.Core.Bool.{false≢true}
 use borrow.Author.Tests.{eqb-false}
 use Rattle.words.specs.Words.{wrap}
@@ -23,6 +24,9 @@ use Rattle.forms.specs.Shapes.{three, two, bare, upper_of, pred_of, succ_of, is_
 use Rattle.forms.specs.Rows.{row_count, fixed_bits, formats, csr_number, integer_shape, jump_shape, memory_shape, capability_shape, system_shape}
 use Rattle.forms.specs.Rows.{instruction_shape}
 use Rattle.forms.specs.Encoding.{place_r, place_i, place_of, encode_of, chosen, restored}
+use Rattle.forms.specs.contracts.Format.{the_type}
+use Rattle.forms.specs.declared.Format.{Format}
+use Rattle.forms.specs.declared.Format.TheVariants.{R, I, S, B, U, J, Pair, CsrImmediate, NoOperands}
 use Rattle.forms.specs.declared.Shape.{Shape}
 use Rattle.forms.proofs.Fit.{Fit, fit3, fit2, fit0}
 use Rattle.forms.proofs.Formats.{format_r, format_p, format_n, format_i, format_s, format_b, format_u, format_j}
@@ -48,7 +52,7 @@ seven : (w : ℕ) → 4 ≤ funct3 w → (funct3 w ≡ 4 → ⊥) → (funct3 w 
 seven w k a b c = last (funct3 w) (omega arith) k a b c
 
 -- its row's word, made again
-made : (w : ℕ) (s : Shape) (f : ℕ) → ltb s.row row_count ≡ true → get_or formats s.row 0 ≡ f
+made : (w : ℕ) (s : Shape) (f : Format) → ltb s.row row_count ≡ true → get_or formats s.row R ≡ f
     → wrap (get_or fixed_bits s.row 0 + place_of f s.a s.b s.c) ≡ w → restored w s ≡ w
 unfolding restored encode_of
 made w s f l m e = rw (l, m) e
@@ -66,18 +70,18 @@ module _ (w : ℕ) where
   fixed_of i = get_or fixed_bits (row_of i) 0
 
   -- it has a row, of format f, and its fixed bits are x
-  abbrev stands : Instruction → (f x : ℕ) → Bool
-  stands i f x = is_legal i && (ltb (row_of i) row_count && (eqb (get_or formats (row_of i) 0) f && eqb (fixed_of i) x))
+  abbrev stands : Instruction → (f : Format) (x : ℕ) → Bool
+  stands i f x = is_legal i && (ltb (row_of i) row_count && (sameb the_type (get_or formats (row_of i) R) f && eqb (fixed_of i) x))
 
-  good : (i : Instruction) (f x : ℕ) (s : Shape) → instruction_shape w i ≡ s → stands i f x ≡ true → Fit s
+  good : (i : Instruction) (f : Format) (x : ℕ) (s : Shape) → instruction_shape w i ≡ s → stands i f x ≡ true → Fit s
       → (w < 2 ^ 32 → fixed_of i ≡ x → wrap (get_or fixed_bits s.row 0 + place_of f s.a s.b s.c) ≡ w) → Good w w i
   good i f x s e t p g =
-      let b = eqb (get_or formats (row_of i) 0) f in
+      let b = sameb the_type (get_or formats (row_of i) R) f in
       let u = both (is_legal i) (ltb (row_of i) row_count && (b && eqb (fixed_of i) x)) t in
       let v = both (ltb (row_of i) row_count) (b && eqb (fixed_of i) x) u.1 in
       let y = both b (eqb (fixed_of i) x) v.1 in
       record {
-        again = λ h. made w (instruction_shape w i) f v.0 (eqb-true (get_or formats (row_of i) 0) f y.0) (rw e (g h (eqb-true (fixed_of i) x y.1)));
+        again = λ h. made w (instruction_shape w i) f v.0 (same_true the_type tt (get_or formats (row_of i) R) f y.0) (rw e (g h (eqb-true (fixed_of i) x y.1)));
         legal = v.0 ∙ sym u.0;
         fit = rw e p;
       }
@@ -109,98 +113,98 @@ module _ (w : ℕ) where
     abbrev Two : (b c : ℕ) → Type 0
     Two b c = instruction_shape w i ≡ two (row_of i) b c
 
-    row_r : Three (rd_of w) (rs1_of w) (rs2_of w) → stands i 0 (opcode (fixed_of i) + funct3 (fixed_of i) * 2 ^ 12 + funct7 (fixed_of i) * 2 ^ 25) ≡ true
+    row_r : Three (rd_of w) (rs1_of w) (rs2_of w) → stands i R (opcode (fixed_of i) + funct3 (fixed_of i) * 2 ^ 12 + funct7 (fixed_of i) * 2 ^ 25) ≡ true
         → opcode w ≡ opcode (fixed_of i) → funct3 w ≡ funct3 (fixed_of i) → funct7 w ≡ funct7 (fixed_of i)
         → Good w w i
     unfolding place_of
     row_r s t o p q =
-        good i 0 _ _ s t (fit3 (row_of i) (rd_of w) (rs1_of w) (rs2_of w) (omega arith) (omega arith) (omega arith))
+        good i R _ _ s t (fit3 (row_of i) (rd_of w) (rs1_of w) (rs2_of w) (omega arith) (omega arith) (omega arith))
         (λ h e. format_r w h (fixed_of i) (omega arith))
 
     row_p : Two (rd_of w) (rs1_of w)
-        → stands i 6 (opcode (fixed_of i) + funct3 (fixed_of i) * 2 ^ 12 + rs2_of (fixed_of i) * 2 ^ 20 + funct7 (fixed_of i) * 2 ^ 25) ≡ true
+        → stands i Pair (opcode (fixed_of i) + funct3 (fixed_of i) * 2 ^ 12 + rs2_of (fixed_of i) * 2 ^ 20 + funct7 (fixed_of i) * 2 ^ 25) ≡ true
         → opcode w ≡ opcode (fixed_of i) → funct3 w ≡ funct3 (fixed_of i) → rs2_of w ≡ rs2_of (fixed_of i) → funct7 w ≡ funct7 (fixed_of i)
         → Good w w i
     unfolding place_of
     row_p s t o p q r =
-        good i 6 _ _ s t (fit2 (row_of i) (rd_of w) (rs1_of w) (omega arith) (omega arith))
+        good i Pair _ _ s t (fit2 (row_of i) (rd_of w) (rs1_of w) (omega arith) (omega arith))
         (λ h e. format_p w h (fixed_of i) (omega arith))
 
-    row_n : Three (rd_of w) (rs1_of w) (upper12 w) → stands i 1 (opcode (fixed_of i) + funct3 (fixed_of i) * 2 ^ 12) ≡ true → opcode w ≡ opcode (fixed_of i)
+    row_n : Three (rd_of w) (rs1_of w) (upper12 w) → stands i I (opcode (fixed_of i) + funct3 (fixed_of i) * 2 ^ 12) ≡ true → opcode w ≡ opcode (fixed_of i)
         → funct3 w ≡ funct3 (fixed_of i)
         → Good w w i
     unfolding place_of
     row_n s t o p =
-        good i 1 _ _ s t (fit3 (row_of i) (rd_of w) (rs1_of w) (upper12 w) (omega arith) (omega arith) (omega arith))
+        good i I _ _ s t (fit3 (row_of i) (rd_of w) (rs1_of w) (upper12 w) (omega arith) (omega arith) (omega arith))
         (λ h e. format_n w h (fixed_of i) (omega arith))
 
-    row_i : Three (rd_of w) (rs1_of w) (immediate_i w) → stands i 1 (opcode (fixed_of i) + funct3 (fixed_of i) * 2 ^ 12) ≡ true
+    row_i : Three (rd_of w) (rs1_of w) (immediate_i w) → stands i I (opcode (fixed_of i) + funct3 (fixed_of i) * 2 ^ 12) ≡ true
         → opcode w ≡ opcode (fixed_of i) → funct3 w ≡ funct3 (fixed_of i)
         → Good w w i
     unfolding place_of
     row_i s t o p =
-        good i 1 _ _ s t (fit3 (row_of i) (rd_of w) (rs1_of w) (immediate_i w) (omega arith) (omega arith) word_i)
+        good i I _ _ s t (fit3 (row_of i) (rd_of w) (rs1_of w) (immediate_i w) (omega arith) (omega arith) word_i)
         (λ h e. format_i w h (fixed_of i) (omega arith))
 
-    row_s : Three (rs1_of w) (rs2_of w) (immediate_s w) → stands i 2 (opcode (fixed_of i) + funct3 (fixed_of i) * 2 ^ 12) ≡ true
+    row_s : Three (rs1_of w) (rs2_of w) (immediate_s w) → stands i S (opcode (fixed_of i) + funct3 (fixed_of i) * 2 ^ 12) ≡ true
         → opcode w ≡ opcode (fixed_of i) → funct3 w ≡ funct3 (fixed_of i)
         → Good w w i
     unfolding place_of
     row_s s t o p =
-        good i 2 _ _ s t (fit3 (row_of i) (rs1_of w) (rs2_of w) (immediate_s w) (omega arith) (omega arith) word_s)
+        good i S _ _ s t (fit3 (row_of i) (rs1_of w) (rs2_of w) (immediate_s w) (omega arith) (omega arith) word_s)
         (λ h e. format_s w h (fixed_of i) (omega arith))
 
-    row_b : Three (rs1_of w) (rs2_of w) (immediate_b w) → stands i 3 (opcode (fixed_of i) + funct3 (fixed_of i) * 2 ^ 12) ≡ true
+    row_b : Three (rs1_of w) (rs2_of w) (immediate_b w) → stands i B (opcode (fixed_of i) + funct3 (fixed_of i) * 2 ^ 12) ≡ true
         → opcode w ≡ opcode (fixed_of i) → funct3 w ≡ funct3 (fixed_of i)
         → Good w w i
     unfolding place_of
     row_b s t o p =
-        good i 3 _ _ s t (fit3 (row_of i) (rs1_of w) (rs2_of w) (immediate_b w) (omega arith) (omega arith) word_b)
+        good i B _ _ s t (fit3 (row_of i) (rs1_of w) (rs2_of w) (immediate_b w) (omega arith) (omega arith) word_b)
         (λ h e. format_b w h (fixed_of i) (omega arith))
 
-    row_u : Two (rd_of w) (upper_of w) → stands i 4 (opcode (fixed_of i)) ≡ true → opcode w ≡ opcode (fixed_of i)
+    row_u : Two (rd_of w) (upper_of w) → stands i U (opcode (fixed_of i)) ≡ true → opcode w ≡ opcode (fixed_of i)
         → Good w w i
     unfolding place_of
     row_u s t o =
-        good i 4 _ _ s t (fit2 (row_of i) (rd_of w) (upper_of w) (omega arith) word_u)
+        good i U _ _ s t (fit2 (row_of i) (rd_of w) (upper_of w) (omega arith) word_u)
         (λ h e. format_u w h (fixed_of i) (omega arith))
 
-    row_j : Two (rd_of w) (immediate_j w) → stands i 5 (opcode (fixed_of i)) ≡ true → opcode w ≡ opcode (fixed_of i)
+    row_j : Two (rd_of w) (immediate_j w) → stands i J (opcode (fixed_of i)) ≡ true → opcode w ≡ opcode (fixed_of i)
         → Good w w i
     unfolding place_of
     row_j s t o =
-        good i 5 _ _ s t (fit2 (row_of i) (rd_of w) (immediate_j w) (omega arith) word_j)
+        good i J _ _ s t (fit2 (row_of i) (rd_of w) (immediate_j w) (omega arith) word_j)
         (λ h e. format_j w h (fixed_of i) (omega arith))
 
     -- the whole word is fixed
-    row_w : instruction_shape w i ≡ bare (row_of i) → stands i 8 (fixed_of i) ≡ true → w ≡ fixed_of i → Good w w i
+    row_w : instruction_shape w i ≡ bare (row_of i) → stands i NoOperands (fixed_of i) ≡ true → w ≡ fixed_of i → Good w w i
     unfolding place_of
-    row_w s t o = good i 8 _ _ s t (fit0 (row_of i)) (λ h e. omega arith)
+    row_w s t o = good i NoOperands _ _ s t (fit0 (row_of i)) (λ h e. omega arith)
 
     -- an operand that is a number of its own, and not a field of the word: of a CSR, before or after the source; of a special register
-    row_c : Three (rd_of w) (rs1_of w) (instruction_shape w i).c → stands i 1 (opcode (fixed_of i) + funct3 (fixed_of i) * 2 ^ 12) ≡ true
+    row_c : Three (rd_of w) (rs1_of w) (instruction_shape w i).c → stands i I (opcode (fixed_of i) + funct3 (fixed_of i) * 2 ^ 12) ≡ true
         → upper12 w ≡ (instruction_shape w i).c → opcode w ≡ opcode (fixed_of i) → funct3 w ≡ funct3 (fixed_of i)
         → Good w w i
     unfolding place_of
     row_c s t n o p =
-        good i 1 _ _ s t (fit3 (row_of i) (rd_of w) (rs1_of w) _ (omega arith) (omega arith) (omega arith))
+        good i I _ _ s t (fit3 (row_of i) (rd_of w) (rs1_of w) _ (omega arith) (omega arith) (omega arith))
         (λ h e. ap (λ (m : ℕ). wrap (fixed_of i + place_i (rd_of w) (rs1_of w) m)) (sym n) ∙ format_n w h (fixed_of i) (omega arith))
 
-    row_v : Three (rd_of w) (instruction_shape w i).b (rs1_of w) → stands i 7 (opcode (fixed_of i) + funct3 (fixed_of i) * 2 ^ 12) ≡ true
+    row_v : Three (rd_of w) (instruction_shape w i).b (rs1_of w) → stands i CsrImmediate (opcode (fixed_of i) + funct3 (fixed_of i) * 2 ^ 12) ≡ true
         → upper12 w ≡ (instruction_shape w i).b → opcode w ≡ opcode (fixed_of i) → funct3 w ≡ funct3 (fixed_of i)
         → Good w w i
     unfolding place_of
     row_v s t n o p =
-        good i 7 _ _ s t (fit3 (row_of i) (rd_of w) _ (rs1_of w) (omega arith) (omega arith) (omega arith))
+        good i CsrImmediate _ _ s t (fit3 (row_of i) (rd_of w) _ (rs1_of w) (omega arith) (omega arith) (omega arith))
         (λ h e. ap (λ (m : ℕ). wrap (fixed_of i + place_i (rd_of w) (rs1_of w) m)) (sym n) ∙ format_n w h (fixed_of i) (omega arith))
 
     row_q : Three (rd_of w) (rs1_of w) (instruction_shape w i).c
-        → stands i 0 (opcode (fixed_of i) + funct3 (fixed_of i) * 2 ^ 12 + funct7 (fixed_of i) * 2 ^ 25) ≡ true → rs2_of w ≡ (instruction_shape w i).c
+        → stands i R (opcode (fixed_of i) + funct3 (fixed_of i) * 2 ^ 12 + funct7 (fixed_of i) * 2 ^ 25) ≡ true → rs2_of w ≡ (instruction_shape w i).c
         → opcode w ≡ opcode (fixed_of i) → funct3 w ≡ funct3 (fixed_of i) → funct7 w ≡ funct7 (fixed_of i)
         → Good w w i
     unfolding place_of
     row_q s t n o p q =
-        good i 0 _ _ s t (fit3 (row_of i) (rd_of w) (rs1_of w) _ (omega arith) (omega arith) (omega arith))
+        good i R _ _ s t (fit3 (row_of i) (rd_of w) (rs1_of w) _ (omega arith) (omega arith) (omega arith))
         (λ h e. ap (λ (m : ℕ). wrap (fixed_of i + place_r (rd_of w) (rs1_of w) m)) (sym n) ∙ format_r w h (fixed_of i) (omega arith))
 
   none : Good w w Illegal

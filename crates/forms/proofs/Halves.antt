@@ -10,7 +10,7 @@ use Rattle.short_forms.specs.Forms.{adds_of}
 use Rattle.short_forms.specs.Forms.{registers_of, quadrant2, short_of}
 use Rattle.forms.specs.ShortShapes.{short_shape}
 use Rattle.forms.specs.Rows.{fixed_bits, formats}
-use Rattle.forms.specs.Encoding.{short_place_of, place_of, encode_of, restored}
+use Rattle.forms.specs.Encoding.{place_of, encode_of, restored}
 
 -- the half that is k places into the j-th part
 right : (j k : ℕ) → Bool
@@ -19,97 +19,97 @@ right j k = let h = k + 4096 * j in eqb (restored h (short_shape (short_of h))) 
 part0 : T (every (right 0) 4096)
 unfolding right short_shape short_of quadrant0 quadrant1 quadrant2 addi4spn_of addi16sp_of upper_of two_of arithmetic_of slli_of lwsp_of ldsp_of moves_of
     adds_of registers_of immediate_wide offset_word offset_double immediate_six immediate_sixteens immediate_upper offset_jump offset_branch offset_load_word
-    offset_load_double offset_store_word offset_store_double sign_extend restored encode_of place_of short_place_of fixed_bits formats
+    offset_load_double offset_store_word offset_store_double sign_extend restored encode_of place_of fixed_bits formats
 part0 = tt
 
 part1 : T (every (right 1) 4096)
 unfolding right short_shape short_of quadrant0 quadrant1 quadrant2 addi4spn_of addi16sp_of upper_of two_of arithmetic_of slli_of lwsp_of ldsp_of moves_of
     adds_of registers_of immediate_wide offset_word offset_double immediate_six immediate_sixteens immediate_upper offset_jump offset_branch offset_load_word
-    offset_load_double offset_store_word offset_store_double sign_extend restored encode_of place_of short_place_of fixed_bits formats
+    offset_load_double offset_store_word offset_store_double sign_extend restored encode_of place_of fixed_bits formats
 part1 = tt
 
 part2 : T (every (right 2) 4096)
 unfolding right short_shape short_of quadrant0 quadrant1 quadrant2 addi4spn_of addi16sp_of upper_of two_of arithmetic_of slli_of lwsp_of ldsp_of moves_of
     adds_of registers_of immediate_wide offset_word offset_double immediate_six immediate_sixteens immediate_upper offset_jump offset_branch offset_load_word
-    offset_load_double offset_store_word offset_store_double sign_extend restored encode_of place_of short_place_of fixed_bits formats
+    offset_load_double offset_store_word offset_store_double sign_extend restored encode_of place_of fixed_bits formats
 part2 = tt
 
 part3 : T (every (right 3) 4096)
 unfolding right short_shape short_of quadrant0 quadrant1 quadrant2 addi4spn_of addi16sp_of upper_of two_of arithmetic_of slli_of lwsp_of ldsp_of moves_of
     adds_of registers_of immediate_wide offset_word offset_double immediate_six immediate_sixteens immediate_upper offset_jump offset_branch offset_load_word
-    offset_load_double offset_store_word offset_store_double sign_extend restored encode_of place_of short_place_of fixed_bits formats
+    offset_load_double offset_store_word offset_store_double sign_extend restored encode_of place_of fixed_bits formats
 part3 = tt
 
 part4 : T (every (right 4) 4096)
 unfolding right short_shape short_of quadrant0 quadrant1 quadrant2 addi4spn_of addi16sp_of upper_of two_of arithmetic_of slli_of lwsp_of ldsp_of moves_of
     adds_of registers_of immediate_wide offset_word offset_double immediate_six immediate_sixteens immediate_upper offset_jump offset_branch offset_load_word
-    offset_load_double offset_store_word offset_store_double sign_extend restored encode_of place_of short_place_of fixed_bits formats
+    offset_load_double offset_store_word offset_store_double sign_extend restored encode_of place_of fixed_bits formats
 part4 = tt
 
 part5 : T (every (right 5) 4096)
 unfolding right short_shape short_of quadrant0 quadrant1 quadrant2 addi4spn_of addi16sp_of upper_of two_of arithmetic_of slli_of lwsp_of ldsp_of moves_of
     adds_of registers_of immediate_wide offset_word offset_double immediate_six immediate_sixteens immediate_upper offset_jump offset_branch offset_load_word
-    offset_load_double offset_store_word offset_store_double sign_extend restored encode_of place_of short_place_of fixed_bits formats
+    offset_load_double offset_store_word offset_store_double sign_extend restored encode_of place_of fixed_bits formats
 part5 = tt
 
 part6 : T (every (right 6) 4096)
 unfolding right short_shape short_of quadrant0 quadrant1 quadrant2 addi4spn_of addi16sp_of upper_of two_of arithmetic_of slli_of lwsp_of ldsp_of moves_of
     adds_of registers_of immediate_wide offset_word offset_double immediate_six immediate_sixteens immediate_upper offset_jump offset_branch offset_load_word
-    offset_load_double offset_store_word offset_store_double sign_extend restored encode_of place_of short_place_of fixed_bits formats
+    offset_load_double offset_store_word offset_store_double sign_extend restored encode_of place_of fixed_bits formats
 part6 = tt
 
 part7 : T (every (right 7) 4096)
 unfolding right short_shape short_of quadrant0 quadrant1 quadrant2 addi4spn_of addi16sp_of upper_of two_of arithmetic_of slli_of lwsp_of ldsp_of moves_of
     adds_of registers_of immediate_wide offset_word offset_double immediate_six immediate_sixteens immediate_upper offset_jump offset_branch offset_load_word
-    offset_load_double offset_store_word offset_store_double sign_extend restored encode_of place_of short_place_of fixed_bits formats
+    offset_load_double offset_store_word offset_store_double sign_extend restored encode_of place_of fixed_bits formats
 part7 = tt
 
 part8 : T (every (right 8) 4096)
 unfolding right short_shape short_of quadrant0 quadrant1 quadrant2 addi4spn_of addi16sp_of upper_of two_of arithmetic_of slli_of lwsp_of ldsp_of moves_of
     adds_of registers_of immediate_wide offset_word offset_double immediate_six immediate_sixteens immediate_upper offset_jump offset_branch offset_load_word
-    offset_load_double offset_store_word offset_store_double sign_extend restored encode_of place_of short_place_of fixed_bits formats
+    offset_load_double offset_store_word offset_store_double sign_extend restored encode_of place_of fixed_bits formats
 part8 = tt
 
 part9 : T (every (right 9) 4096)
 unfolding right short_shape short_of quadrant0 quadrant1 quadrant2 addi4spn_of addi16sp_of upper_of two_of arithmetic_of slli_of lwsp_of ldsp_of moves_of
     adds_of registers_of immediate_wide offset_word offset_double immediate_six immediate_sixteens immediate_upper offset_jump offset_branch offset_load_word
-    offset_load_double offset_store_word offset_store_double sign_extend restored encode_of place_of short_place_of fixed_bits formats
+    offset_load_double offset_store_word offset_store_double sign_extend restored encode_of place_of fixed_bits formats
 part9 = tt
 
 part10 : T (every (right 10) 4096)
 unfolding right short_shape short_of quadrant0 quadrant1 quadrant2 addi4spn_of addi16sp_of upper_of two_of arithmetic_of slli_of lwsp_of ldsp_of moves_of
     adds_of registers_of immediate_wide offset_word offset_double immediate_six immediate_sixteens immediate_upper offset_jump offset_branch offset_load_word
-    offset_load_double offset_store_word offset_store_double sign_extend restored encode_of place_of short_place_of fixed_bits formats
+    offset_load_double offset_store_word offset_store_double sign_extend restored encode_of place_of fixed_bits formats
 part10 = tt
 
 part11 : T (every (right 11) 4096)
 unfolding right short_shape short_of quadrant0 quadrant1 quadrant2 addi4spn_of addi16sp_of upper_of two_of arithmetic_of slli_of lwsp_of ldsp_of moves_of
     adds_of registers_of immediate_wide offset_word offset_double immediate_six immediate_sixteens immediate_upper offset_jump offset_branch offset_load_word
-    offset_load_double offset_store_word offset_store_double sign_extend restored encode_of place_of short_place_of fixed_bits formats
+    offset_load_double offset_store_word offset_store_double sign_extend restored encode_of place_of fixed_bits formats
 part11 = tt
 
 part12 : T (every (right 12) 4096)
 unfolding right short_shape short_of quadrant0 quadrant1 quadrant2 addi4spn_of addi16sp_of upper_of two_of arithmetic_of slli_of lwsp_of ldsp_of moves_of
     adds_of registers_of immediate_wide offset_word offset_double immediate_six immediate_sixteens immediate_upper offset_jump offset_branch offset_load_word
-    offset_load_double offset_store_word offset_store_double sign_extend restored encode_of place_of short_place_of fixed_bits formats
+    offset_load_double offset_store_word offset_store_double sign_extend restored encode_of place_of fixed_bits formats
 part12 = tt
 
 part13 : T (every (right 13) 4096)
 unfolding right short_shape short_of quadrant0 quadrant1 quadrant2 addi4spn_of addi16sp_of upper_of two_of arithmetic_of slli_of lwsp_of ldsp_of moves_of
     adds_of registers_of immediate_wide offset_word offset_double immediate_six immediate_sixteens immediate_upper offset_jump offset_branch offset_load_word
-    offset_load_double offset_store_word offset_store_double sign_extend restored encode_of place_of short_place_of fixed_bits formats
+    offset_load_double offset_store_word offset_store_double sign_extend restored encode_of place_of fixed_bits formats
 part13 = tt
 
 part14 : T (every (right 14) 4096)
 unfolding right short_shape short_of quadrant0 quadrant1 quadrant2 addi4spn_of addi16sp_of upper_of two_of arithmetic_of slli_of lwsp_of ldsp_of moves_of
     adds_of registers_of immediate_wide offset_word offset_double immediate_six immediate_sixteens immediate_upper offset_jump offset_branch offset_load_word
-    offset_load_double offset_store_word offset_store_double sign_extend restored encode_of place_of short_place_of fixed_bits formats
+    offset_load_double offset_store_word offset_store_double sign_extend restored encode_of place_of fixed_bits formats
 part14 = tt
 
 part15 : T (every (right 15) 4096)
 unfolding right short_shape short_of quadrant0 quadrant1 quadrant2 addi4spn_of addi16sp_of upper_of two_of arithmetic_of slli_of lwsp_of ldsp_of moves_of
     adds_of registers_of immediate_wide offset_word offset_double immediate_six immediate_sixteens immediate_upper offset_jump offset_branch offset_load_word
-    offset_load_double offset_store_word offset_store_double sign_extend restored encode_of place_of short_place_of fixed_bits formats
+    offset_load_double offset_store_word offset_store_double sign_extend restored encode_of place_of fixed_bits formats
 part15 = tt
 
 -- every part, and so every half

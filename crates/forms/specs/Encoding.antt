@@ -1,9 +1,13 @@
 -- From a row and operands back to the word: the row's fixed bits, and the operands where its format has them.
-use Rattle.std.specs.Prelude.{ℕ, ◌+◌, ◌*◌, ◌/◌, ◌%◌, ◌^◌, cond, ◌&&◌, ◌==◌, nat_lt, slice_index}
+use Rattle.std.specs.Prelude.{ℕ, ◌+◌, ◌*◌, ◌/◌, ◌%◌, ◌^◌, cond, ◌&&◌, ◌==◌, nat_lt, slice_index, slice_index_or}
 use Rattle.words.specs.Words.{wrap}
 use Rattle.instructions.specs.Fields.{opcode, funct3}
 use Rattle.forms.specs.Shapes.{is_tso}
 use Rattle.forms.specs.Rows.{row_count, fixed_bits, formats}
+use Rattle.forms.specs.declared.Format.{Format}
+use Rattle.forms.specs.declared.Format.TheVariants.{R, I, S, B, U, J, Pair, CsrImmediate, NoOperands, FenceSets}
+use Rattle.forms.specs.declared.Format.TheVariants.{Ciw, ClWord, ClDouble, CsWord, CsDouble, Ci, CiSixteens, CbSix, Ca, Cj, Cb, CiWord, CiDouble}
+use Rattle.forms.specs.declared.Format.TheVariants.{CssWord, CssDouble, Cr, CrOne}
 use Rattle.forms.specs.declared.Shape.{Shape}
 
 abbrev pub place_r : (a b c : ℕ) → ℕ
@@ -81,43 +85,39 @@ place_store_double b c = b % 2 ^ 5 * 2 ^ 2 + c / 2 ^ 6 % 2 ^ 3 * 2 ^ 7 + c / 2 ^
 abbrev pub place_full : (b c : ℕ) → ℕ
 place_full b c = c % 2 ^ 5 * 2 ^ 2 + b % 2 ^ 5 * 2 ^ 7
 
-unfoldable pub short_place_of : (format a b c : ℕ) → ℕ
-short_place_of f a b c =
-    cond (f == 10) (place_wide b c)
-    (cond (f == 11) (place_word a b c)
-    (cond (f == 12) (place_double a b c)
-    (cond (f == 13) (place_word b a c)
-    (cond (f == 14) (place_double b a c)
-    (cond (f == 15) (place_six b c)
-    (cond (f == 16) (place_sixteens c)
-    (cond (f == 17) (place_six_eight b c)
-    (cond (f == 18) (place_eights b c)
-    (cond (f == 19) (place_jump c)
-    (cond (f == 20) (place_branch b c)
-    (cond (f == 21) (place_load_word b c)
-    (cond (f == 22) (place_load_double b c)
-    (cond (f == 23) (place_store_word b c)
-    (cond (f == 24) (place_store_double b c)
-    (cond (f == 25) (place_full b c)
-    (place_full c 0))))))))))))))))
-
-unfoldable pub place_of : (format a b c : ℕ) → ℕ
-place_of f a b c =
-    cond (f == 0) (place_r a b c)
-    (cond (f == 1) (place_i a b c)
-    (cond (f == 2) (place_s a b c)
-    (cond (f == 3) (place_b a b c)
-    (cond (f == 4) (place_u b c)
-    (cond (f == 5) (place_j b c)
-    (cond (f == 6) (place_r b c 0)
-    (cond (f == 7) (place_i a c b)
-    (cond (f == 8) 0
-    (cond (f == 9) (place_f b c)
-    (short_place_of f a b c))))))))))
+-- by the format: two registers, the second field fixed; a CSR's number before the immediate; FENCE's sets. Of CL and CS the registers are a and b
+unfoldable pub place_of : Format → (a b c : ℕ) → ℕ
+place_of R a b c = place_r a b c
+place_of I a b c = place_i a b c
+place_of S a b c = place_s a b c
+place_of B a b c = place_b a b c
+place_of U a b c = place_u b c
+place_of J a b c = place_j b c
+place_of Pair a b c = place_r b c 0
+place_of CsrImmediate a b c = place_i a c b
+place_of NoOperands a b c = 0
+place_of FenceSets a b c = place_f b c
+place_of Ciw a b c = place_wide b c
+place_of ClWord a b c = place_word a b c
+place_of ClDouble a b c = place_double a b c
+place_of CsWord a b c = place_word b a c
+place_of CsDouble a b c = place_double b a c
+place_of Ci a b c = place_six b c
+place_of CiSixteens a b c = place_sixteens c
+place_of CbSix a b c = place_six_eight b c
+place_of Ca a b c = place_eights b c
+place_of Cj a b c = place_jump c
+place_of Cb a b c = place_branch b c
+place_of CiWord a b c = place_load_word b c
+place_of CiDouble a b c = place_load_double b c
+place_of CssWord a b c = place_store_word b c
+place_of CssDouble a b c = place_store_double b c
+place_of Cr a b c = place_full b c
+place_of CrOne a b c = place_full c 0
 
 -- the word of a row and operands; 0 where there is no such row
 unfoldable pub encode_of : (row a b c : ℕ) → ℕ
-encode_of row a b c = cond (nat_lt row row_count) (wrap (slice_index fixed_bits row + place_of (slice_index formats row) a b c)) 0
+encode_of row a b c = cond (nat_lt row row_count) (wrap (slice_index fixed_bits row + place_of (slice_index_or formats row R) a b c)) 0
 
 -- The word that stands for all encodings of one instruction. Only FENCE and FENCE.TSO have several: rd and rs1 do not matter, nor FENCE's fm, and what does
 -- not matter is 0 in the chosen word.

@@ -41,6 +41,10 @@ use Rattle.instructions.specs.declared.SystemInstruction.TheVariants.{Fence, Wfi
 use Rattle.instructions.specs.declared.Instruction.{Instruction}
 use Rattle.instructions.specs.declared.Instruction.TheVariants.{Integer, Jump, Memory, Capability, System, Illegal}
 use Rattle.forms.specs.Shapes.{three, two, bare, upper_of, pred_of, succ_of, is_tso}
+use Rattle.forms.specs.declared.Format.{Format}
+use Rattle.forms.specs.declared.Format.TheVariants.{R, I, S, B, U, J, Pair, CsrImmediate, NoOperands, FenceSets}
+use Rattle.forms.specs.declared.Format.TheVariants.{Ciw, ClWord, ClDouble, CsWord, CsDouble, Ci, CiSixteens, CbSix, Ca, Cj, Cb, CiWord, CiDouble}
+use Rattle.forms.specs.declared.Format.TheVariants.{CssWord, CssDouble, Cr, CrOne}
 use Rattle.forms.specs.declared.Shape.{Shape}
 
 -- the names as ASCII text: the published ones in lower case
@@ -194,15 +198,15 @@ fixed_bits =
     0x8c21 ∷ 0x8c41 ∷ 0x8c61 ∷ 0xa001 ∷ 0xc001 ∷ 0xe001 ∷ 0x2 ∷ 0x4002 ∷ 0x6002 ∷ 0x8002 ∷
     0x8002 ∷ 0x9002 ∷ 0x9002 ∷ 0x9002 ∷ 0xc002 ∷ 0xe002 ∷ 0x8330000f ∷ []
 
--- R 0, I 1, S 2, B 3, U 4, J 5, two registers 6, CSR number and immediate 7, none 8, FENCE 9; from 10 on those of halves
-unfoldable pub formats : List ℕ
+-- the format of each row's operands
+unfoldable pub formats : List Format
 formats =
-    4 ∷ 4 ∷ 4 ∷ 5 ∷ 1 ∷ 3 ∷ 3 ∷ 3 ∷ 3 ∷ 3 ∷ 3 ∷ 8 ∷ 1 ∷ 1 ∷ 1 ∷ 1 ∷ 1 ∷ 1 ∷ 2 ∷ 2 ∷
-    2 ∷ 2 ∷ 1 ∷ 0 ∷ 1 ∷ 1 ∷ 1 ∷ 0 ∷ 0 ∷ 1 ∷ 1 ∷ 0 ∷ 0 ∷ 0 ∷ 0 ∷ 0 ∷ 0 ∷ 0 ∷ 0 ∷ 0 ∷
-    0 ∷ 9 ∷ 8 ∷ 8 ∷ 8 ∷ 1 ∷ 1 ∷ 1 ∷ 7 ∷ 7 ∷ 7 ∷ 0 ∷ 1 ∷ 1 ∷ 6 ∷ 6 ∷ 6 ∷ 6 ∷ 6 ∷ 6 ∷
-    6 ∷ 6 ∷ 6 ∷ 6 ∷ 6 ∷ 6 ∷ 0 ∷ 0 ∷ 0 ∷ 0 ∷ 0 ∷ 0 ∷ 0 ∷ 0 ∷ 0 ∷ 0 ∷ 0 ∷ 0 ∷ 0 ∷ 0 ∷
-    0 ∷ 0 ∷ 0 ∷ 0 ∷ 0 ∷ 10 ∷ 11 ∷ 12 ∷ 13 ∷ 14 ∷ 15 ∷ 15 ∷ 19 ∷ 15 ∷ 16 ∷ 15 ∷ 17 ∷ 17 ∷ 17 ∷ 18 ∷
-    18 ∷ 18 ∷ 18 ∷ 19 ∷ 20 ∷ 20 ∷ 15 ∷ 21 ∷ 22 ∷ 26 ∷ 25 ∷ 8 ∷ 26 ∷ 25 ∷ 23 ∷ 24 ∷ 8 ∷ []
+    U ∷ U ∷ U ∷ J ∷ I ∷ B ∷ B ∷ B ∷ B ∷ B ∷ B ∷ NoOperands ∷ I ∷ I ∷ I ∷ I ∷ I ∷ I ∷ S ∷ S ∷ S ∷ S ∷ I ∷ R ∷ I ∷ I ∷ I ∷ R ∷ R ∷ I ∷ I ∷ R ∷ R ∷ R ∷
+    R ∷ R ∷ R ∷ R ∷ R ∷ R ∷ R ∷ FenceSets ∷ NoOperands ∷ NoOperands ∷ NoOperands ∷ I ∷ I ∷ I ∷ CsrImmediate ∷ CsrImmediate ∷ CsrImmediate ∷ R ∷ I ∷
+    I ∷ Pair ∷ Pair ∷ Pair ∷ Pair ∷ Pair ∷ Pair ∷ Pair ∷ Pair ∷ Pair ∷
+    Pair ∷ Pair ∷ Pair ∷ R ∷ R ∷ R ∷ R ∷ R ∷ R ∷ R ∷ R ∷ R ∷ R ∷ R ∷ R ∷ R ∷ R ∷ R ∷ R ∷ R ∷ R ∷ R ∷ Ciw ∷ ClWord ∷ ClDouble ∷
+    CsWord ∷ CsDouble ∷ Ci ∷ Ci ∷ Cj ∷ Ci ∷ CiSixteens ∷ Ci ∷ CbSix ∷ CbSix ∷ CbSix ∷ Ca ∷ Ca ∷ Ca ∷ Ca ∷ Cj ∷ Cb ∷ Cb ∷ Ci ∷ CiWord ∷ CiDouble ∷
+    CrOne ∷ Cr ∷ NoOperands ∷ CrOne ∷ Cr ∷ CssWord ∷ CssDouble ∷ NoOperands ∷ []
 
 -- the row of each kind
 abbrev pub alu_row : Alu → ℕ

@@ -2,15 +2,17 @@
 ghost use Rattle.std.specs.Prelude.{◌≡◌};
 ghost use Rattle.forms.specs.Encoding.{encode_of};
 
+use crate::Row;
 use crate::places::place;
-use crate::rows::{FIXED, FORMATS, ROWS};
+use crate::table::{ROWS, TABLE};
 
 // 0 where there is no such row.
 pub fn encode(row: usize, a: u32, b: u32, c: u32) -> u32
     ensures { result ≡ encode_of row a b c }
 {
     if row < ROWS {
-        return std::num::wrapping_add_u32(FIXED[row], place(FORMATS[row], a, b, c));
+        let Row(_, _, fixed, format) = TABLE[row];
+        return fixed.wrapping_add(place(format, a, b, c));
     }
     0
 }

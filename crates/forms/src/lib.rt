@@ -7,14 +7,52 @@ mod rows;
 mod shapes;
 mod short_places;
 mod short_shapes;
+mod table;
 
 ghost use Rattle.std.specs.Prelude.{◌≡◌};
 ghost use Rattle.forms.specs.ShortShapes.{shape_of};
 
 pub use encoding::encode;
 use rows::long_shape;
-pub use rows::{FIRST_ROWS, FIRST_STARTS, KEYS, LATER_STARTS, NAME_BYTES, NAMES, ROWS};
 use short_shapes::short_shape;
+pub use table::{ROWS, TABLE};
+
+// Where a word has its operands: the standard's formats of long words and of halves, some by the operands or the immediate that they have here. Of two
+// registers, of a CSR's number and an immediate, and of FENCE's sets are formats of their own.
+#[derive(Clone, Copy, Debug, PartialEq, Eq)]
+pub enum Format {
+    R,
+    I,
+    S,
+    B,
+    U,
+    J,
+    Pair,
+    CsrImmediate,
+    NoOperands,
+    FenceSets,
+    Ciw,
+    ClWord,
+    ClDouble,
+    CsWord,
+    CsDouble,
+    Ci,
+    CiSixteens,
+    CbSix,
+    Ca,
+    Cj,
+    Cb,
+    CiWord,
+    CiDouble,
+    CssWord,
+    CssDouble,
+    Cr,
+    CrOne,
+}
+
+// A row: its name, the name's last eight bytes as a number, the bits that all its words have, and the format of its operands.
+#[derive(Clone, Copy)]
+pub struct Row(pub &'static str, pub u64, pub u32, pub Format);
 
 // The row of a name, and as many operands as count says; the last one is c.
 #[derive(Clone, Copy)]

@@ -1,8 +1,13 @@
-// Operands of long words in their places, a function a format. Of each field its low bits.
+// Operands of long words in their places, a function a format, and of any word by its format. Of each field its low bits.
 ghost use Rattle.std.specs.Prelude.{◌≡◌};
 ghost use Rattle.forms.specs.Encoding.{place_r, place_i, place_s, place_b, place_u, place_j, place_f, place_of};
 
-use crate::short_places::short_place;
+use crate::Format;
+use crate::short_places::{
+    place_branch, place_double, place_eights, place_full, place_jump, place_load_double,
+    place_load_word, place_six, place_six_eight, place_sixteens, place_store_double,
+    place_store_word, place_wide, place_word,
+};
 
 fn place_r(a: u32, b: u32, c: u32) -> u32
     ensures { result ≡ place_r a b c }
@@ -55,20 +60,37 @@ fn place_f(b: u32, c: u32) -> u32
     c % 16 * 0x10_0000 + b % 16 * 0x100_0000
 }
 
-pub(crate) fn place(format: u8, a: u32, b: u32, c: u32) -> u32
+#[tactic(auto, unfolding(crate::specs::Encoding::place_of))]
+pub(crate) fn place(format: Format, a: u32, b: u32, c: u32) -> u32
     ensures { result ≡ place_of format a b c }
 {
     match format {
-        0 => return place_r(a, b, c),
-        1 => return place_i(a, b, c),
-        2 => return place_s(a, b, c),
-        3 => return place_b(a, b, c),
-        4 => return place_u(b, c),
-        5 => return place_j(b, c),
-        6 => return place_r(b, c, 0),
-        7 => return place_i(a, c, b),
-        8 => return 0,
-        9 => return place_f(b, c),
-        _ => return short_place(format, a, b, c),
+        Format::R => place_r(a, b, c),
+        Format::I => place_i(a, b, c),
+        Format::S => place_s(a, b, c),
+        Format::B => place_b(a, b, c),
+        Format::U => place_u(b, c),
+        Format::J => place_j(b, c),
+        Format::Pair => place_r(b, c, 0),
+        Format::CsrImmediate => place_i(a, c, b),
+        Format::NoOperands => 0,
+        Format::FenceSets => place_f(b, c),
+        Format::Ciw => place_wide(b, c),
+        Format::ClWord => place_word(a, b, c),
+        Format::ClDouble => place_double(a, b, c),
+        Format::CsWord => place_word(b, a, c),
+        Format::CsDouble => place_double(b, a, c),
+        Format::Ci => place_six(b, c),
+        Format::CiSixteens => place_sixteens(c),
+        Format::CbSix => place_six_eight(b, c),
+        Format::Ca => place_eights(b, c),
+        Format::Cj => place_jump(c),
+        Format::Cb => place_branch(b, c),
+        Format::CiWord => place_load_word(b, c),
+        Format::CiDouble => place_load_double(b, c),
+        Format::CssWord => place_store_word(b, c),
+        Format::CssDouble => place_store_double(b, c),
+        Format::Cr => place_full(b, c),
+        Format::CrOne => place_full(c, 0),
     }
 }

@@ -2,51 +2,51 @@
 ghost use Rattle.std.specs.Prelude.{◌≡◌};
 ghost use Rattle.forms.specs.Encoding.{place_wide, place_word, place_double, place_six, place_six_eight, place_sixteens, place_eights, place_jump};
 ghost use Rattle.forms.specs.Encoding.{place_branch};
-ghost use Rattle.forms.specs.Encoding.{place_load_word, place_load_double, place_store_word, place_store_double, place_full, short_place_of};
+ghost use Rattle.forms.specs.Encoding.{place_load_word, place_load_double, place_store_word, place_store_double, place_full};
 
-fn place_wide(b: u32, c: u32) -> u32
+pub(crate) fn place_wide(b: u32, c: u32) -> u32
     ensures { result ≡ place_wide b c }
 {
     b % 8 * 4 + c / 8 % 2 * 32 + c / 4 % 2 * 64 + c / 64 % 16 * 128 + c / 16 % 4 * 2048
 }
 
-fn place_word(l: u32, h: u32, c: u32) -> u32
+pub(crate) fn place_word(l: u32, h: u32, c: u32) -> u32
     ensures { result ≡ place_word l h c }
 {
     l % 8 * 4 + c / 64 % 2 * 32 + c / 4 % 2 * 64 + h % 8 * 128 + c / 8 % 8 * 1024
 }
 
-fn place_double(l: u32, h: u32, c: u32) -> u32
+pub(crate) fn place_double(l: u32, h: u32, c: u32) -> u32
     ensures { result ≡ place_double l h c }
 {
     l % 8 * 4 + c / 64 % 4 * 32 + h % 8 * 128 + c / 8 % 8 * 1024
 }
 
-fn place_six(b: u32, c: u32) -> u32
+pub(crate) fn place_six(b: u32, c: u32) -> u32
     ensures { result ≡ place_six b c }
 {
     c % 32 * 4 + b % 32 * 128 + c / 32 % 2 * 4096
 }
 
-fn place_six_eight(b: u32, c: u32) -> u32
+pub(crate) fn place_six_eight(b: u32, c: u32) -> u32
     ensures { result ≡ place_six_eight b c }
 {
     c % 32 * 4 + b % 8 * 128 + c / 32 % 2 * 4096
 }
 
-fn place_sixteens(c: u32) -> u32
+pub(crate) fn place_sixteens(c: u32) -> u32
     ensures { result ≡ place_sixteens c }
 {
     c / 32 % 2 * 4 + c / 128 % 4 * 8 + c / 64 % 2 * 32 + c / 16 % 2 * 64 + c / 512 % 2 * 4096
 }
 
-fn place_eights(b: u32, c: u32) -> u32
+pub(crate) fn place_eights(b: u32, c: u32) -> u32
     ensures { result ≡ place_eights b c }
 {
     c % 8 * 4 + b % 8 * 128
 }
 
-fn place_jump(c: u32) -> u32
+pub(crate) fn place_jump(c: u32) -> u32
     ensures { result ≡ place_jump c }
 {
     c / 32 % 2 * 4
@@ -56,7 +56,7 @@ fn place_jump(c: u32) -> u32
         + (c / 1024 % 2 * 256 + c / 256 % 4 * 512 + c / 16 % 2 * 2048 + c / 2048 % 2 * 4096)
 }
 
-fn place_branch(b: u32, c: u32) -> u32
+pub(crate) fn place_branch(b: u32, c: u32) -> u32
     ensures { result ≡ place_branch b c }
 {
     c / 32 % 2 * 4
@@ -67,56 +67,32 @@ fn place_branch(b: u32, c: u32) -> u32
         + c / 256 % 2 * 4096
 }
 
-fn place_load_word(b: u32, c: u32) -> u32
+pub(crate) fn place_load_word(b: u32, c: u32) -> u32
     ensures { result ≡ place_load_word b c }
 {
     c / 64 % 4 * 4 + c / 4 % 8 * 16 + b % 32 * 128 + c / 32 % 2 * 4096
 }
 
-fn place_load_double(b: u32, c: u32) -> u32
+pub(crate) fn place_load_double(b: u32, c: u32) -> u32
     ensures { result ≡ place_load_double b c }
 {
     c / 64 % 8 * 4 + c / 8 % 4 * 32 + b % 32 * 128 + c / 32 % 2 * 4096
 }
 
-fn place_store_word(b: u32, c: u32) -> u32
+pub(crate) fn place_store_word(b: u32, c: u32) -> u32
     ensures { result ≡ place_store_word b c }
 {
     b % 32 * 4 + c / 64 % 4 * 128 + c / 4 % 16 * 512
 }
 
-fn place_store_double(b: u32, c: u32) -> u32
+pub(crate) fn place_store_double(b: u32, c: u32) -> u32
     ensures { result ≡ place_store_double b c }
 {
     b % 32 * 4 + c / 64 % 8 * 128 + c / 8 % 8 * 1024
 }
 
-fn place_full(b: u32, c: u32) -> u32
+pub(crate) fn place_full(b: u32, c: u32) -> u32
     ensures { result ≡ place_full b c }
 {
     c % 32 * 4 + b % 32 * 128
-}
-
-pub(crate) fn short_place(format: u8, a: u32, b: u32, c: u32) -> u32
-    ensures { result ≡ short_place_of format a b c }
-{
-    match format {
-        10 => return place_wide(b, c),
-        11 => return place_word(a, b, c),
-        12 => return place_double(a, b, c),
-        13 => return place_word(b, a, c),
-        14 => return place_double(b, a, c),
-        15 => return place_six(b, c),
-        16 => return place_sixteens(c),
-        17 => return place_six_eight(b, c),
-        18 => return place_eights(b, c),
-        19 => return place_jump(c),
-        20 => return place_branch(b, c),
-        21 => return place_load_word(b, c),
-        22 => return place_load_double(b, c),
-        23 => return place_store_word(b, c),
-        24 => return place_store_double(b, c),
-        25 => return place_full(b, c),
-        _ => return place_full(c, 0),
-    }
 }

@@ -1,15 +1,11 @@
--- A name ends where the next one starts.
-use Rattle.std.proofs.Common.{arith, rules}
-use Rattle.listing.proofs.Places.{name_length_lem}
+-- The names of the table are the definition's.
+use Rattle.std.proofs.Common.{◌≡◌, ℕ, refl, length, ◌≤◌}
+use Rattle.forms.specs.Rows.{names, name_of}
+use Rattle.forms.specs.declared.Row.{Row}
+use Rattle.forms.proofs.Entries.{field_at}
+use Rattle.listing.proofs.Places.{name_short}
 use Rattle.listing.proofs.tables.name_length.Goals as goal
 
-pub overflow_sub-result : goal.overflow_sub-result
-overflow_sub-result c =
-    let n = name_length_lem c.args.row (search rules) in
-    omega (arith, n.1, c.span_of-span.ensures.0, c.span_of-span.ensures.1)
-
 pub returns : goal.returns
-returns c =
-    let n = name_length_lem c.args.row (search rules) in
-    let s = c.span_of-span.ensures in
-    (omega (arith, n.0, n.1, s.0, s.1), omega (arith, n.0, n.2, s.0, s.1))
+unfolding names name_of
+returns c = rw (field_at (λ (r : Row). r.0.now)) (refl, name_short c.args.row c.requires)
