@@ -157,7 +157,17 @@ class Tree:
             return []
         text = read(f"crates/{crate}/src/lib.rt")
         used = " ".join(re.findall(r"(?m)^pub use (?:\w+::)+(\w+;|\{[^}]*\};)", text))
-        return re.findall(r'(?m)^(?:    )?pub (?:extern "C" )?fn (\w+)', text) + re.findall(r"\b[a-z]\w*\b", used)
+        given = re.findall(r'(?m)^(?:    )?pub (?:extern "C" )?fn (\w+)', text) + re.findall(r"\b[a-z]\w*\b", used)
+        for path in sorted(glob.glob(os.path.join(ROOT, f"crates/{crate}/src/*.rt"))):
+            if os.path.basename(path) != "lib.rt":
+                given += self.methods(read(path), re.findall(r"\b[A-Z]\w*\b", used))
+        return given
+
+    def methods(self, text, types):
+        """Those of types and traits that stand in another file than the library's first, and are given out by it."""
+        for kind, name, block in re.findall(r"(?ms)^(pub trait|impl)(?:<[^>]*>)? (\w+)\b(?! for)[^{]*\{\n(.*?)^\}", text):
+            if name in types:
+                yield from re.findall(r"(?m)^    pub fn (\w+)" if kind == "impl" else r"(?m)^    fn (\w+)", block)
 
 
 class Document:
