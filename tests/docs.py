@@ -7,7 +7,7 @@
     promises   docs/PROMISES.md has a row for every public function, and names every edit, of must-fail and of tried
     sizes      counts of mutants are those of the tree, and counts of lines are within a tenth of them
     lines      no line of a document is longer than 160 characters
-    widths     no line of code, definitions or proofs is, but one that is a literal alone
+    widths     no line of code, definitions or proofs is, but one that is a literal alone or an attribute, which rt fmt sets on one line
     bits       a file is executable exactly if it starts with #!
     starts     a file of definitions, laws or proofs begins with a comment that says what is in it
     itself     the parts above find what is wrong in a made-up document
@@ -34,7 +34,7 @@ WIDTH = 160
 # Folders of what rt and cargo make.
 MADE = re.compile(r"/target/|^crates/\w+/out/")
 CODE = ("rt", "antt", "rs", "sh", "py", "c", "h", "S", "s", "inc")
-LITERAL = re.compile(r'\s*\*?b?"[^"]*"[;,]?')
+LITERAL = re.compile(r'\s*\*?b?"[^"]*"[;,]?|#\[tactic\(.*\)\]')
 
 # Names in backticks that are not of this repository, by what they are. One that no document uses is reported.
 ALLOWED = {

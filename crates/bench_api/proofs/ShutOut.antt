@@ -240,7 +240,8 @@ watched_counts_told board revoked from after lent n c d x p = counts_told board 
 
 -- the worked store is counted in the first range, and not in the second: no record that stays, and none with its counts swapped, keeps the promise
 module _ (after : State) where
-  pub staying_record_shut_out : (answer : Result Counts Refusal) → WatchPromise 1 storing_board storing_bits storing_from after storing_watch storing_watch answer → ⊥
+  pub staying_record_shut_out : (answer : Result Counts Refusal) → WatchPromise 1 storing_board storing_bits storing_from after storing_watch
+      storing_watch answer → ⊥
   staying_record_shut_out answer p = omega (arith, ap (λ (w : Watch). w.first.count) p.watch_is, storing_counts.first_is)
 
   pub record_told : (left : Watch) (answer : Result Counts Refusal) → WatchPromise 1 storing_board storing_bits storing_from after storing_watch left answer

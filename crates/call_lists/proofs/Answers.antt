@@ -19,7 +19,8 @@ use Rattle.call_lists.proofs.Turns.{words_of_lem}
 
 module _ (c : Capability) (ks vs out : List ℕ) where
   -- a refused list has no last capability
-  refused : (a : Result Capability ListError) (n : ℕ) → answer_number a ≡ n → 0 < n → (last : Capability) → a ≡ Ok last → Authority c → ListClaim (calls_of ks vs) c last
+  refused : (a : Result Capability ListError) (n : ℕ) → answer_number a ≡ n → 0 < n → (last : Capability) → a ≡ Ok last → Authority c
+      → ListClaim (calls_of ks vs) c last
   refused a n q p last e h = let z : answer_number a ≡ 0 = ap answer_number e in absurd (omega arith)
 
   pub tag_refused : ltb 1 c.tag ≡ true → Listed c ks vs out out (Err BadTag)
@@ -73,7 +74,8 @@ numbered c ks vs before after (Err BadTag) l z h = absurd (omega arith)
 numbered c ks vs before after (Err WrongSize) l z h = absurd (omega arith)
 numbered c ks vs before after (Err UnknownKind) l z h = absurd (omega arith)
 
-pub listed_number : (c : Capability) (ks vs before after : List ℕ) (a : Result Capability ListError) (n : ℕ) → Listed c ks vs before after a → n ≡ answer_number a
+pub listed_number : (c : Capability) (ks vs before after : List ℕ) (a : Result Capability ListError) (n : ℕ) → Listed c ks vs before after a
+    → n ≡ answer_number a
     → ListedNumber c ks vs before after n
 listed_number c ks vs before after a n l q =
     record {

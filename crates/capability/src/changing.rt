@@ -1,6 +1,7 @@
 // Another address, other bounds, fewer rights: each keeps the tag only by its own rule.
 ghost use Rattle.std.specs.Prelude.{◌≡◌, ◌&&◌, ◌+◌};
-ghost use Rattle.capability.specs.Capability.{capability, cut_word, integer, clear_tag, keep_tag_if, unsealed, covers, same_bounds, move_of, set_bounds_of, set_bounds_exact_of, narrow_of};
+ghost use Rattle.capability.specs.Capability.{capability, cut_word, integer, clear_tag, keep_tag_if, unsealed};
+ghost use Rattle.capability.specs.Capability.{covers, same_bounds, move_of, set_bounds_of, set_bounds_exact_of, narrow_of};
 
 use crate::Capability;
 use crate::reading::{covers_range, is_unsealed};

@@ -81,7 +81,8 @@ module _ (w : ℕ) where
       let v = both (ltb (row_of i) row_count) (b && eqb (fixed_of i) x) u.1 in
       let y = both b (eqb (fixed_of i) x) v.1 in
       record {
-        again = λ h. made w (instruction_shape w i) f v.0 (same_true the_type tt (get_or formats (row_of i) R) f y.0) (rw e (g h (eqb-true (fixed_of i) x y.1)));
+        again = λ h. made w (instruction_shape w i) f v.0 (same_true the_type tt (get_or formats (row_of i) R) f y.0) (rw e (g h (eqb-true (fixed_of
+            i) x y.1)));
         legal = v.0 ∙ sym u.0;
         fit = rw e p;
       }

@@ -2,7 +2,8 @@
 use Rattle.std.proofs.Common.{◌≡◌, ℕ, ◌+◌, ◌-◌, ◌<◌, ◌≤◌, true, false, ltb, leb, List, length, sym, refl, ap, ◌∙◌, arith, le-ltb, lt-ltb}
 use Rattle.words.proofs.Word.{by_test}
 use Rattle.listing.specs.Code.{words_at, end_at, text_of, listing_of, list_number, list_value, list_refusal, list_rest, list_answer, list_after, ListPromise}
-use Rattle.listing.specs.Assembling.{bad_at, read_at, code_of, assembly_of, assemble_number, assemble_value, assemble_refusal, assemble_rest, assemble_answer, assemble_after}
+use Rattle.listing.specs.Assembling.{bad_at, read_at, code_of, assembly_of, assemble_number}
+use Rattle.listing.specs.Assembling.{assemble_value, assemble_refusal, assemble_rest, assemble_answer, assemble_after}
 use Rattle.listing.specs.Assembling.{AssemblePromise}
 use Rattle.std.specs.Prelude.{Option, Some, Result, Ok, Err}
 use Rattle.listing.specs.declared.ListError.{ListError}
@@ -34,7 +35,8 @@ assemble_tells text room =
     by_test (ltb (bad_at text 0) (length text)) (λ t. rw t (refl, refl))
     (λ t. rw t (by_test (leb (length (assembly_of text)) room) (λ u. rw u (refl, refl)) (λ u. rw u (refl, refl))))
 
-pub assembles : {text before after : List ℕ} {answer : Result ℕ AssembleError} → answer ≡ assemble_answer text (length before) → after ≡ assemble_after text before
+pub assembles : {text before after : List ℕ} {answer : Result ℕ AssembleError} → answer ≡ assemble_answer text (length before)
+    → after ≡ assemble_after text before
     → AssemblePromise text before after answer
 assembles {text} {before} e f =
     let t = assemble_tells text (length before) in

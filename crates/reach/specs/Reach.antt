@@ -1,6 +1,7 @@
 -- The first place of a state whose capability has some rights and a byte of a range of addresses: what could ever be reached, and by what. The rule of
 -- loads and stores (document 01, "Capability word", access checks in whole numbers) turned round: what a capability may ever allow. Assumes nothing.
-use Rattle.std.specs.Prelude.{Option, Some, None, Result, Ok, Err, Bool, false, true, cond, not, ◌&&◌, ◌||◌, [], ◌≡◌, ℕ, zero, suc, ◌+◌, ◌-◌, ◌*◌, ◌/◌, ◌^◌, ◌≤◌, ◌<◌, eqb, leb, ltb, length}
+use Rattle.std.specs.Prelude.{Option, Some, None, Result, Ok, Err, Bool, false, true, cond, not, ◌&&◌, ◌||◌, []}
+use Rattle.std.specs.Prelude.{◌≡◌, ℕ, zero, suc, ◌+◌, ◌-◌, ◌*◌, ◌/◌, ◌^◌, ◌≤◌, ◌<◌, eqb, leb, ltb, length}
 use Rattle.std.specs.Int.Bits.{bit_and}
 use Rattle.metadata.specs.Rights.{all_rights}
 use Rattle.capability.specs.Capability.{low, high, rights, tagged}

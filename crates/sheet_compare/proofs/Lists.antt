@@ -28,7 +28,8 @@ less_is [] (y ∷ b) e = absurd (omega arith)
 less_is (x ∷ a) [] e = absurd (omega arith)
 less_is (x ∷ a) (y ∷ b) e = go (ltb x y) (eqb x y) (less_is a b (suc_inj e))
   where
-    go : (t u : Bool) → is_some_and is_lt (slice_partial_cmp (λ x y. Some (nat_cmp x y)) a b) ≡ less a b → is_some_and is_lt (partial_ordering_then (Some (cond t Less (cond u Equal Greater)))
+    go : (t u : Bool) → is_some_and is_lt (slice_partial_cmp (λ x y. Some (nat_cmp x y)) a b) ≡ less a b
+        → is_some_and is_lt (partial_ordering_then (Some (cond t Less (cond u Equal Greater)))
         (slice_partial_cmp (λ x y. Some (nat_cmp x y)) a b)) ≡ (t || (u && less a b))
     go true u h = refl
     go false true h = h

@@ -2,7 +2,8 @@
 -- Lists.antt says (`compared_lists`). Document 02, 7.
 -- Assumes nothing.
 use native.Mathlib.Omega.{arith}
-use Rattle.std.specs.Prelude.{Bool, true, false, cond, ◌&&◌, ◌||◌, List, [], ◌∷◌, ◌++◌, ◌≡◌, ℕ, zero, suc, ◌^◌, ◌<◌, ltb, eqb, length, Option, None, Some, Result, Ok, Err}
+use Rattle.std.specs.Prelude.{Bool, true, false, cond, ◌&&◌, ◌||◌, List, [], ◌∷◌, ◌++◌, ◌≡◌, ℕ}
+use Rattle.std.specs.Prelude.{zero, suc, ◌^◌, ◌<◌, ltb, eqb, length, Option, None, Some, Result, Ok, Err}
 use Rattle.std.specs.List.{list_any, fold}
 use Rattle.std.specs.Option.{option_map_or}
 use Rattle.text.specs.Writing.{newline, fits_in, delivered}

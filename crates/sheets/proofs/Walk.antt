@@ -157,7 +157,12 @@ module _ {image : Bool} {text : List ℕ} {before : List Region} {i : ℕ} (g : 
       go : (t : Bool) → cond t (bad 1) (sheet before (drop end text)) ≡ read_of image text
           → Reads image text (close end (cond t (Err (bad_at 1)) (Ok before)))
       go true k = record { reading_is = ap (reading_of text) k; answer_is = k; fits = tt }
-      go false k = record { reading_is = sym (ap (λ (n : ℕ). Ok (record { sheet = before; end = n })) place) ∙ ap (reading_of text) k; answer_is = k; fits = (g.few, h) }
+      go false k = record {
+        reading_is = sym (ap (λ (n : ℕ). Ok (record { sheet = before; end = n })) place)
+            ∙ ap (reading_of text) k;
+        answer_is = k;
+        fits = (g.few, h);
+      }
 
   pub line_short : {s : Scan} {end : ℕ} → Lined text i s end → end ≤ length text
   line_short l = omega (arith, l.end_is, line_le (drop i text), left_length, g.within)

@@ -108,6 +108,9 @@ module _ (board : Board) (revoked mem : List ℕ) where
     kind (Ok None) = 1
     kind (Err r) = 2
 
+    pub refused_number : (r : Refusal) → visit_answer board revoked mem tags granule ≡ Err r → number_of r ≡ 0 → ⊥
+    refused_number r e z = number_positive r z
+
     pub next_small : (n : ℕ) → visit_answer board revoked mem tags granule ≡ Ok (Some n) → n < 2 ^ 32
     unfolding visit_answer next_after
     next_small n e = go (eqb (visit_refusal board revoked mem tags granule) 0) refl (eqb (granule + 1) (granules_in (length mem))) e
@@ -198,7 +201,8 @@ module _ (board : Board) (revoked mem before : List ℕ) (g : ℕ) where
       go false b = refl
 
   -- so the answer and the tags are all that is to be shown
-  pub visit_promised : (after : List ℕ) (answer : Result (Option ℕ) Refusal) → answer ≡ visit_answer board revoked mem before g → after ≡ tags_after board revoked mem before
+  pub visit_promised : (after : List ℕ) (answer : Result (Option ℕ) Refusal) → answer ≡ visit_answer board revoked mem before g
+      → after ≡ tags_after board revoked mem before
       g
       → VisitPromise board revoked mem g before after answer
   visit_promised after answer a t = record {

@@ -20,7 +20,8 @@ use Rattle.std.specs.Prelude.{Option, Result, Err}
 use Rattle.machine.specs.declared.answers.Refusal.{Refusal}
 
 pub visits_hold : T (told visits)
-unfolding told visits refusal_named visit_refusal visit_answer tags_after swept_tags next_after good_memory good_window good_bits revoked_value revocation_at capability_in
+unfolding told visits refusal_named visit_refusal visit_answer tags_after swept_tags next_after good_memory good_window good_bits revoked_value
+    revocation_at capability_in
     revocable tagged low rights low_at low_of exponent_of rights_of permissions_of scale_of top_of base_of le_bytes set_bytes bit_at with_bit put_bit
 visits_hold = tt
 

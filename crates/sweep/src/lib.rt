@@ -10,11 +10,7 @@ use machine::{Refusal, refuse_unless};
 use state::{Board, GRANULE, GRANULE_BYTES};
 
 // The first refusal that applies to a visit of a granule.
-#[tactic(
-    auto,
-    using(machine::proofs::Laws::test_passed, machine::proofs::Laws::test_failed),
-    unfolding(crate::specs::Visits::visit_refusal, machine::specs::Refusals::good_bits)
-)]
+#[tactic(auto, using(machine::proofs::Laws::test_passed, machine::proofs::Laws::test_failed), unfolding(crate::specs::Visits::visit_refusal, machine::specs::Refusals::good_bits))]
 fn refusal(
     board: Board,
     mem: &[u8],

@@ -29,18 +29,22 @@ pub returns-in_err-s : goal.returns-in_err-s
 returns-in_err-s c =
     let a = c.args in
     let kb : Reads false a.board.now (Ok c.in_ok-b.b) = rw (mapped_ok _ _ c.read.result c.in_ok-b.ensures.cases c.in_ok-b.ensures.variant) at c.read.ensures in
-    let kf : Reads true a.first.now (Ok c.in_ok-f.f) = rw (mapped_ok _ _ c.read-2.result c.in_ok-f.ensures.cases c.in_ok-f.ensures.variant) at c.read-2.ensures in
+    let kf : Reads true a.first.now (Ok c.in_ok-f.f) = rw (mapped_ok _ _ c.read-2.result c.in_ok-f.ensures.cases c.in_ok-f.ensures.variant)
+    at c.read-2.ensures in
     let m = mapped_err _ _ c.read-3.result c.in_err-s.ensures.cases c.in_err-s.ensures.variant in
     let p = err_from_is_err_and c.from_residual-in_err-s.result c.from_residual-in_err-s.ensures.1 in
     let e : c.in_err-s.field-0.0 ≡ BadSecond m.0.line = search (rules, m.2) in
-    refuses a.board.now a.first.now a.second.now (p.1 ∙ ap Err (p.2 ∙ e)) (bad_second_lem a.board.now a.first.now a.second.now kb kf (rw m.1 at c.read-3.ensures))
+    refuses a.board.now a.first.now a.second.now (p.1 ∙ ap Err (p.2 ∙ e)) (bad_second_lem a.board.now a.first.now a.second.now kb kf (rw m.1
+    at c.read-3.ensures))
 
 pub returns-then-fits : goal.returns-then-fits
 returns-then-fits c =
     let a = c.args in
     let kb : Reads false a.board.now (Ok c.in_ok-b.b) = rw (mapped_ok _ _ c.read.result c.in_ok-b.ensures.cases c.in_ok-b.ensures.variant) at c.read.ensures in
-    let kf : Reads true a.first.now (Ok c.in_ok-f.f) = rw (mapped_ok _ _ c.read-2.result c.in_ok-f.ensures.cases c.in_ok-f.ensures.variant) at c.read-2.ensures in
-    let ks : Reads true a.second.now (Ok c.in_ok-s.s) = rw (mapped_ok _ _ c.read-3.result c.in_ok-s.ensures.cases c.in_ok-s.ensures.variant) at c.read-3.ensures in
+    let kf : Reads true a.first.now (Ok c.in_ok-f.f) = rw (mapped_ok _ _ c.read-2.result c.in_ok-f.ensures.cases c.in_ok-f.ensures.variant)
+    at c.read-2.ensures in
+    let ks : Reads true a.second.now (Ok c.in_ok-s.s) = rw (mapped_ok _ _ c.read-3.result c.in_ok-s.ensures.cases c.in_ok-s.ensures.variant)
+    at c.read-3.ensures in
     let t : fits c.in_ok-b.b.sheet c.in_ok-f.f.sheet ≡ true = cc in
     hands a.board.now a.first.now a.second.now (rest_all a.first.now c.in_ok-f.f.end) (first_fits a.board.now a.first.now a.second.now kb kf ks t)
 
@@ -48,8 +52,10 @@ pub returns-then-fits-2 : goal.returns-then-fits-2
 returns-then-fits-2 c =
     let a = c.args in
     let kb : Reads false a.board.now (Ok c.in_ok-b.b) = rw (mapped_ok _ _ c.read.result c.in_ok-b.ensures.cases c.in_ok-b.ensures.variant) at c.read.ensures in
-    let kf : Reads true a.first.now (Ok c.in_ok-f.f) = rw (mapped_ok _ _ c.read-2.result c.in_ok-f.ensures.cases c.in_ok-f.ensures.variant) at c.read-2.ensures in
-    let ks : Reads true a.second.now (Ok c.in_ok-s.s) = rw (mapped_ok _ _ c.read-3.result c.in_ok-s.ensures.cases c.in_ok-s.ensures.variant) at c.read-3.ensures in
+    let kf : Reads true a.first.now (Ok c.in_ok-f.f) = rw (mapped_ok _ _ c.read-2.result c.in_ok-f.ensures.cases c.in_ok-f.ensures.variant)
+    at c.read-2.ensures in
+    let ks : Reads true a.second.now (Ok c.in_ok-s.s) = rw (mapped_ok _ _ c.read-3.result c.in_ok-s.ensures.cases c.in_ok-s.ensures.variant)
+    at c.read-3.ensures in
     let t : fits c.in_ok-b.b.sheet c.in_ok-f.f.sheet ≡ false = cc in
     let u : fits c.in_ok-b.b.sheet c.in_ok-s.s.sheet ≡ true = cc in
     hands a.board.now a.first.now a.second.now (rest_all a.second.now c.in_ok-s.s.end) (second_fits a.board.now a.first.now a.second.now kb kf ks t u)
@@ -58,8 +64,10 @@ pub returns : goal.returns
 returns c =
     let a = c.args in
     let kb : Reads false a.board.now (Ok c.in_ok-b.b) = rw (mapped_ok _ _ c.read.result c.in_ok-b.ensures.cases c.in_ok-b.ensures.variant) at c.read.ensures in
-    let kf : Reads true a.first.now (Ok c.in_ok-f.f) = rw (mapped_ok _ _ c.read-2.result c.in_ok-f.ensures.cases c.in_ok-f.ensures.variant) at c.read-2.ensures in
-    let ks : Reads true a.second.now (Ok c.in_ok-s.s) = rw (mapped_ok _ _ c.read-3.result c.in_ok-s.ensures.cases c.in_ok-s.ensures.variant) at c.read-3.ensures in
+    let kf : Reads true a.first.now (Ok c.in_ok-f.f) = rw (mapped_ok _ _ c.read-2.result c.in_ok-f.ensures.cases c.in_ok-f.ensures.variant)
+    at c.read-2.ensures in
+    let ks : Reads true a.second.now (Ok c.in_ok-s.s) = rw (mapped_ok _ _ c.read-3.result c.in_ok-s.ensures.cases c.in_ok-s.ensures.variant)
+    at c.read-3.ensures in
     let t : fits c.in_ok-b.b.sheet c.in_ok-f.f.sheet ≡ false = cc in
     let u : fits c.in_ok-b.b.sheet c.in_ok-s.s.sheet ≡ false = cc in
     refuses a.board.now a.first.now a.second.now refl (neither_fits a.board.now a.first.now a.second.now kb kf ks t u)

@@ -1,7 +1,8 @@
 -- `read`: the loop keeps `Going`, that what is left reads, after the regions so far, as the whole text. Each way out is one of its laws. Assumes nothing.
 use Rattle.std.proofs.Common.{sym, ◌∙◌, arith, eq-eqb}
 use Rattle.std.proofs.lemmas.Result.{err_from_is_err_and}
-use Rattle.sheets.proofs.Walk.{close, stays, line_short, going_start, refused_last, refused_shape, refused_region, refused_end, stopped, told, turned, closed_end}
+use Rattle.sheets.proofs.Walk.{close, stays, line_short, going_start, refused_last, refused_shape}
+use Rattle.sheets.proofs.Walk.{refused_region, refused_end, stopped, told, turned, closed_end}
 use Rattle.sheets.proofs.read.Goals as goal
 
 pub loop-from-init : goal.loop-from-init

@@ -4,4 +4,12 @@ use Rattle.capability.proofs.sealing.seal.Goals as goal
 
 pub returns : goal.returns
 unfolding seal_of with_object_type
-returns c = simp (c.keep_tag_if-kept.ensures, c.with_object_type.ensures, c.both.ensures, c.is_sealed.ensures, c.both-allowed.ensures, c.permitted_type.ensures, c.authorizes.ensures)
+returns c = simp (
+  c.keep_tag_if-kept.ensures,
+  c.with_object_type.ensures,
+  c.both.ensures,
+  c.is_sealed.ensures,
+  c.both-allowed.ensures,
+  c.permitted_type.ensures,
+  c.authorizes.ensures,
+)
