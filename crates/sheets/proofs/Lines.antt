@@ -15,7 +15,7 @@ use lib.Seq.{take-suc, take-append_seam, append_snoc, drop_at}
 use Rattle.text.specs.Digits.{digit_of, glyph, digits}
 use Rattle.text.specs.Writing.{tab}
 use Rattle.sheets.specs.Sheet.{word, is_letter, letters_of, name_of, all_zero, rights_text, line_text, formed}
-use Rattle.sheets.specs.Scanning.{scan, start_scan, spoiled, in_word, in_name, in_start, in_size, in_rights, right_of, with_digit, advanced, line_read, whole}
+use Rattle.sheets.specs.Scanning.{scan, start_scan, spoiled, in_word, in_name, in_number, in_start, in_size, in_rights, right_of, with_digit, advanced, line_read, whole}
 use Rattle.sheets.specs.Scanning.{padded, name_place, region_in, scan_of, region_of}
 use Rattle.sheets.specs.declared.Field.TheVariants.{Word, Name, Start, Size, Rights}
 use Rattle.sheets.specs.declared.Scan.{Scan}
@@ -107,73 +107,80 @@ with_digit_lem n v b h k d =
     let e : with_digit v b ≡ v * 16 + digit_of b = omega (arith, seven n v h k) in
     (e, rw e (more_below n v (digit_of b) k d), rw (e, digits_more n v (digit_of b) d, glyph_digit b d))
 
+pub read_append : (s : Scan) (a b : List ℕ) → line_read s (a ++ b) ≡ line_read (line_read s a) b
+unfolding line_read
+read_append s [] b = refl
+read_append s (x ∷ a) b = read_append (advanced s x) a b
+
+-- ---- a number's field: F in its state after n digits, and the state of the field after it
+record Number (F : (count value : ℕ) → Scan) (next : (value : ℕ) → Scan) : Type 0 where
+  byte : (n v b : ℕ) → advanced (F n v) b ≡ in_number n v b (F (n + 1)) (next v)
+
+number_start : (l : ℕ) → Number (λ n v. scan Start n l v 0 0) (λ v. scan Size 0 l v 0 0)
+unfolding advanced in_start
+number_start l = record { byte = λ n v b. refl }
+
+number_size : (l a : ℕ) → Number (λ n v. scan Size n l a v 0) (λ v. scan Rights 0 l a v 0)
+unfolding advanced in_size
+number_size l a = record { byte = λ n v b. refl }
+
+module _ {F : (count value : ℕ) → Scan} {next : (value : ℕ) → Scan} (f : Number F next) where
+  step_number : (p : List ℕ) → ((n v : ℕ) → n ≤ 8 → v < 16 ^ n → Held (F n v) (p ++ (tab ∷ digits 16 n v)))
+      → ((v : ℕ) → v < 2 ^ 32 → Held (next v) (p ++ (tab ∷ digits 16 8 v) ++ (tab ∷ []))) → (n v : ℕ) → n ≤ 8 → v < 16 ^ n → (b : ℕ)
+      → Step (F n v) (p ++ (tab ∷ digits 16 n v)) b
+  step_number p held after n v k m b = rw (f.byte n v b) (go (ltb n 8) refl)
+    where
+      P : List ℕ
+      P = (p ++ (tab ∷ digits 16 n v)) ++ (b ∷ [])
+
+      more : Scan
+      more = F (n + 1) (with_digit v b)
+
+      digit : (u : Bool) → ltb (digit_of b) 16 ≡ u → n < 8 → (cond u more spoiled ≡ spoiled) ⊎ Held (cond u more spoiled) P
+      digit true e q =
+          let w = with_digit_lem n v b q m (ltb-true (digit_of b) 16 e) in
+          inr (rw (snoc p (digits 16 n v) b, ← w.2) (held (n + 1) (with_digit v b) (omega arith) w.1))
+      digit false e q = inl refl
+
+      last : (u : Bool) → eqb b tab ≡ u → n ≡ 8 → (cond u (next v) spoiled ≡ spoiled) ⊎ Held (cond u (next v) spoiled) P
+      last true e q = inr (rw (eqb-true b tab e, q) (after v (omega (arith, rw q at m))))
+      last false e q = inl refl
+
+      S : Bool → Scan
+      S t = cond t (cond (ltb (digit_of b) 16) more spoiled) (cond (eqb b tab) (next v) spoiled)
+
+      go : (t : Bool) → ltb n 8 ≡ t → (S t ≡ spoiled) ⊎ Held (S t) P
+      go true e = digit (ltb (digit_of b) 16) refl (ltb-true n 8 e)
+      go false e = last (eqb b tab) refl (omega (arith, ltb-false n 8 e))
+
+  takes : (n v b : ℕ) → n < 8 → digit_of b < 16 → advanced (F n v) b ≡ F (n + 1) (with_digit v b)
+  takes n v b h d = f.byte n v b ∙ rw (lt-ltb n 8 h, lt-ltb (digit_of b) 16 d)
+
+  read_digits : (n v : ℕ) → n ≤ 8 → v < 16 ^ n → line_read (F 0 0) (digits 16 n v) ≡ F n v
+  unfolding digits line_read
+  read_digits zero v h k = ap (F 0) (omega arith)
+  read_digits (suc n) v h k =
+      let d : v % 16 < 16 = omega arith in
+      let q : v / 16 < 16 ^ n = less_below n v k in
+      let w : with_digit (v / 16) (glyph (v % 16)) ≡ v = omega (arith, seven n (v / 16) (omega arith) q, digit_glyph (v % 16) d) in
+      read_append (F 0 0) (digits 16 n (v / 16)) (glyph (v % 16) ∷ [])
+      ∙ ap (λ (s : Scan). advanced s (glyph (v % 16))) (read_digits n (v / 16) (omega arith) q)
+      ∙ takes n (v / 16) (glyph (v % 16)) (omega arith) (rw (digit_glyph (v % 16) d) d)
+      ∙ rw (w, add-one n)
+
 step_start : (l : List ℕ) → 0 < length l → length l ≤ 16 → all_letters l ≡ true → (n a : ℕ) → n ≤ 8 → a < 16 ^ n → (b : ℕ)
     → Step (scan Start n (length l) a 0 0) (word ++ (tab ∷ l) ++ (tab ∷ digits 16 n a)) b
-unfolding advanced in_start digits
-step_start l some h letters n a k m b = go (ltb n 8) refl
-  where
-    p : List ℕ
-    p = word ++ (tab ∷ l)
-
-    P : List ℕ
-    P = (p ++ (tab ∷ digits 16 n a)) ++ (b ∷ [])
-
-    more : Scan
-    more = scan Start (n + 1) (length l) (with_digit a b) 0 0
-
-    next : Scan
-    next = scan Size 0 (length l) a 0 0
-
-    digit : (u : Bool) → ltb (digit_of b) 16 ≡ u → n < 8 → (cond u more spoiled ≡ spoiled) ⊎ Held (cond u more spoiled) P
-    digit true e q =
-        let w = with_digit_lem n a b q m (ltb-true (digit_of b) 16 e) in
-        inr (rw (snoc p (digits 16 n a) b, ← w.2) (held_start l some h letters (n + 1) (with_digit a b) (omega arith) w.1))
-    digit false e q = inl refl
-
-    last : (u : Bool) → eqb b tab ≡ u → n ≡ 8 → (cond u next spoiled ≡ spoiled) ⊎ Held (cond u next spoiled) P
-    last true e q = inr (rw (eqb-true b tab e, q) (held_size l some h letters a (omega (arith, rw q at m)) 0 0 (omega arith) (omega arith)))
-    last false e q = inl refl
-
-    S : Bool → Scan
-    S t = cond t (cond (ltb (digit_of b) 16) more spoiled) (cond (eqb b tab) next spoiled)
-
-    go : (t : Bool) → ltb n 8 ≡ t → (S t ≡ spoiled) ⊎ Held (S t) P
-    go true e = digit (ltb (digit_of b) 16) refl (ltb-true n 8 e)
-    go false e = last (eqb b tab) refl (omega (arith, ltb-false n 8 e))
+unfolding digits
+step_start l some h letters =
+    step_number (number_start (length l)) (word ++ (tab ∷ l)) (held_start l some h letters)
+    (λ a x. held_size l some h letters a x 0 0 (omega arith) (omega arith))
 
 step_size : (l : List ℕ) → 0 < length l → length l ≤ 16 → all_letters l ≡ true → (a : ℕ) → a < 2 ^ 32 → (n v : ℕ) → n ≤ 8 → v < 16 ^ n → (b : ℕ)
     → Step (scan Size n (length l) a v 0) (word ++ (tab ∷ l) ++ (tab ∷ digits 16 8 a) ++ (tab ∷ digits 16 n v)) b
-unfolding advanced in_size digits rights_text
-step_size l some h letters a start n v k m b = go (ltb n 8) refl
-  where
-    p : List ℕ
-    p = word ++ (tab ∷ l) ++ (tab ∷ digits 16 8 a)
-
-    P : List ℕ
-    P = (p ++ (tab ∷ digits 16 n v)) ++ (b ∷ [])
-
-    more : Scan
-    more = scan Size (n + 1) (length l) a (with_digit v b) 0
-
-    next : Scan
-    next = scan Rights 0 (length l) a v 0
-
-    digit : (u : Bool) → ltb (digit_of b) 16 ≡ u → n < 8 → (cond u more spoiled ≡ spoiled) ⊎ Held (cond u more spoiled) P
-    digit true e q =
-        let w = with_digit_lem n v b q m (ltb-true (digit_of b) 16 e) in
-        inr (rw (snoc p (digits 16 n v) b, ← w.2) (held_size l some h letters a start (n + 1) (with_digit v b) (omega arith) w.1))
-    digit false e q = inl refl
-
-    last : (u : Bool) → eqb b tab ≡ u → n ≡ 8 → (cond u next spoiled ≡ spoiled) ⊎ Held (cond u next spoiled) P
-    last true e q = inr (rw (eqb-true b tab e, q) (held_rights l some h letters a v 0 start (omega (arith, rw q at m)) (omega arith)))
-    last false e q = inl refl
-
-    S : Bool → Scan
-    S t = cond t (cond (ltb (digit_of b) 16) more spoiled) (cond (eqb b tab) next spoiled)
-
-    go : (t : Bool) → ltb n 8 ≡ t → (S t ≡ spoiled) ⊎ Held (S t) P
-    go true e = digit (ltb (digit_of b) 16) refl (ltb-true n 8 e)
-    go false e = last (eqb b tab) refl (omega (arith, ltb-false n 8 e))
+unfolding rights_text
+step_size l some h letters a x =
+    step_number (number_size (length l) a) (word ++ (tab ∷ l) ++ (tab ∷ digits 16 8 a)) (held_size l some h letters a x)
+    (λ v y. held_rights l some h letters a v 0 x y (omega arith))
 
 -- a right more: the bits below it are those of the letters before it
 right_r : (c : ℕ) → c < 1 → (c + 1 < 8) × (rights_text (c + 1) ≡ rights_text c ++ (114 ∷ []))
@@ -312,11 +319,6 @@ line_told l h = held_whole (held_read (held_word 0 (omega arith)) l h) h
 
 -- ---- from the region to the bytes
 
-pub read_append : (s : Scan) (a b : List ℕ) → line_read s (a ++ b) ≡ line_read (line_read s a) b
-unfolding line_read
-read_append s [] b = refl
-read_append s (x ∷ a) b = read_append (advanced s x) a b
-
 read_name : (n : ℕ) (l : List ℕ) → n + length l ≤ 16 → all_letters l ≡ true → line_read (scan Name n 0 0 0 0) l ≡ scan Name (n + length l) 0 0 0 0
 unfolding line_read advanced in_name all_letters
 read_name n [] h a = rw add-zero
@@ -324,28 +326,6 @@ read_name n (b ∷ l) h a =
     let t = (and-eq-true_iff (is_letter b) (all_letters l)).0 a in
     let m : n + 1 + length l ≡ n + suc (length l) = omega arith in
     rw (t.0, lt-ltb n 16 (omega arith)) (read_name (n + 1) l (omega arith) t.1 ∙ rw m)
-
--- a state that takes eight digits
-module _ (F : ℕ → ℕ → Scan) (takes : (n v b : ℕ) → n < 8 → digit_of b < 16 → advanced (F n v) b ≡ F (n + 1) (with_digit v b)) where
-  read_digits : (n v : ℕ) → n ≤ 8 → v < 16 ^ n → line_read (F 0 0) (digits 16 n v) ≡ F n v
-  unfolding digits line_read
-  read_digits zero v h k = ap (F 0) (omega arith)
-  read_digits (suc n) v h k =
-      let d : v % 16 < 16 = omega arith in
-      let q : v / 16 < 16 ^ n = less_below n v k in
-      let w : with_digit (v / 16) (glyph (v % 16)) ≡ v = omega (arith, seven n (v / 16) (omega arith) q, digit_glyph (v % 16) d) in
-      read_append (F 0 0) (digits 16 n (v / 16)) (glyph (v % 16) ∷ [])
-      ∙ ap (λ (s : Scan). advanced s (glyph (v % 16))) (read_digits n (v / 16) (omega arith) q)
-      ∙ takes n (v / 16) (glyph (v % 16)) (omega arith) (rw (digit_glyph (v % 16) d) d)
-      ∙ rw (w, add-one n)
-
-takes_start : (name n v b : ℕ) → n < 8 → digit_of b < 16 → advanced (scan Start n name v 0 0) b ≡ scan Start (n + 1) name (with_digit v b) 0 0
-unfolding advanced in_start
-takes_start name n v b h d = rw (lt-ltb n 8 h, lt-ltb (digit_of b) 16 d)
-
-takes_size : (name a n v b : ℕ) → n < 8 → digit_of b < 16 → advanced (scan Size n name a v 0) b ≡ scan Size (n + 1) name a (with_digit v b) 0
-unfolding advanced in_size
-takes_size name a n v b h d = rw (lt-ltb n 8 h, lt-ltb (digit_of b) 16 d)
 
 read_rights : (name a v c : ℕ) → c < 8 → line_read (scan Rights 0 name a v 0) (rights_text c) ≡ scan Rights 0 name a v c
 unfolding line_read advanced in_rights right_of rights_text
@@ -367,14 +347,6 @@ tab_name : (n : ℕ) → 0 < n → advanced (scan Name n 0 0 0 0) tab ≡ scan S
 unfolding advanced in_name is_letter
 tab_name n h = rw (lt-ltb 0 n h)
 
-tab_start : (name a : ℕ) → advanced (scan Start 8 name a 0 0) tab ≡ scan Size 0 name a 0 0
-unfolding advanced in_start
-tab_start name a = refl
-
-tab_size : (name a v : ℕ) → advanced (scan Size 8 name a v 0) tab ≡ scan Rights 0 name a v 0
-unfolding advanced in_size
-tab_size name a v = refl
-
 read_word : (l : List ℕ) → length l ≤ 16 → all_letters l ≡ true → line_read start_scan (word ++ (tab ∷ l)) ≡ scan Name (length l) 0 0 0 0
 unfolding line_read advanced in_word
 read_word l h a = read_name 0 l (omega arith) a ∙ rw zero-add
@@ -388,11 +360,11 @@ read_fields l some h letters a v c x y z =
     let p3 : List ℕ = p2 ++ (tab ∷ digits 16 8 v) in
     let e2 : line_read start_scan p2 ≡ scan Start 8 n a 0 0
     = read_tab start_scan (scan Name n 0 0 0 0) p1 (digits 16 8 a) (scan Start 8 n a 0 0) (read_word l h letters)
-    (rw (tab_name n some) (read_digits (λ i w. scan Start i n w 0 0) (takes_start n) 8 a (omega arith) (omega arith))) in
+    (rw (tab_name n some) (read_digits (number_start n) 8 a (omega arith) (omega arith))) in
     let e3 : line_read start_scan p3 ≡ scan Size 8 n a v 0
     = read_tab start_scan (scan Start 8 n a 0 0) p2 (digits 16 8 v) (scan Size 8 n a v 0) e2
-    (rw (tab_start n a) (read_digits (λ i w. scan Size i n a w 0) (takes_size n a) 8 v (omega arith) (omega arith))) in
-    read_tab start_scan (scan Size 8 n a v 0) p3 (rights_text c) (scan Rights 0 n a v c) e3 (rw (tab_size n a v) (read_rights n a v c z))
+    (rw ((number_start n).byte 8 a tab) (read_digits (number_size n a) 8 v (omega arith) (omega arith))) in
+    read_tab start_scan (scan Size 8 n a v 0) p3 (rights_text c) (scan Rights 0 n a v c) e3 (rw ((number_size n a).byte 8 v tab) (read_rights n a v c z))
 
 -- what `formed` tells
 pub record Form (r : Region) : Type 0 where

@@ -49,17 +49,15 @@ in_name s b =
 abbrev pub with_digit : (v byte : ℕ) → ℕ
 with_digit v b = v % 2 ^ 28 * 16 + digit_of b
 
+-- a digit of a number, which is v so far, of eight digits, or the tab after them
+abbrev pub in_number : (count v byte : ℕ) (more : ℕ → Scan) (next : Scan) → Scan
+in_number n v b more next = cond (ltb n 8) (cond (ltb (digit_of b) 16) (more (with_digit v b)) spoiled) (cond (eqb b tab) next spoiled)
+
 unfoldable pub in_start : (s : Scan) (byte : ℕ) → Scan
-in_start s b =
-    cond (ltb s.count 8)
-    (cond (ltb (digit_of b) 16) (scan s.field (s.count + 1) s.letters (with_digit s.start b) s.size s.rights) spoiled)
-    (cond (eqb b tab) (next_field Size s) spoiled)
+in_start s b = in_number s.count s.start b (λ v. scan s.field (s.count + 1) s.letters v s.size s.rights) (next_field Size s)
 
 unfoldable pub in_size : (s : Scan) (byte : ℕ) → Scan
-in_size s b =
-    cond (ltb s.count 8)
-    (cond (ltb (digit_of b) 16) (scan s.field (s.count + 1) s.letters s.start (with_digit s.size b) s.rights) spoiled)
-    (cond (eqb b tab) (next_field Rights s) spoiled)
+in_size s b = in_number s.count s.size b (λ v. scan s.field (s.count + 1) s.letters s.start v s.rights) (next_field Rights s)
 
 -- the bit of a right's letter, and 0 for any other byte
 unfoldable pub right_of : (byte : ℕ) → ℕ

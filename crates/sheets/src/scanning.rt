@@ -30,6 +30,7 @@ fn begin(field: Field) -> Scan
     }
 }
 
+#[tactic(auto, unfolding(crate::specs::Scanning::in_word))]
 fn in_word(s: Scan, b: u8) -> Scan
     ensures { result ≡ in_word s b }
 {
@@ -118,6 +119,7 @@ fn in_number(s: Scan, b: u8) -> Scan
     }
 }
 
+#[tactic(auto, unfolding(crate::specs::Scanning::right_of))]
 fn right_of(b: u8) -> u32
     ensures { (result ≡ right_of b) × (result ≤ 4) }
 {

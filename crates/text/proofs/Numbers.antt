@@ -5,10 +5,11 @@ use mathlib.Core.Path.{◌≡◌, refl, ap}
 use mathlib.Core.List.{List, [], ◌∷◌, ◌++◌}
 use Prim.Native.Nat.{ℕ, zero, suc, ◌+◌, ◌-◌, ◌*◌, ◌/◌, ◌%◌, ◌^◌, ◌≤◌, ◌<◌}
 use native.Mathlib.Nat.{pow-succ', mul-le-mul_right}
+use Rattle.std.proofs.Math.Nat.{pow-le-pow_right}
 use native.Mathlib.Numerals.{add-one}
 use native.Mathlib.Omega.{arith}
-use borrow.Author.Tests.{ltb-true, ltb-false, lt-ltb, le-ltb}
-use lib.Dec.{ltb}
+use borrow.Author.Tests.{ltb-true, ltb-false, leb-true, leb-false, lt-ltb, le-ltb}
+use lib.Dec.{ltb, leb}
 use lib.ListN.{length, length-append}
 use Rattle.text.specs.Digits.{digit_of, is_digit, all_digits, number_from, glyph, digits, places_within, places_of, decimal, minus, signed}
 
@@ -72,6 +73,16 @@ within_above (suc f) n h = go (ltb n 10) refl (within_above f (n / 10))
 pub places_above : (n : ℕ) → n < 10 ^ places_of n
 unfolding places_of
 places_above n = within_above n n (omega arith)
+
+-- a number with this logarithm
+pub places_log : (n k : ℕ) → 10 ^ k ≤ n → n < 10 * 10 ^ k → places_of n ≡ k + 1
+places_log n k h m = go (leb (places_of n) k) refl
+  where
+    go : (t : Bool) → leb (places_of n) k ≡ t → places_of n ≡ k + 1
+    go true e =
+        let p : 10 ^ places_of n ≤ 10 ^ k = pow-le-pow_right (omega arith) (leb-true (places_of n) k e) in
+        absurd (omega (arith, p, places_above n))
+    go false e = omega (arith, leb-false (places_of n) k e, places_le k n (omega (arith, pow-succ' 10 k)))
 
 -- a 64-bit number has at most 20 decimal digits, a word at most 10, and one more in signed decimal
 pub decimal_le : (n : ℕ) → n < 2 ^ 64 → length (decimal n) ≤ 20

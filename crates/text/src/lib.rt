@@ -1,5 +1,6 @@
 // Bytes and numbers as ASCII text. A writer writes from index `at` on, as much as the lent slice has
-// room for, and returns the index after that.
+// room for, and returns the index after that. The slice and the index stay two parameters: a writer
+// that holds both must be lent again for each part, and its callers still need the index.
 #![tactic(auto)]
 
 ghost use Rattle.std.specs.Prelude.{[], ◌∷◌, ◌≡◌, ◌≤◌, ◌<◌, length};
@@ -18,7 +19,8 @@ const LETTERS: u8 = 87;
 // The words from here on are negative.
 const SIGN: u32 = 0x8000_0000;
 
-// The value of a lower-case hexadecimal digit, and 16 for any other byte.
+// The value of a lower-case hexadecimal digit, and 16 for any other byte: no Option, since the
+// definition is this number, and `is it one` and `is it below 16` are one test.
 #[tactic(auto, unfolding(crate::specs::Digits::digit_of))]
 pub fn digit_of(b: u8) -> u64
     ensures { (result ≡ digit_of b) × (result ≤ 16) }
@@ -47,13 +49,10 @@ fn glyph(d: u64) -> u8
 fn places_of(n: u64) -> u8
     ensures { result ≡ places_of n }
 {
-    let mut k = 1;
-    let mut rest = n;
-    while rest >= DECIMAL {
-        rest /= DECIMAL;
-        k += 1;
+    match n.checked_ilog10() {
+        Some(k) => k as u8 + 1,
+        None => 1,
     }
-    k
 }
 
 // Writes a byte, or another item of a buffer.
