@@ -18,7 +18,7 @@ use Rattle.sheets.proofs.Readings.{said_bad, said_sheet}
 use Rattle.text.specs.Writing.{newline}
 use Rattle.fit.specs.Fit.{fits, Outcome, first, second, neither, bad_board, bad_first, bad_second, chosen, or_bad, regions_of, rest_of, judged, outcome}
 use Rattle.fit.specs.Fit.{payload_of, choice_of, part_of, verdict_of, place_of, Handed}
-use Rattle.fit.specs.Fit.{line_of, Choice, chosen_at, of_image, image_number, refusal_number, part_in, number_in, line_in}
+use Rattle.fit.specs.Fit.{line_of, Choice, chosen_at, of_image, image_number, part_in, number_in, line_in}
 use Rattle.fit.specs.declared.Fitting.{Fitting}
 use Rattle.fit.specs.declared.Image.{Image}
 use Rattle.fit.specs.declared.Image.TheVariants.{First, Second}

@@ -1,7 +1,7 @@
 -- Two images and one board: which image fits, and its payload. Document 02, 12.
 -- Assumes nothing.
 use native.Mathlib.Omega.{arith}
-use Rattle.std.specs.Prelude.{Bool, true, false, cond, ◌&&◌, ◌||◌, List, [], ◌∷◌, ◌≡◌, ℕ, ◌+◌, ◌-◌, ◌^◌, ◌<◌, leb, eqb, length, drop, Result, Ok, Err}
+use Rattle.std.specs.Prelude.{Bool, true, false, cond, ◌&&◌, List, [], ◌≡◌, ℕ, ◌+◌, ◌-◌, ◌^◌, ◌<◌, leb, eqb, length, drop, Result, Ok, Err}
 use Rattle.std.specs.Int.Bits.{bit_and}
 use Rattle.std.specs.List.{list_any, list_all}
 use Rattle.sheets.specs.Scanning.{read_of}

@@ -1,6 +1,6 @@
 -- A comparison lists exactly the names that differ, in order, each once.
 -- Assumes nothing.
-use mathlib.Core.Bool.{Bool, true, false, cond}
+use mathlib.Core.Bool.{Bool, true, false}
 use mathlib.Core.List.{List, [], ◌∷◌}
 use mathlib.Core.Logic.{◌⊎◌, inl, inr}
 use mathlib.Core.Path.{◌≡◌, refl, sym, ◌∙◌}
@@ -9,7 +9,7 @@ use native.Mathlib.Omega.{arith}
 use lib.ListN.{length}
 use Rattle.sheets.specs.Scanning.{no_name}
 use Rattle.sheets.specs.declared.Region.{Region}
-use Rattle.sheet_compare.specs.Compare.{less, next_name, names_after, differing}
+use Rattle.sheet_compare.specs.Compare.{less, names_after, differing}
 use Rattle.sheet_compare.specs.Lists.{In, here, there, odd, Differs, After, done, next, Once, empty, new, ListsNames}
 use Rattle.std.specs.Prelude.{Option}
 use Rattle.std.specs.Option.{option_map_or}

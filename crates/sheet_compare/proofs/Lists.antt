@@ -9,16 +9,15 @@ use native.Mathlib.Omega.{arith}
 use lib.Dec.{ltb, eqb}
 use lib.ListN.{length}
 use Rattle.std.specs.Cmp.Lexicographic.{slice_partial_cmp}
-use Rattle.std.specs.List.{fold}
 use Rattle.std.specs.Ordering.{is_lt, is_some_and, nat_cmp, partial_ordering_then}
 use Rattle.std.proofs.Common.{Less, Equal, Greater}
-use Rattle.std.specs.Prelude.{Option, None, Some}
+use Rattle.std.specs.Prelude.{None, Some}
 use Rattle.text.specs.Writing.{newline, Puts}
 use Rattle.text.proofs.Putting.{puts_none, puts_then, puts_length}
 use Rattle.sheets.specs.Sheet.{letters_of}
 use Rattle.sheets.specs.Scanning.{no_name}
 use Rattle.sheets.specs.declared.Region.{Region}
-use Rattle.sheet_compare.specs.Compare.{less, considered, least_of, next_name, names_after, differing, names_text}
+use Rattle.sheet_compare.specs.Compare.{less, next_name, names_after, differing, names_text}
 
 -- names of one length: what `<` says of them
 pub less_is : (a b : List ℕ) → length a ≡ length b → is_some_and is_lt (slice_partial_cmp (λ x y. Some (nat_cmp x y)) a b) ≡ less a b

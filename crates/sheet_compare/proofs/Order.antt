@@ -12,7 +12,6 @@ use lib.Dec.{ltb, eqb}
 use lib.ListN.{length}
 use Rattle.sheets.specs.declared.Region.{Region}
 use Rattle.std.specs.Prelude.{Option, None, Some}
-use Rattle.std.specs.Option.{option_map_or}
 use Rattle.sheet_compare.specs.Compare.{less, stands, sooner, considered, least_of, next_name}
 use Rattle.sheet_compare.specs.Lists.{In, here, there, odd, Differs}
 use Rattle.sheet_compare.proofs.Standing.{clash_of, not_in, stands_not}

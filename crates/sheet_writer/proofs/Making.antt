@@ -6,7 +6,7 @@ use mathlib.Core.List.{List, []}
 use Prim.Native.Nat.{ℕ, ◌-◌}
 use native.Mathlib.Nat.{zero-add}
 use native.Mathlib.Omega.{arith}
-use lib.ListN.{length, take, drop, drop_of_length-le}
+use lib.ListN.{length, take, drop}
 use Rattle.text.specs.Writing.{fits_in, Delivers, Placed, Puts}
 use Rattle.text.proofs.Putting.{placed, delivers_made}
 use Rattle.sheets.specs.Records.{judged}

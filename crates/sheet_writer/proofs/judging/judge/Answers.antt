@@ -1,5 +1,5 @@
 -- `judge`: the loop keeps `Going`, that what is left is judged, after the records so far, as the whole is. Assumes nothing.
-use Rattle.std.proofs.Common.{◌≡◌, ◌/◌, length, true, false, arith, sym, ◌∙◌}
+use Rattle.std.proofs.Common.{◌≡◌, ◌/◌, length, true, false, arith}
 use Rattle.sheets.specs.Sheet.{follows}
 use Rattle.sheet_writer.proofs.Verdicts.{going_start, going_bad, going_odd, going_ended, going_turn}
 use Rattle.sheet_writer.proofs.judging.judge.Goals as goal

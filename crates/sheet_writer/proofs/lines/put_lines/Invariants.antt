@@ -1,5 +1,5 @@
 -- `put_lines`: the loop keeps that the lines of the regions so far are written, as far as there is room. Assumes nothing.
-use Rattle.std.proofs.Common.{◌≡◌, length, take}
+use Rattle.std.proofs.Common.{take}
 use Rattle.text.specs.Writing.{Puts}
 use Rattle.sheets.specs.Sheet.{sheet_text}
 use Rattle.sheet_writer.proofs.lines.put_lines.Given as goal
