@@ -4,7 +4,7 @@ ghost use Rattle.bounds.specs.Cutting.{fits_at, cut_exponent, scale_field, with_
 ghost use Rattle.bounds.specs.Cutting.{suggestion};
 
 use crate::decoding::bounds;
-use crate::shifts::{block, field_of, ones, round_up, scaled};
+use crate::shifts::Exponent;
 use crate::{CutError, CutRegion, MOST_STORED, MOST_UNITS, SPACE, WIDEST, WIDEST_FIELD};
 use choices::both;
 
@@ -12,44 +12,48 @@ use choices::both;
 const SPARE_BITS: u32 = 23;
 
 // Whether the request, rounded outwards to units of 2^e, has at most 511 of them.
-fn fits_at(base: u64, end: u64, e: u32) -> bool
-    requires { (base < 2 ^ 32) × (end < 2 ^ 33) × (e ≤ 24) }
-    ensures { result ≡ fits_at base end e }
+fn fits_at(base: u64, end: u64, e: Exponent) -> bool
+    requires { (base < 2 ^ 32) × (end < 2 ^ 33) }
+    ensures { result ≡ fits_at base end e.value }
 {
-    round_up(end, e) <= block(base, e) + scaled(MOST_UNITS, e)
+    e.round_up(end) <= e.block(base) + e.scaled(MOST_UNITS)
 }
 
 // The exponent that the length's leading zeros propose: in units of any lesser one the length alone is more than 511.
-fn suggestion(length: u32) -> u32
-    ensures { (result ≡ suggestion length) × (result ≤ 23) }
+fn suggestion(length: u32) -> Exponent
+    ensures { result.value ≡ suggestion length }
 {
-    let zeros = u32::leading_zeros(length);
-    if zeros < SPARE_BITS {
-        SPARE_BITS - zeros
-    } else {
-        0
+    Exponent {
+        value: SPARE_BITS.saturating_sub(length.leading_zeros()),
     }
 }
 
 // The least exponent that fits: the one that is proposed, or the next.
-pub(crate) fn cut_exponent(base: u32, length: u32) -> u32
-    ensures { (result ≡ cut_exponent base (base + length)) × (result ≤ 24) }
+pub(crate) fn cut_exponent(base: u32, length: u32) -> Exponent
+    ensures { result.value ≡ cut_exponent base (base + length) }
 {
     let e = suggestion(length);
-    if MOST_STORED < e {
-        return WIDEST;
+    if MOST_STORED < e.value {
+        return Exponent { value: WIDEST };
     }
     if fits_at(base as u64, base as u64 + length as u64, e) {
         return e;
     }
-    if e < MOST_STORED { e + 1 } else { WIDEST }
+    if e.value < MOST_STORED {
+        return Exponent { value: e.value + 1 };
+    }
+    Exponent { value: WIDEST }
 }
 
 // The field E of an exponent.
-fn scale_field(e: u32) -> u32
-    ensures { result ≡ scale_field e }
+fn scale_field(e: Exponent) -> u32
+    ensures { result ≡ scale_field e.value }
 {
-    if e == WIDEST { WIDEST_FIELD } else { e }
+    if e.value == WIDEST {
+        WIDEST_FIELD
+    } else {
+        e.value
+    }
 }
 
 // The metadata word with E, T and B of the cut of [base, base + length).
@@ -58,8 +62,8 @@ pub fn with_cut(metadata: u32, base: u32, length: u32) -> u32
 {
     let e = cut_exponent(base, length);
     let end = base as u64 + length as u64;
-    let top = field_of(end + ones(e), e);
-    let bottom = field_of(base as u64, e);
+    let top = e.field_of(end + e.ones());
+    let bottom = e.field_of(base as u64);
     metadata::with_bounds(metadata, scale_field(e), top, bottom)
 }
 
@@ -70,7 +74,7 @@ pub fn is_unrounded(base: u32, length: u32) -> bool
     let e = cut_exponent(base, length);
     let start = base as u64;
     let end = base as u64 + length as u64;
-    both(block(start, e) == start, round_up(end, e) == end)
+    both(e.block(start) == start, e.round_up(end) == end)
 }
 
 // The cut of a request that ends by 2^32.

@@ -2,17 +2,18 @@
 ghost use Rattle.std.specs.Prelude.{◌≡◌, ◌<◌, ◌≤◌, ◌&&◌, ◌==◌};
 ghost use Rattle.bounds.specs.Bounds.{exponent_of, low_at, high_at, bounds_of};
 
-use crate::shifts::{base_block, base_unit, scaled, span};
+use crate::shifts::{Exponent, span};
 use crate::{Region, SPACE, TWICE_SPACE, WIDEST, WIDEST_FIELD};
 use choices::choose;
-use std::num::wrapping_add_u64;
 
 // The exponent of a field E: a choice, built as a conditional move.
-fn exponent(field: u32) -> u32
+fn exponent(field: u32) -> Exponent
     requires { field < 16 }
-    ensures { (result ≡ exponent_of field) × (result ≤ 24) }
+    ensures { result.value ≡ exponent_of field }
 {
-    choose(field == WIDEST_FIELD, WIDEST, field)
+    Exponent {
+        value: choose(field == WIDEST_FIELD, WIDEST, field),
+    }
 }
 
 // Low and high of a metadata word at an address: a shift down to units, a shift up for the base, and one for the span. Where the
@@ -23,9 +24,9 @@ pub fn bounds(address: u32, metadata: u32) -> Region
     let e = exponent(metadata::scale_of(metadata));
     let top = metadata::top_of(metadata);
     let base = metadata::base_of(metadata);
-    let start = base_unit(address, e, base) << e;
+    let start = e.base_unit(address, base) << e.value;
     let low = start % SPACE;
-    let end = wrapping_add_u64(start, scaled(span(top, base), e));
+    let end = start.wrapping_add(e.scaled(span(top, base)));
     Region {
         low: low as u32,
         high: end % TWICE_SPACE,
@@ -37,9 +38,9 @@ pub fn same_bounds(address: u32, to: u32, metadata: u32) -> bool
     ensures { result ≡ (low_at to metadata == low_at address metadata && high_at to metadata == high_at address metadata) }
 {
     let e = exponent(metadata::scale_of(metadata));
-    if e == WIDEST {
+    if e.value == WIDEST {
         return true;
     }
     let base = metadata::base_of(metadata);
-    base_block(to, e, base) == base_block(address, e, base)
+    e.base_block(to, base) == e.base_block(address, base)
 }

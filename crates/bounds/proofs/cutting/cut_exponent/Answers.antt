@@ -7,22 +7,22 @@ use Rattle.bounds.proofs.cutting.cut_exponent.Goals as goal
 pub returns-then-e-gt-MOST_STORED : goal.returns-then-e-gt-MOST_STORED
 returns-then-e-gt-MOST_STORED c =
     let a = c.args in
-    (sym (suggested_past a.base a.length (search rules) (rw c.suggestion-e.ensures.0 at c.if-e-gt-MOST_STORED.true)), search rules)
+    sym (suggested_past a.base a.length (search rules) (rw c.suggestion-e.ensures at c.if-e-gt-MOST_STORED.true))
 
 -- the one that is proposed fits
 pub returns-then-fits_at : goal.returns-then-fits_at
 returns-then-fits_at c =
     let a = c.args in
-    (c.suggestion-e.ensures.0 ∙ sym (suggested_fits a.base a.length (search rules) (omega arith) (cc)), search rules)
+    c.suggestion-e.ensures ∙ sym (suggested_fits a.base a.length (search rules) (omega arith) (cc))
 
 -- it does not, and the next is at most 14
 pub returns-then-e-lt-MOST_STORED : goal.returns-then-e-lt-MOST_STORED
 returns-then-e-lt-MOST_STORED c =
     let a = c.args in
-    (omega (arith, c.suggestion-e.ensures.0, suggested_next a.base a.length (search rules) (omega arith) (cc)), search rules)
+    omega (arith, c.suggestion-e.ensures, suggested_next a.base a.length (search rules) (omega arith) (cc))
 
 -- it does not, and the next is 24
-pub returns-else-e-lt-MOST_STORED : goal.returns-else-e-lt-MOST_STORED
-returns-else-e-lt-MOST_STORED c =
+pub returns : goal.returns
+returns c =
     let a = c.args in
-    (sym (suggested_last a.base a.length (search rules) (omega arith) (cc)), search rules)
+    sym (suggested_last a.base a.length (search rules) (omega arith) (cc))

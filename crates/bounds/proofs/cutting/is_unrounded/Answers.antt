@@ -5,4 +5,4 @@ use Rattle.bounds.proofs.cutting.is_unrounded.Goals as goal
 pub returns : goal.returns
 unfolding unrounded floor_at
 returns c =
-    simp (c.both.ensures, c.round_up.ensures.0, c.block.ensures.0, c.cut_exponent-e.ensures.0)
+    simp (c.both.ensures, c.round_up.ensures.0, c.block.ensures.0, c.cut_exponent-e.ensures)

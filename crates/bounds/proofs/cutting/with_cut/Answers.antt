@@ -15,7 +15,7 @@ returns c =
       c.field_of-bottom.ensures.0,
       c.field_of-top.ensures.0,
       c.ones.ensures.0,
-      c.cut_exponent-e.ensures.0,
+      c.cut_exponent-e.ensures,
       mod-mod,
       mod-eq_of_lt (cut_field_lt a.base (a.base + a.length)),
     )

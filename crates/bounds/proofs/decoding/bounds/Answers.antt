@@ -13,12 +13,11 @@ returns c =
     let s = c.span in
     simp (
       ← c.scale_of.ensures.0,
-      ← e.ensures.0,
+      ← e.ensures,
       ← t.ensures.0,
       ← b.ensures.0,
-      c.wrapping_add_u64-end.ensures.value,
       c.scaled.ensures.0,
       c.base_unit.ensures,
-      low_start e.result b.result a e.ensures.1 b.ensures.1,
-      high_start e.result t.result b.result a s.result e.ensures.1 b.ensures.1 s.ensures.0,
+      low_start e.result.value b.result a e.result.small b.ensures.1,
+      high_start e.result.value t.result b.result a s.result e.result.small b.ensures.1 s.ensures.0,
     )

@@ -8,7 +8,7 @@ returns-then-e-eq-WIDEST c =
     simp (
       same_test c.args.address c.args.to c.args.metadata (omega arith) (omega arith),
       ← c.scale_of.ensures.0,
-      ← c.exponent-e.ensures.0,
+      ← c.exponent-e.ensures,
       eq-eqb _ _ c.if-e-eq-WIDEST.true,
     )
 
@@ -20,6 +20,6 @@ returns c =
       c.base_block.ensures.0,
       c.base_of-base.ensures.0,
       ← c.scale_of.ensures.0,
-      ← c.exponent-e.ensures.0,
+      ← c.exponent-e.ensures,
       ne_eqb _ _ c.if-e-eq-WIDEST.false,
     )

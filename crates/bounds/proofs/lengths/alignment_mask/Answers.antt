@@ -6,4 +6,4 @@ use Rattle.bounds.proofs.lengths.alignment_mask.Goals as goal
 
 pub returns : goal.returns
 unfolding alignment_mask
-returns c = rw (c.ones.ensures.0, c.cut_exponent-e.ensures.0, zero-add) (omega (arith, pow_pos (cut_exponent 0 c.args.length)))
+returns c = rw (c.ones.ensures.0, c.cut_exponent-e.ensures, zero-add) (omega (arith, pow_pos (cut_exponent 0 c.args.length)))

@@ -5,4 +5,4 @@ use Rattle.bounds.proofs.lengths.representable_length.Goals as goal
 
 pub returns : goal.returns
 unfolding representable_length
-returns c = simp (c.round_up.ensures.0, c.cut_exponent-e.ensures.0, zero-add)
+returns c = simp (c.round_up.ensures.0, c.cut_exponent-e.ensures, zero-add)
