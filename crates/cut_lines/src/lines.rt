@@ -50,6 +50,7 @@ fn put_region(out: &mut [u8], at: usize, cut: CutRegion) -> usize
     put_exact(out, d, cut.exact)
 }
 
+#[tactic(auto, unfolding(crate::specs::Lines::cut_text))]
 fn put_cut(out: &mut [u8], at: usize, answer: Result<CutRegion, CutError>) -> usize
     ensures { Puts out.old at (cut_text answer) out.new result }
 {
@@ -60,6 +61,7 @@ fn put_cut(out: &mut [u8], at: usize, answer: Result<CutRegion, CutError>) -> us
 }
 
 // The cut that the line asked for, or that it is ill-formed.
+#[tactic(auto, unfolding(crate::specs::Scanning::outcome))]
 fn put_outcome(out: &mut [u8], at: usize, fields: Option<Fields>) -> usize
     ensures { Puts out.old at (outcome fields) out.new result }
 {
@@ -83,6 +85,7 @@ pub(crate) fn put_line(out: &mut [u8], at: usize, s: Scan) -> usize
 }
 
 // What belongs to a byte of the input: the output line where the byte ends a line, else nothing.
+#[tactic(auto, unfolding(crate::specs::Scanning::step_text))]
 pub(crate) fn put_step(out: &mut [u8], at: usize, s: Scan, b: u8) -> usize
     ensures { (length (step_text s b) ≤ longest) × Puts out.old at (step_text s b) out.new result }
 {
@@ -90,6 +93,7 @@ pub(crate) fn put_step(out: &mut [u8], at: usize, s: Scan, b: u8) -> usize
 }
 
 // What belongs to the end of the input.
+#[tactic(auto, unfolding(crate::specs::Scanning::last_text))]
 pub(crate) fn put_last(out: &mut [u8], at: usize, s: Scan) -> usize
     ensures { (length (last_text s) ≤ longest) × Puts out.old at (last_text s) out.new result }
 {

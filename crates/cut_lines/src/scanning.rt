@@ -7,6 +7,7 @@ use text::{HEX, digit_of};
 
 impl Fields {
     // Whether a line may have the byte here.
+    #[tactic(auto, unfolding(crate::specs::Scanning::expected))]
     fn expects(self, b: u8) -> bool
         ensures { result ≡ expected self.place b }
     {
@@ -18,6 +19,7 @@ impl Fields {
     }
 
     // The digits so far and a byte more.
+    #[tactic(auto, using(crate::proofs::Reading::expected_digit), unfolding(crate::specs::Scanning::value_with))]
     fn value_with(self, b: u8) -> u64
         requires { expected self.place b ≡ true }
         ensures { result ≡ value_with self.place self.value b }
@@ -30,6 +32,7 @@ impl Fields {
     }
 
     // A byte more, if a line may have it here.
+    #[tactic(auto, using(crate::proofs::Reading::expected_place), unfolding(crate::specs::Scanning::longer))]
     fn with(self, b: u8) -> Option<Fields>
         ensures { result ≡ longer self b }
     {
@@ -53,6 +56,7 @@ impl Scan {
     }
 
     // A byte of the line.
+    #[tactic(auto, unfolding(crate::specs::Scanning::advanced))]
     fn advance(self, b: u8) -> Scan
         ensures { result ≡ advanced self b }
     {
@@ -63,6 +67,7 @@ impl Scan {
     }
 
     // Any byte of the input.
+    #[tactic(auto, unfolding(crate::specs::Scanning::stepped))]
     pub(crate) fn step(self, b: u8) -> Scan
         ensures { result ≡ stepped self b }
     {

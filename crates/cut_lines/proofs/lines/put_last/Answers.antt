@@ -4,10 +4,6 @@ use Rattle.cut_lines.specs.Scanning.{last_text}
 use Rattle.text.proofs.Putting.{puts_none}
 use Rattle.cut_lines.proofs.lines.put_last.Goals as goal
 
-pub returns-then-has_begun : goal.returns-then-has_begun
-unfolding last_text
-returns-then-has_begun c = rw (sym c.has_begun.ensures ∙ c.if-has_begun.true) c.put_line.ensures
-
 pub returns-else-has_begun : goal.returns-else-has_begun
 unfolding last_text
 returns-else-has_begun c =
