@@ -1,5 +1,5 @@
 -- What a word means: trees of tests in the order of the tables. The report is CHERIoT's, the standard RISC-V's unprivileged one (RV32E, M, Zicsr).
-use Rattle.std.specs.Prelude.{ℕ, cond, List, [], ◌∷◌, ◌≡◌, ltb, eqb}
+use Rattle.std.specs.Prelude.{ℕ, cond, List, [], ◌∷◌, ◌≡◌, Option, Some, None, ltb, eqb}
 use Rattle.instructions.specs.Fields.{opcode, rd_of, funct3, rs1_of, rs2_of, funct7, upper12, immediate_i, immediate_s, immediate_b, immediate_u, immediate_j}
 use Rattle.instructions.specs.Fields.{offset_aui}
 use Rattle.instructions.specs.declared.Alu.{Alu}
@@ -19,8 +19,6 @@ use Rattle.instructions.specs.declared.Inspection.TheVariants.{GetTop}
 use Rattle.instructions.specs.declared.Combination.{Combination}
 use Rattle.instructions.specs.declared.Combination.TheVariants.{SetBounds, SetBoundsExact, Seal, Unseal, AndPerm, SetAddr, IncAddr, SubAddr, SetHigh}
 use Rattle.instructions.specs.declared.Combination.TheVariants.{TestSubset, SetEqualExact}
-use Rattle.instructions.specs.declared.Selection.{Selection}
-use Rattle.instructions.specs.declared.Selection.TheVariants.{Is, Nothing}
 use Rattle.instructions.specs.declared.IntegerInstruction.TheVariants.{Lui, OpImm, Op, Multiply, Divide}
 use Rattle.instructions.specs.declared.JumpInstruction.TheVariants.{Jal, Jalr, Branch, Mret}
 use Rattle.instructions.specs.declared.MemoryInstruction.TheVariants.{Load, Store, LoadCapability, StoreCapability}
@@ -217,11 +215,11 @@ combine_of what rd rs1 rs2 = naming_of rs2 (Capability (Combine what rd rs1 rs2)
 -- two sources, by funct7: report, 8.1.2 to 8.1.4 and 8.3
 pub record Row : Type 0 where
   pub code : ℕ
-  pub selects : Selection
+  pub selects : Option Combination
 
 infix 6 ◌is◌
 abbrev ◌is◌ : ℕ → Combination → Row
-n is what = record { code = n; selects = Is what }
+n is what = record { code = n; selects = Some what }
 
 abbrev pub rows : List Row
 rows =
@@ -239,9 +237,9 @@ rows =
     []
 
 -- the row of the number, or else what comes last
-abbrev pub meant : Selection → ℕ → ℕ → ℕ → Instruction → Instruction
-meant (Is what) rd rs1 rs2 last = combine_of what rd rs1 rs2
-meant Nothing rd rs1 rs2 last = last
+abbrev pub meant : Option Combination → ℕ → ℕ → ℕ → Instruction → Instruction
+meant (Some what) rd rs1 rs2 last = combine_of what rd rs1 rs2
+meant None rd rs1 rs2 last = last
 
 abbrev pub row_of : List Row → ℕ → ℕ → ℕ → ℕ → Instruction → Instruction
 row_of [] f7 rd rs1 rs2 last = last
@@ -256,17 +254,17 @@ two_source_of f7 rd rs1 rs2 =
     Illegal))
 
 -- what a match over the rows tells of its answer: the row of the number, or that it is none of theirs
-abbrev pub found_in : List Row → ℕ → Selection
-found_in [] f7 = Nothing
+abbrev pub found_in : List Row → ℕ → Option Combination
+found_in [] f7 = None
 found_in (row ∷ rest) f7 = cond (eqb f7 row.code) row.selects (found_in rest f7)
 
 abbrev pub NoneOf : Type 0 → List Row → ℕ → Type 0
 NoneOf A [] f7 = A
 NoneOf A (row ∷ rest) f7 = NoneOf (A × (f7 ≡ row.code → ⊥)) rest f7
 
-abbrev pub Selected : ℕ → Selection → Type 0
-Selected f7 (Is what) = found_in rows f7 ≡ Is what
-Selected f7 Nothing = NoneOf (Unit {0}) rows f7
+abbrev pub Selected : ℕ → Option Combination → Type 0
+Selected f7 (Some what) = found_in rows f7 ≡ Some what
+Selected f7 None = NoneOf (Unit {0}) rows f7
 
 -- opcode 0x5b, by funct3: report, 8.3
 unfoldable pub capability_of : ℕ → ℕ → ℕ → ℕ → ℕ → ℕ → ℕ → Instruction

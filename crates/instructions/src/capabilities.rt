@@ -3,8 +3,7 @@ ghost use Rattle.std.specs.Prelude.{◌≡◌};
 ghost use Rattle.instructions.specs.Decode.{special_of, source_dest_of, rows, row_of, two_source_of, capability_of, auipcc_of, auicgp_of};
 
 use crate::{
-    CapabilityInstruction, Inspection, Instruction, LAST_REGISTER, Scr, Selection,
-    SystemInstruction, selected,
+    CapabilityInstruction, Inspection, Instruction, LAST_REGISTER, Scr, SystemInstruction, selected,
 };
 
 // The numbers of the special capability registers.
@@ -23,6 +22,7 @@ fn special(scr: Scr, rd: u32, rs1: u32) -> Instruction
 }
 
 // CSpecialRW: the rs2 field is the number of a special register.
+#[tactic(auto, using(words::proofs::Tests::tests), unfolding(crate::specs::Decode::special_of))]
 pub(crate) fn decode_special(number: u32, rd: u32, rs1: u32) -> Instruction
     ensures { result ≡ special_of number rd rs1 }
 {
@@ -42,6 +42,7 @@ fn inspect(what: Inspection, rd: u32, rs1: u32) -> Instruction
 }
 
 // Two registers: the rs2 field selects.
+#[tactic(auto, using(words::proofs::Tests::tests), unfolding(crate::specs::Decode::source_dest_of))]
 pub(crate) fn decode_source_dest(func: u32, rd: u32, rs1: u32) -> Instruction
     ensures { result ≡ source_dest_of func rd rs1 }
 {
@@ -63,41 +64,35 @@ pub(crate) fn decode_source_dest(func: u32, rd: u32, rs1: u32) -> Instruction
 }
 
 // Two sources: the row of funct7 is looked up only where the second is a register, which costs the run less.
-fn two_sources(f7: u32, rd: u32, rs1: u32, rs2: u32) -> Instruction
+fn two_sources<const KEPT: bool>(f7: u32, rd: u32, rs1: u32, rs2: u32) -> Instruction
     ensures { result ≡ row_of rows f7 rd rs1 rs2 Instruction.Illegal }
 {
-    match rs2 {
-        0..=LAST_REGISTER => {
-            let selection = selected(f7);
-            match selection {
-                Selection::Is(what) => {
-                    return Instruction::Capability(CapabilityInstruction::Combine {
-                        what,
-                        rd,
-                        rs1,
-                        rs2,
-                    });
-                }
-                Selection::Nothing => return Instruction::Illegal,
-            }
+    if rs2 > LAST_REGISTER {
+        return Instruction::Illegal;
+    }
+    match selected::<KEPT>(f7) {
+        Some(what) => {
+            return Instruction::Capability(CapabilityInstruction::Combine { what, rd, rs1, rs2 });
         }
-        _ => return Instruction::Illegal,
+        None => return Instruction::Illegal,
     }
 }
 
 // Three registers: funct7 selects.
-fn decode_two_source(f7: u32, rd: u32, rs1: u32, rs2: u32) -> Instruction
+#[tactic(auto, using(words::proofs::Tests::tests), unfolding(crate::specs::Decode::two_source_of))]
+fn decode_two_source<const KEPT: bool>(f7: u32, rd: u32, rs1: u32, rs2: u32) -> Instruction
     ensures { result ≡ two_source_of f7 rd rs1 rs2 }
 {
     match f7 {
         0x01 => return decode_special(rs2, rd, rs1),
         0x7f => return decode_source_dest(rs2, rd, rs1),
-        _ => return two_sources(f7, rd, rs1, rs2),
+        _ => return two_sources::<KEPT>(f7, rd, rs1, rs2),
     }
 }
 
 // CAPABILITY: funct3 selects three registers or two and an immediate.
-pub(crate) fn decode_capability(
+#[tactic(auto, using(words::proofs::Tests::tests), unfolding(crate::specs::Decode::capability_of))]
+pub(crate) fn decode_capability<const KEPT: bool>(
     f3: u32,
     f7: u32,
     rd: u32,
@@ -108,49 +103,38 @@ pub(crate) fn decode_capability(
 ) -> Instruction
     ensures { result ≡ capability_of f3 f7 rd rs1 rs2 offset length }
 {
-    match rd {
-        0..=LAST_REGISTER => match rs1 {
-            0..=LAST_REGISTER => match f3 {
-                0 => return decode_two_source(f7, rd, rs1, rs2),
-                1 => return Instruction::Capability(CapabilityInstruction::IncAddrImm {
-                    rd,
-                    rs1,
-                    offset,
-                }),
-                2 => return Instruction::Capability(CapabilityInstruction::SetBoundsImm {
-                    rd,
-                    rs1,
-                    length,
-                }),
-                _ => return Instruction::Illegal,
-            },
-            _ => return Instruction::Illegal,
-        },
+    if rd > LAST_REGISTER || rs1 > LAST_REGISTER {
+        return Instruction::Illegal;
+    }
+    match f3 {
+        0 => return decode_two_source::<KEPT>(f7, rd, rs1, rs2),
+        1 => {
+            return Instruction::Capability(CapabilityInstruction::IncAddrImm { rd, rs1, offset });
+        }
+        2 => {
+            return Instruction::Capability(CapabilityInstruction::SetBoundsImm { rd, rs1, length });
+        }
         _ => return Instruction::Illegal,
     }
 }
 
 // AUIPCC, AUICGP: twenty bits that count units of 2^11.
+#[tactic(auto, using(words::proofs::Tests::tests), unfolding(crate::specs::Decode::auipcc_of))]
 pub(crate) fn decode_auipcc(rd: u32, offset: u32) -> Instruction
     ensures { result ≡ auipcc_of rd offset }
 {
-    match rd {
-        0..=LAST_REGISTER => return Instruction::Capability(CapabilityInstruction::AuiPcc {
-            rd,
-            offset,
-        }),
-        _ => return Instruction::Illegal,
+    if rd > LAST_REGISTER {
+        return Instruction::Illegal;
     }
+    Instruction::Capability(CapabilityInstruction::AuiPcc { rd, offset })
 }
 
+#[tactic(auto, using(words::proofs::Tests::tests), unfolding(crate::specs::Decode::auicgp_of))]
 pub(crate) fn decode_auicgp(rd: u32, offset: u32) -> Instruction
     ensures { result ≡ auicgp_of rd offset }
 {
-    match rd {
-        0..=LAST_REGISTER => return Instruction::Capability(CapabilityInstruction::AuiCgp {
-            rd,
-            offset,
-        }),
-        _ => return Instruction::Illegal,
+    if rd > LAST_REGISTER {
+        return Instruction::Illegal;
     }
+    Instruction::Capability(CapabilityInstruction::AuiCgp { rd, offset })
 }

@@ -1,4 +1,4 @@
-// The immediates of an instruction word, by format; the fields themselves are cut out in `decode`.
+// The immediates of an instruction word, by format; the fields themselves are cut out in `decode_for`.
 ghost use Rattle.std.specs.Prelude.{◌≡◌};
 ghost use Rattle.instructions.specs.Fields.{immediate_i, immediate_s, immediate_b, immediate_u, immediate_j, offset_aui};
 
@@ -31,18 +31,21 @@ pub(crate) const POW_25: u32 = 1 << 25;
 
 pub(crate) const POW_31: u32 = 1 << 31;
 
+#[tactic(auto, unfolding(crate::specs::Fields::immediate_i))]
 pub(crate) fn imm_i(w: u32) -> u32
     ensures { result ≡ immediate_i w }
 {
     words::sign_extend(w / POW_20 % POW_12, 12)
 }
 
+#[tactic(auto, unfolding(crate::specs::Fields::immediate_s))]
 pub(crate) fn imm_s(w: u32) -> u32
     ensures { result ≡ immediate_s w }
 {
     words::sign_extend(w / POW_25 % POW_7 * POW_5 + w / POW_7 % POW_5, 12)
 }
 
+#[tactic(auto, unfolding(crate::specs::Fields::immediate_b))]
 pub(crate) fn imm_b(w: u32) -> u32
     ensures { result ≡ immediate_b w }
 {
@@ -53,12 +56,14 @@ pub(crate) fn imm_b(w: u32) -> u32
     )
 }
 
+#[tactic(auto, unfolding(crate::specs::Fields::immediate_u))]
 pub(crate) fn imm_u(w: u32) -> u32
     ensures { result ≡ immediate_u w }
 {
     w / POW_12 % POW_20 * POW_12
 }
 
+#[tactic(auto, unfolding(crate::specs::Fields::immediate_j))]
 pub(crate) fn imm_j(w: u32) -> u32
     ensures { result ≡ immediate_j w }
 {
@@ -66,6 +71,7 @@ pub(crate) fn imm_j(w: u32) -> u32
     words::sign_extend(high + w / POW_20 % 2 * POW_11 + w / POW_21 % POW_10 * 2, 21)
 }
 
+#[tactic(auto, unfolding(crate::specs::Fields::offset_aui))]
 pub(crate) fn aui_offset(w: u32) -> u32
     ensures { result ≡ offset_aui w }
 {

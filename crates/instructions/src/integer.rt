@@ -12,6 +12,7 @@ pub const MULTIPLY: u32 = 1;
 pub const ALTERNATE: u32 = 0x20;
 
 // What funct3 selects in OP and OP-IMM alike.
+#[tactic(auto, using(words::proofs::Tests::tests), unfolding(crate::specs::Decode::alu_of))]
 fn alu_of(f3: u32) -> Alu
     ensures { result ≡ alu_of f3 }
 {
@@ -33,15 +34,17 @@ fn op_imm(op: Alu, rd: u32, rs1: u32, value: u32) -> Instruction
     Instruction::Integer(IntegerInstruction::OpImm { op, rd, rs1, value })
 }
 
+#[tactic(auto, using(words::proofs::Tests::tests), unfolding(crate::specs::Decode::shift_left_of))]
 fn decode_shift_left(f7: u32, rd: u32, rs1: u32, shamt: u32) -> Instruction
     ensures { result ≡ shift_left_of f7 rd rs1 shamt }
 {
-    match f7 {
-        BASE => return op_imm(Alu::Sll, rd, rs1, shamt),
-        _ => return Instruction::Illegal,
+    if f7 != BASE {
+        return Instruction::Illegal;
     }
+    op_imm(Alu::Sll, rd, rs1, shamt)
 }
 
+#[tactic(auto, using(words::proofs::Tests::tests), unfolding(crate::specs::Decode::shift_right_of))]
 fn decode_shift_right(f7: u32, rd: u32, rs1: u32, shamt: u32) -> Instruction
     ensures { result ≡ shift_right_of f7 rd rs1 shamt }
 {
@@ -53,6 +56,7 @@ fn decode_shift_right(f7: u32, rd: u32, rs1: u32, shamt: u32) -> Instruction
 }
 
 // OP-IMM: a register and an immediate; the amount of a shift stands in the rs2 field, and funct7 above it.
+#[tactic(auto, using(words::proofs::Tests::tests), unfolding(crate::specs::Decode::op_imm_of))]
 pub(crate) fn decode_op_imm(
     f3: u32,
     f7: u32,
@@ -63,16 +67,13 @@ pub(crate) fn decode_op_imm(
 ) -> Instruction
     ensures { result ≡ op_imm_of f3 f7 rd rs1 shamt value }
 {
-    match rd {
-        0..=LAST_REGISTER => match rs1 {
-            0..=LAST_REGISTER => match f3 {
-                1 => return decode_shift_left(f7, rd, rs1, shamt),
-                5 => return decode_shift_right(f7, rd, rs1, shamt),
-                _ => return op_imm(alu_of(f3), rd, rs1, value),
-            },
-            _ => return Instruction::Illegal,
-        },
-        _ => return Instruction::Illegal,
+    if rd > LAST_REGISTER || rs1 > LAST_REGISTER {
+        return Instruction::Illegal;
+    }
+    match f3 {
+        1 => return decode_shift_left(f7, rd, rs1, shamt),
+        5 => return decode_shift_right(f7, rd, rs1, shamt),
+        _ => return op_imm(alu_of(f3), rd, rs1, value),
     }
 }
 
@@ -82,6 +83,7 @@ fn op(op: Alu, rd: u32, rs1: u32, rs2: u32) -> Instruction
     Instruction::Integer(IntegerInstruction::Op { op, rd, rs1, rs2 })
 }
 
+#[tactic(auto, using(words::proofs::Tests::tests), unfolding(crate::specs::Decode::op32_of))]
 fn decode_op_32(f3: u32, rd: u32, rs1: u32, rs2: u32) -> Instruction
     ensures { result ≡ op32_of f3 rd rs1 rs2 }
 {
@@ -104,6 +106,7 @@ fn divide(kind: DivideKind, rd: u32, rs1: u32, rs2: u32) -> Instruction
     Instruction::Integer(IntegerInstruction::Divide { kind, rd, rs1, rs2 })
 }
 
+#[tactic(auto, using(words::proofs::Tests::tests), unfolding(crate::specs::Decode::multiply_of))]
 fn decode_multiply(f3: u32, rd: u32, rs1: u32, rs2: u32) -> Instruction
     ensures { result ≡ multiply_of f3 rd rs1 rs2 }
 {
@@ -119,6 +122,7 @@ fn decode_multiply(f3: u32, rd: u32, rs1: u32, rs2: u32) -> Instruction
     }
 }
 
+#[tactic(auto, using(words::proofs::Tests::tests), unfolding(crate::specs::Decode::op_by_of))]
 fn decode_op_by(f3: u32, f7: u32, rd: u32, rs1: u32, rs2: u32) -> Instruction
     ensures { result ≡ op_by_of f3 f7 rd rs1 rs2 }
 {
@@ -131,27 +135,23 @@ fn decode_op_by(f3: u32, f7: u32, rd: u32, rs1: u32, rs2: u32) -> Instruction
 }
 
 // OP: two registers.
+#[tactic(auto, using(words::proofs::Tests::tests), unfolding(crate::specs::Decode::op_of))]
 pub(crate) fn decode_op(f3: u32, f7: u32, rd: u32, rs1: u32, rs2: u32) -> Instruction
     ensures { result ≡ op_of f3 f7 rd rs1 rs2 }
 {
-    match rd {
-        0..=LAST_REGISTER => match rs1 {
-            0..=LAST_REGISTER => match rs2 {
-                0..=LAST_REGISTER => return decode_op_by(f3, f7, rd, rs1, rs2),
-                _ => return Instruction::Illegal,
-            },
-            _ => return Instruction::Illegal,
-        },
-        _ => return Instruction::Illegal,
+    if rd > LAST_REGISTER || rs1 > LAST_REGISTER || rs2 > LAST_REGISTER {
+        return Instruction::Illegal;
     }
+    decode_op_by(f3, f7, rd, rs1, rs2)
 }
 
 // LUI.
+#[tactic(auto, using(words::proofs::Tests::tests), unfolding(crate::specs::Decode::lui_of))]
 pub(crate) fn decode_lui(rd: u32, value: u32) -> Instruction
     ensures { result ≡ lui_of rd value }
 {
-    match rd {
-        0..=LAST_REGISTER => return Instruction::Integer(IntegerInstruction::Lui { rd, value }),
-        _ => return Instruction::Illegal,
+    if rd > LAST_REGISTER {
+        return Instruction::Illegal;
     }
+    Instruction::Integer(IntegerInstruction::Lui { rd, value })
 }

@@ -3,7 +3,6 @@
 // An arm of a match returns at once: where arms meet, the text that the check generates is about three times as long.
 #![tactic(auto)]
 
-mod again;
 mod capabilities;
 mod fields;
 mod integer;
@@ -15,7 +14,6 @@ mod system;
 ghost use Rattle.std.specs.Prelude.{◌≡◌};
 ghost use Rattle.instructions.specs.Decode.{Selected, decode_of};
 
-pub use again::decode_again;
 use capabilities::{decode_auicgp, decode_auipcc, decode_capability};
 use fields::{
     POW_3, POW_5, POW_7, POW_12, POW_15, POW_20, POW_25, aui_offset, imm_b, imm_i, imm_j, imm_s,
@@ -142,49 +140,23 @@ pub enum Combination {
     SetEqualExact,
 }
 
-// What funct7 selects of them.
-#[derive(Clone, Copy)]
-pub enum Selection {
-    Is(Combination),
-    Nothing,
-}
-
-// The rows of the report's table, beside their enum: a row more is a row here. The match once more is the second decoder's (again.rt says why).
-pub(crate) fn selected(f7: u32) -> Selection
+// What funct7 selects of them: the rows of the report's table, beside their enum. A row more is a row here.
+pub(crate) fn selected<const KEPT: bool>(f7: u32) -> Option<Combination>
     ensures { Selected f7 result }
 {
     match f7 {
-        0x08 => return Selection::Is(Combination::SetBounds),
-        0x09 => return Selection::Is(Combination::SetBoundsExact),
-        0x0b => return Selection::Is(Combination::Seal),
-        0x0c => return Selection::Is(Combination::Unseal),
-        0x0d => return Selection::Is(Combination::AndPerm),
-        0x10 => return Selection::Is(Combination::SetAddr),
-        0x11 => return Selection::Is(Combination::IncAddr),
-        0x14 => return Selection::Is(Combination::SubAddr),
-        0x16 => return Selection::Is(Combination::SetHigh),
-        0x20 => return Selection::Is(Combination::TestSubset),
-        0x21 => return Selection::Is(Combination::SetEqualExact),
-        _ => return Selection::Nothing,
-    }
-}
-
-pub(crate) fn selected_again(f7: u32) -> Selection
-    ensures { Selected f7 result }
-{
-    match f7 {
-        0x08 => return Selection::Is(Combination::SetBounds),
-        0x09 => return Selection::Is(Combination::SetBoundsExact),
-        0x0b => return Selection::Is(Combination::Seal),
-        0x0c => return Selection::Is(Combination::Unseal),
-        0x0d => return Selection::Is(Combination::AndPerm),
-        0x10 => return Selection::Is(Combination::SetAddr),
-        0x11 => return Selection::Is(Combination::IncAddr),
-        0x14 => return Selection::Is(Combination::SubAddr),
-        0x16 => return Selection::Is(Combination::SetHigh),
-        0x20 => return Selection::Is(Combination::TestSubset),
-        0x21 => return Selection::Is(Combination::SetEqualExact),
-        _ => return Selection::Nothing,
+        0x08 => return Some(Combination::SetBounds),
+        0x09 => return Some(Combination::SetBoundsExact),
+        0x0b => return Some(Combination::Seal),
+        0x0c => return Some(Combination::Unseal),
+        0x0d => return Some(Combination::AndPerm),
+        0x10 => return Some(Combination::SetAddr),
+        0x11 => return Some(Combination::IncAddr),
+        0x14 => return Some(Combination::SubAddr),
+        0x16 => return Some(Combination::SetHigh),
+        0x20 => return Some(Combination::TestSubset),
+        0x21 => return Some(Combination::SetEqualExact),
+        _ => return None,
     }
 }
 
@@ -343,7 +315,17 @@ pub enum Instruction {
 }
 
 // The instruction that a word is.
+#[tactic(auto, using(words::proofs::Tests::tests), unfolding(crate::specs::Decode::decode_of))]
 pub fn decode(word: u32) -> Instruction
+    ensures { result ≡ decode_of word }
+{
+    decode_for::<false>(word)
+}
+
+// The same, compiled once for each engine: the quick one KEPT what it decodes. A step of the plain machine has its decoder compiled in only while that has one
+// caller, and called by the second engine too it costs the plain one tens of the host's instructions a step.
+#[tactic(auto, using(words::proofs::Tests::tests), unfolding(crate::specs::Decode::decode_of))]
+pub fn decode_for<const KEPT: bool>(word: u32) -> Instruction
     ensures { result ≡ decode_of word }
 {
     let rd = word / POW_7 % POW_5;
@@ -360,11 +342,13 @@ pub fn decode(word: u32) -> Instruction
         opcodes::STORE => return decode_store(f3, rs1, rs2, imm_s(word)),
         opcodes::OP => return decode_op(f3, f7, rd, rs1, rs2),
         opcodes::LUI => return decode_lui(rd, imm_u(word)),
-        opcodes::CAPABILITY => return decode_capability(f3, f7, rd, rs1, rs2, imm_i(word), upper),
+        opcodes::CAPABILITY => {
+            return decode_capability::<KEPT>(f3, f7, rd, rs1, rs2, imm_i(word), upper);
+        }
         opcodes::BRANCH => return decode_branch(f3, rs1, rs2, imm_b(word)),
         opcodes::JALR => return decode_jalr(f3, rd, rs1, imm_i(word)),
         opcodes::JAL => return decode_jal(rd, imm_j(word)),
-        opcodes::SYSTEM => return decode_system(word, f3, upper, rd, rs1),
+        opcodes::SYSTEM => return decode_system::<KEPT>(word, f3, upper, rd, rs1),
         opcodes::AUICGP => return decode_auicgp(rd, aui_offset(word)),
         _ => return Instruction::Illegal,
     }

@@ -25,47 +25,43 @@ pub const MSHWM: u32 = 0xBC1;
 pub const MSHWMB: u32 = 0xBC2;
 
 // MISC-MEM: FENCE, whatever its other fields.
+#[tactic(auto, using(words::proofs::Tests::tests), unfolding(crate::specs::Decode::fence_of))]
 pub(crate) fn decode_fence(f3: u32) -> Instruction
     ensures { result ≡ fence_of f3 }
 {
-    match f3 {
-        0 => return Instruction::System(SystemInstruction::Fence),
-        _ => return Instruction::Illegal,
+    if f3 != 0 {
+        return Instruction::Illegal;
     }
+    Instruction::System(SystemInstruction::Fence)
 }
 
 // A CSR and a register, or five bits in its place.
+#[tactic(auto, using(words::proofs::Tests::tests), unfolding(crate::specs::Decode::csr_register_of))]
 fn csr_register(kind: CsrKind, csr: Csr, rd: u32, rs1: u32) -> Instruction
     ensures { result ≡ csr_register_of kind csr rd rs1 }
 {
-    match rd {
-        0..=LAST_REGISTER => match rs1 {
-            0..=LAST_REGISTER => return Instruction::System(SystemInstruction::CsrRegister {
-                kind,
-                csr,
-                rd,
-                rs1,
-            }),
-            _ => return Instruction::Illegal,
-        },
-        _ => return Instruction::Illegal,
+    if rd > LAST_REGISTER || rs1 > LAST_REGISTER {
+        return Instruction::Illegal;
     }
+    Instruction::System(SystemInstruction::CsrRegister { kind, csr, rd, rs1 })
 }
 
+#[tactic(auto, using(words::proofs::Tests::tests), unfolding(crate::specs::Decode::csr_immediate_of))]
 fn csr_immediate(kind: CsrKind, csr: Csr, rd: u32, value: u32) -> Instruction
     ensures { result ≡ csr_immediate_of kind csr rd value }
 {
-    match rd {
-        0..=LAST_REGISTER => return Instruction::System(SystemInstruction::CsrImmediate {
-            kind,
-            csr,
-            rd,
-            value,
-        }),
-        _ => return Instruction::Illegal,
+    if rd > LAST_REGISTER {
+        return Instruction::Illegal;
     }
+    Instruction::System(SystemInstruction::CsrImmediate {
+        kind,
+        csr,
+        rd,
+        value,
+    })
 }
 
+#[tactic(auto, using(words::proofs::Tests::tests), unfolding(crate::specs::Decode::csr_of))]
 pub(crate) fn decode_csr(f3: u32, csr: Csr, rd: u32, rs1: u32) -> Instruction
     ensures { result ≡ csr_of f3 csr rd rs1 }
 {
@@ -80,6 +76,7 @@ pub(crate) fn decode_csr(f3: u32, csr: Csr, rd: u32, rs1: u32) -> Instruction
     }
 }
 
+#[tactic(auto, using(words::proofs::Tests::tests), unfolding(crate::specs::Decode::whole_of))]
 pub(crate) fn decode_whole(w: u32) -> Instruction
     ensures { result ≡ whole_of w }
 {
@@ -93,7 +90,14 @@ pub(crate) fn decode_whole(w: u32) -> Instruction
 }
 
 // SYSTEM: whole words under funct3 0, CSR instructions under the others.
-pub(crate) fn decode_system(w: u32, f3: u32, number: u32, rd: u32, rs1: u32) -> Instruction
+#[tactic(auto, using(words::proofs::Tests::tests), unfolding(crate::specs::Decode::system_of))]
+pub(crate) fn decode_system<const KEPT: bool>(
+    w: u32,
+    f3: u32,
+    number: u32,
+    rd: u32,
+    rs1: u32,
+) -> Instruction
     ensures { result ≡ system_of w f3 number rd rs1 }
 {
     match f3 {

@@ -1,6 +1,7 @@
 -- Where an authority reaches the bytes of an aligned access, no check fails and the place is in memory: the effect is the plain one of its instruction, and
 -- the turn leaves what it leaves. Where a turn leaves all as it is, a load stores nothing, and a store at its own place or nowhere. Assumes nothing.
 use Rattle.std.proofs.Common.{◌≡◌, ℕ, ◌+◌, ◌-◌, ◌*◌, ◌/◌, ◌%◌, ◌^◌, ◌<◌, ◌≤◌, Bool, true, false, cond, not, ◌&&◌, eqb, leb, List, length, get_or, sym, refl}
+use Rattle.std.proofs.Common.{Option, Some, None, Ok, Err, ap}
 use Rattle.std.proofs.Common.{ap, ◌∙◌, arith, eq-eqb, ne_eqb, le-leb, leb-false, leb-true}
 use lib.Pow.{split}
 use Rattle.words.specs.Words.{wrap, set_bytes, put_bit, bit_at, with_bit}
@@ -32,8 +33,9 @@ use Rattle.memory_instructions.proofs.Laws.{untagged_unrevoked}
 use Rattle.commit.specs.Commit.{stored, stored_capability, retagged, retires}
 use Rattle.quick.specs.Rows.{Reached}
 use Rattle.quick.specs.Turns.{went_on, written_at, MayStore}
-use Rattle.quick.specs.Memory.{took, Aligned, MayHold, Loads, Stores, LoadsCapability, StoresCapability}
-use Rattle.quick.specs.declared.Took.{Took}
+use Rattle.quick.specs.Memory.{Aligned, MayHold, Loads, Stores, LoadsCapability, StoresCapability}
+use Rattle.quick.specs.Turns.{Took, store}
+use Rattle.quick.specs.declared.Store as says
 use Rattle.quick.proofs.Onward.{set_same, took_write, took_store, took_store_capability}
 
 -- ---- a bit that is not set
@@ -143,36 +145,36 @@ place_may P f start size address w m o a = go (eqb (address % w) 0) (leb start a
 place_is : (at start address : ℕ) → at < 2 ^ 32 → address < 2 ^ 32 → (at + start) % 2 ^ 32 ≡ address → start ≤ address → at ≡ address - start
 place_is at start address p q e l = omega arith
 
-load_may : (kind : LoadKind) (rd rs1 address start at width : ℕ) (c : Capability) (mem : List ℕ)
-    → MayStore (stored_by (load_effect kind rd rs1 address c start mem)) at width
+load_may : (kind : LoadKind) (rd rs1 address start : ℕ) (o : Option says.Store) (c : Capability) (mem : List ℕ)
+    → MayStore (stored_by (load_effect kind rd rs1 address c start mem)) o
 unfolding load_effect load_at
-load_may kind rd rs1 address start at width c mem =
-    checked_holds (λ (e : Effect). MayStore (stored_by e) at width) rs1 _ _ (λ n v. tt)
-    (placed (λ (e : Effect). MayStore (stored_by e) at width) (λ (p : Place). load_at p kind rd address mem) tt tt (λ i. tt)
+load_may kind rd rs1 address start o c mem =
+    checked_holds (λ (e : Effect). MayStore (stored_by e) o) rs1 _ _ (λ n v. tt)
+    (placed (λ (e : Effect). MayStore (stored_by e) o) (λ (p : Place). load_at p kind rd address mem) tt tt (λ i. tt)
     (place_of start (length mem) address (load_width kind)))
 
-load_capability_may : (rd rs1 address at width : ℕ) (c : Capability) (l : Lent) → MayStore (stored_by (load_capability_effect rd rs1 address c l)) at width
+load_capability_may : (rd rs1 address : ℕ) (o : Option says.Store) (c : Capability) (l : Lent) → MayStore (stored_by (load_capability_effect rd rs1 address c l)) o
 unfolding load_capability_effect load_capability_at
-load_capability_may rd rs1 address at width c l =
-    checked_holds (λ (e : Effect). MayStore (stored_by e) at width) rs1 _ _ (λ n v. tt)
-    (placed (λ (e : Effect). MayStore (stored_by e) at width) (λ (p : Place). load_capability_at p rd address c l) tt tt (λ i. tt)
+load_capability_may rd rs1 address o c l =
+    checked_holds (λ (e : Effect). MayStore (stored_by e) o) rs1 _ _ (λ n v. tt)
+    (placed (λ (e : Effect). MayStore (stored_by e) o) (λ (p : Place). load_capability_at p rd address c l) tt tt (λ i. tt)
     (place_of l.board.start (length l.mem) address granule_bytes))
 
 store_may : (kind : StoreKind) (rs1 address value start size at : ℕ) (c : Capability) → (start ≤ address → at ≡ address - start)
-    → MayStore (stored_by (store_effect kind rs1 address value c start size)) at (store_width kind)
+    → MayStore (stored_by (store_effect kind rs1 address value c start size)) (Some (store at (store_width kind)))
 unfolding store_effect store_at
 store_may kind rs1 address value start size at c h =
-    checked_holds (λ (e : Effect). MayStore (stored_by e) at (store_width kind)) rs1 _ _ (λ n v. tt)
-    (place_may (λ (e : Effect). MayStore (stored_by e) at (store_width kind)) (λ (p : Place). store_at p kind address value) start size address _ tt tt
-    (λ l. (h l, refl)))
+    checked_holds (λ (e : Effect). MayStore (stored_by e) (Some (store at (store_width kind)))) rs1 _ _ (λ n v. tt)
+    (place_may (λ (e : Effect). MayStore (stored_by e) (Some (store at (store_width kind)))) (λ (p : Place). store_at p kind address value) start size address _ tt tt
+    (λ l. ap (λ (x : ℕ). Some (store x (store_width kind))) (h l)))
 
 store_capability_may : (rs1 address start size at : ℕ) (c v : Capability) → (start ≤ address → at ≡ address - start)
-    → MayStore (stored_by (store_capability_effect rs1 address v c start size)) at granule_bytes
+    → MayStore (stored_by (store_capability_effect rs1 address v c start size)) (Some (store at granule_bytes))
 unfolding store_capability_effect store_capability_at
 store_capability_may rs1 address start size at c v h =
-    checked_holds (λ (e : Effect). MayStore (stored_by e) at granule_bytes) rs1 _ _ (λ n x. tt)
-    (place_may (λ (e : Effect). MayStore (stored_by e) at granule_bytes) (λ (p : Place). store_capability_at p address v) start size address _ tt tt
-    (λ l. (h l, refl)))
+    checked_holds (λ (e : Effect). MayStore (stored_by e) (Some (store at granule_bytes))) rs1 _ _ (λ n x. tt)
+    (place_may (λ (e : Effect). MayStore (stored_by e) (Some (store at granule_bytes))) (λ (p : Place). store_capability_at p address v) start size address _ tt tt
+    (λ l. ap (λ (x : ℕ). Some (store x granule_bytes)) (h l)))
 
 -- ---- registers by their places
 
@@ -207,19 +209,19 @@ byte_aligned kind address h = rw (byte_width kind h) (omega arith)
 
 -- ---- turns
 
-pub load_stays : (kind : LoadKind) (at from offset to start : ℕ) (mem regs : List ℕ) (t : Took) → t ≡ took false 0 0
+pub load_stays : (kind : LoadKind) (at from offset to start : ℕ) (mem regs : List ℕ) (t : Took) → t ≡ Err None
     → Loads kind at from offset to start mem regs regs t
 load_stays kind at from offset to start mem regs t e =
-    record { turned = λ rd rs1 m a n s q p r tags. rw e (refl, load_may kind rd rs1 (address_of regs rs1 offset) start 0 0 (register_at regs rs1) mem) }
+    record { turned = λ rd rs1 m a n s q p r tags. rw e (refl, load_may kind rd rs1 (address_of regs rs1 offset) start None (register_at regs rs1) mem) }
 
-pub load_capability_stays : (at from offset to : ℕ) (l : Lent) (regs : List ℕ) (t : Took) → t ≡ took false 0 0
+pub load_capability_stays : (at from offset to : ℕ) (l : Lent) (regs : List ℕ) (t : Took) → t ≡ Err None
     → LoadsCapability at from offset to l regs regs t
 load_capability_stays at from offset to l regs t e =
-    record { turned = λ rd rs1 m a n s q p r. rw e (refl, load_capability_may rd rs1 (address_of regs rs1 offset) 0 0 (register_at regs rs1) l) }
+    record { turned = λ rd rs1 m a n s q p r. rw e (refl, load_capability_may rd rs1 (address_of regs rs1 offset) None (register_at regs rs1) l) }
 
 pub load_done : (kind : LoadKind) (at from offset to start address width v : ℕ) (mem regs after : List ℕ) (c x : Capability) (t : Took) → c ≡ held regs from
     → address ≡ wrap (c.address + offset) → width ≡ load_width kind → Aligned address (load_width kind) → Reached LD start (length mem) c address width
-    → v ≡ loaded_value kind mem (address - start) → x ≡ integer v → after ≡ went_on to (written_at at x regs) → t ≡ took true 0 0
+    → v ≡ loaded_value kind mem (address - start) → x ≡ integer v → after ≡ went_on to (written_at at x regs) → t ≡ Ok None
     → Loads kind at from offset to start mem regs after t
 unfolding retires
 load_done kind at from offset to start address width v mem regs after c x t ec ea ew al re ev ex eo et =
@@ -235,7 +237,7 @@ load_done kind at from offset to start address width v mem regs after c x t ec e
 pub load_capability_done : (at from offset to address : ℕ) (board : Board) (mem tags revoked regs after : List ℕ) (c k v x : Capability) (t : Took)
     → c ≡ held regs from → address ≡ wrap (c.address + offset) → Aligned address granule_bytes
     → Reached LD board.start (length mem) c address granule_bytes → k ≡ capability_in mem tags (address - board.start) → v ≡ loaded_of c k
-    → x ≡ keep_tag_if (not (revoked_value board revoked v)) v → after ≡ went_on to (written_at at x regs) → t ≡ took true 0 0
+    → x ≡ keep_tag_if (not (revoked_value board revoked v)) v → after ≡ went_on to (written_at at x regs) → t ≡ Ok None
     → LoadsCapability at from offset to (lent board mem tags revoked) regs after t
 unfolding retires filtered
 load_capability_done at from offset to address board mem tags revoked regs after c k v x t ec ea al re ek ev ex eo et =
@@ -262,7 +264,7 @@ module _ (from offset start at address : ℕ) (regs : List ℕ) (c : Capability)
   back : start ≤ address → address ≡ (start + at) % 2 ^ 32
   back l = omega (arith, here)
 
-  pub store_stays : (kind : StoreKind) (other to width : ℕ) (mem tags : List ℕ) (t : Took) → width ≡ store_width kind → t ≡ took false at width
+  pub store_stays : (kind : StoreKind) (other to width : ℕ) (mem tags : List ℕ) (t : Took) → width ≡ store_width kind → t ≡ Err (Some (store at width))
       → Stores kind from other offset to start (state regs mem tags) (state regs mem tags) t
   store_stays kind other to width mem tags t ew e =
       record {
@@ -271,7 +273,7 @@ module _ (from offset start at address : ℕ) (regs : List ℕ) (c : Capability)
             (refl, store_may kind rs1 address (integer_at regs rs2) start (length mem) at (register_at regs rs1) same_place);
       }
 
-  pub store_capability_stays : (other to : ℕ) (mem tags : List ℕ) (t : Took) → t ≡ took false at granule_bytes
+  pub store_capability_stays : (other to : ℕ) (mem tags : List ℕ) (t : Took) → t ≡ Err (Some (store at granule_bytes))
       → StoresCapability from other offset to start (state regs mem tags) (state regs mem tags) t
   store_capability_stays other to mem tags t e =
       record {
@@ -288,7 +290,7 @@ module _ (from offset start at address : ℕ) (regs : List ℕ) (c : Capability)
   pub store_done : (kind : StoreKind) (other to width v : ℕ) (mem tags mid after-regs after-mem after-tags : List ℕ) (t : Took) → width ≡ store_width kind
       → v ≡ get_or regs other 0 → Aligned address (store_width kind) → Reached SD start (length mem) c address width
       → after-mem ≡ set_bytes (store_width kind) mem at v → after-tags ≡ put_bit tags (at / 8) 0 → mid ≡ marked address regs → after-regs ≡ went_on to mid
-      → t ≡ took true at width → Stores kind from other offset to start (state regs mem tags) (state after-regs after-mem after-tags) t
+      → t ≡ Ok (Some (store at width)) → Stores kind from other offset to start (state regs mem tags) (state after-regs after-mem after-tags) t
   unfolding retires
   store_done kind other to width v mem tags mid after-regs after-mem after-tags t ew ev al re em eg ek er et =
       let reach : Reached SD start (length mem) c address (store_width kind) = rw ew at re in
@@ -302,13 +304,13 @@ module _ (from offset start at address : ℕ) (regs : List ℕ) (c : Capability)
             let e : store_effect kind rs1 (address_of regs rs1 offset) (integer_at regs rs2) (register_at regs rs1) start (length mem) ≡ Store kind at v =
             rw (address_is regs from rs1 offset address c ec ea p, register_is regs from rs1 c ec p, integer_held regs other rs2 v ev r)
             (store_is kind rs1 address v start (length mem) c al reach ∙ ap (λ (y : ℕ). Store kind y v) (sym i)) in
-            rw (et, ew, e) (x ∙ took_store regs mem tags start m a n to s q kind at v, refl, (refl, refl));
+            rw (et, ew, e) (x ∙ took_store regs mem tags start m a n to s q kind at v, refl, refl);
       }
 
   pub store_capability_done : (other to : ℕ) (mem tags mid after-regs after-mem after-tags : List ℕ) (v : Capability) (t : Took) → v ≡ held regs other
       → Aligned address granule_bytes → MayHold c v → Reached SD start (length mem) c address granule_bytes
       → after-mem ≡ stored_capability mem at v → after-tags ≡ retagged mem tags granule_bytes at v.tag → mid ≡ marked address regs
-      → after-regs ≡ went_on to mid → t ≡ took true at granule_bytes
+      → after-regs ≡ went_on to mid → t ≡ Ok (Some (store at granule_bytes))
       → StoresCapability from other offset to start (state regs mem tags) (state after-regs after-mem after-tags) t
   unfolding retires
   store_capability_done other to mem tags mid after-regs after-mem after-tags v t ev al mh re em eg ek er et =
@@ -322,5 +324,5 @@ module _ (from offset start at address : ℕ) (regs : List ℕ) (c : Capability)
             ≡ StoreCapability at v =
             rw (address_is regs from rs1 offset address c ec ea p, register_is regs from rs1 c ec p, register_is regs other rs2 v ev r)
             (store_capability_is rs1 address start (length mem) c v al mh re ∙ ap (λ (y : ℕ). StoreCapability y v) (sym i)) in
-            rw (et, e) (x ∙ took_store_capability regs mem tags start m a n to s q at v, refl, (refl, refl));
+            rw (et, e) (x ∙ took_store_capability regs mem tags start m a n to s q at v, refl, refl);
       }

@@ -26,18 +26,14 @@ use Rattle.quick.specs.Turns.{went_on, written_at, held_at, Stands, Turned, done
 use Rattle.quick.specs.Jumps.{GoTurns, BranchTurns, LinkTurns, RegisterTurns}
 use Rattle.quick.specs.Memory.{Loads, Stores, LoadsCapability, StoresCapability}
 use Rattle.quick.specs.Steady.{SteadyIf, TurnedBy}
-use Rattle.quick.specs.declared.Took.{Took}
+use Rattle.quick.specs.Turns.{Took, is_done}
 use Rattle.quick.proofs.Onward.{pcc_words}
 use Rattle.quick.proofs.Families.{turned_put, turned_immediate, turned_two, turned_multiply, turned_divide}
 use Rattle.quick.proofs.Families.{turned_increment, turned_cut, turned_copy, turned_set_address, turned_increment_by, turned_address}
 use Rattle.quick.proofs.Quiet.{turned_quiet}
 use Rattle.quick.proofs.Steady.{steady_written, memory_leaves, done_steady}
 
--- the operation that an arm was told, and the answer that it makes
-pub told : (board : Board) (revoked : List ℕ) (op o : Operation) (n : ℕ) (before after : State) (t u : Took) → op ≡ o → t ≡ u
-    → TurnedBy board revoked o n before after u → TurnedBy board revoked op n before after t
-told board revoked op o n before after t u p q h = rw (p, q) h
-
+-- the operation that an arm was told
 pub told_op : (board : Board) (revoked : List ℕ) (op o : Operation) (n : ℕ) (before after : State) (t : Took) → op ≡ o
     → TurnedBy board revoked o n before after t → TurnedBy board revoked op n before after t
 told_op board revoked op o n before after t p h = rw p h
@@ -143,25 +139,25 @@ module _ (board : Board) (revoked regs mem tags : List ℕ) (n to : ℕ) (e : to
   zero_place : (rd : ℕ) → rd % 16 * 3 ≡ 0 → rd % 16 ≡ 0
   zero_place rd p = omega arith
 
-  pub by_go : (after : List ℕ) (offset : ℕ) (t : Took) → GoTurns board.start offset regs after t → SteadyIf t.done regs after
+  pub by_go : (after : List ℕ) (offset : ℕ) (t : Took) → GoTurns board.start offset regs after t → SteadyIf (is_done t) regs after
       → TurnedBy board revoked (Operation.Go offset) n (state regs mem tags) (state after mem tags) t
   unfolding effect_of
   by_go after offset t g st x word m a (rd, i, p) s = (rw i (g rd m a n board.edition mem tags s (zero_place rd p)), st)
 
   pub by_branch : (after : List ℕ) (kind : BranchKind) (from other offset : ℕ) (t : Took) → BranchTurns board.start kind from other offset to regs after t
-      → SteadyIf t.done regs after
+      → SteadyIf (is_done t) regs after
       → TurnedBy board revoked (Operation.Branch kind from other offset) n (state regs mem tags) (state after mem tags) t
   unfolding effect_of
   by_branch after kind from other offset t g st x word m a (rs1, rs2, i, f, o) s =
       (rw i (g rs1 rs2 m a n board.edition mem tags s (next m a s) f o), st)
 
   pub by_jump_link : (after : List ℕ) (rd offset : ℕ) (t : Took) → LinkTurns board.start board.edition rd offset to regs after t
-      → SteadyIf t.done regs after → TurnedBy board revoked (Operation.JumpLink rd offset) n (state regs mem tags) (state after mem tags) t
+      → SteadyIf (is_done t) regs after → TurnedBy board revoked (Operation.JumpLink rd offset) n (state regs mem tags) (state after mem tags) t
   unfolding effect_of
   by_jump_link after rd offset t g st x word m a i s = (rw i (g m a n mem tags s (next m a s)), st)
 
   pub by_jump_register : (after : List ℕ) (rd rs1 offset : ℕ) (t : Took) → RegisterTurns board.start board.edition rd rs1 offset to regs after t
-      → SteadyIf t.done regs after → TurnedBy board revoked (Operation.JumpRegister rd rs1 offset) n (state regs mem tags) (state after mem tags) t
+      → SteadyIf (is_done t) regs after → TurnedBy board revoked (Operation.JumpRegister rd rs1 offset) n (state regs mem tags) (state after mem tags) t
   unfolding effect_of
   by_jump_register after rd rs1 offset t g st x word m a i s = (rw i (g m a n mem tags s (next m a s)), st)
 
@@ -169,7 +165,7 @@ module _ (board : Board) (revoked regs mem tags : List ℕ) (n to : ℕ) (e : to
 
   by_memory : (x : Instruction) (word m a : ℕ) (i : MemoryInstruction) → x ≡ Instruction.Memory i → Stands regs m a n → (after : State) (t : Took)
       → Turned board.start n (memory_effect i regs (lent board mem tags revoked)) (state regs mem tags) after t
-      → Turned board.start n (effect_of n x word regs (lent board mem tags revoked)) (state regs mem tags) after t × SteadyIf t.done regs after.regs
+      → Turned board.start n (effect_of n x word regs (lent board mem tags revoked)) (state regs mem tags) after t × SteadyIf (is_done t) regs after.regs
   unfolding effect_of
   by_memory x word m a i p s after t w = (
     rw p w,

@@ -1,6 +1,7 @@
 -- What is kept of the entries: after a store and what it clears each entry that is left is one of the memory after it. The five slots that are cleared are
 -- those of every four bytes at an even address that a store in one granule can touch. Assumes nothing.
 use Rattle.std.proofs.Common.{◌≡◌, ℕ, zero, suc, ◌+◌, ◌-◌, ◌/◌, ◌%◌, ◌<◌, ◌≤◌, Bool, true, false, cond, ◌&&◌, eqb, ltb, ◌⊎◌, List, [], ◌∷◌, length, get_or}
+use Rattle.std.proofs.Common.{Option, Some, None, ap}
 use Rattle.std.proofs.Common.{set, refl, ◌∙◌, inl, inr, arith, get_or-set_other, get_or-set_same, ltb-false, ltb-true, eqb-true, le-leb}
 use borrow.Author.Tests.{eqb-false}
 use Rattle.words.specs.Words.{set_bytes}
@@ -10,12 +11,13 @@ use Rattle.capability.specs.declared.Capability.{Capability}
 use Rattle.short_forms.specs.Standing.{half_bytes, long_bytes}
 use Rattle.instructions.specs.declared.Instruction.{Instruction}
 use Rattle.operations.specs.declared.Operation.{Operation}
-use Rattle.operations.specs.declared.Operation.TheVariants.{Plain}
+use Rattle.quick.specs.declared.Found.{Found}
 use Rattle.state.specs.Memory.{granule_bytes}
 use Rattle.state.specs.Effects.{Stored, nothing, bytes, whole, Within}
 use Rattle.commit.specs.Commit.{stored, stored_capability, memory_after}
-use Rattle.quick.specs.Turns.{MayStore}
-use Rattle.quick.specs.Entries.{slots, entries, slot_of, slot_at, there_of, Decoded, Entry, Entries}
+use Rattle.quick.specs.Turns.{MayStore, store}
+use Rattle.quick.specs.declared.Store.{Store}
+use Rattle.quick.specs.Entries.{slots, entries, absent, slot_of, slot_at, there_of, Decoded, Entry, Entries}
 use Rattle.quick.specs.Entries.{cleared_slot, cleared_near, touches_hull, forgotten, ClearedUnless}
 
 -- ---- memory after a store
@@ -123,22 +125,20 @@ left_near address keys j l h =
     let a = left_slot first keys j l (λ z. h (e.0 ∙ d.0 ∙ c.0 ∙ b.0 ∙ z)) in
     (e.0 ∙ d.0 ∙ c.0 ∙ b.0 ∙ a.0, (a.1, b.1, c.1, d.1, e.1))
 
--- a slot that is left: no byte is stored, or the hull is not touched, or it is none of the five
-left_if : (w t : Bool) (keys near : List ℕ) (j : ℕ) (F : Type 0) → ((get_or near j 0 ≡ 0 → ⊥) → (get_or near j 0 ≡ get_or keys j 0) × F)
-    → (get_or (cond w keys (cond t near keys)) j 0 ≡ 0 → ⊥)
-    → (get_or (cond w keys (cond t near keys)) j 0 ≡ get_or keys j 0) × ((w ≡ true) ⊎ ((t ≡ false) ⊎ F))
-left_if true t keys near j F f h = (refl, inl refl)
-left_if false true keys near j F f h = ((f h).0, inr (inr (f h).1))
-left_if false false keys near j F f h = (refl, inr (inl refl))
+-- a slot that is left: the hull is not touched, or it is none of the five
+left_if : (t : Bool) (keys near : List ℕ) (j : ℕ) (F : Type 0) → ((get_or near j 0 ≡ 0 → ⊥) → (get_or near j 0 ≡ get_or keys j 0) × F)
+    → (get_or (cond t near keys) j 0 ≡ 0 → ⊥) → (get_or (cond t near keys) j 0 ≡ get_or keys j 0) × ((t ≡ false) ⊎ F)
+left_if true keys near j F f h = ((f h).0, inr (f h).1)
+left_if false keys near j F f h = (refl, inl refl)
 
 abbrev Spared : (low high start at width j : ℕ) → Type 0
-Spared low high start at width j = (eqb width 0 ≡ true) ⊎ ((touches_hull low high at width ≡ false) ⊎ Far ((start + at) / 2 + slots - 1) j)
+Spared low high start at width j = (touches_hull low high at width ≡ false) ⊎ Far ((start + at) / 2 + slots - 1) j
 
-left_of : (low high start at width : ℕ) (keys : List ℕ) (j : ℕ) → j < entries → (get_or (forgotten low high start at width keys) j 0 ≡ 0 → ⊥)
-    → (get_or (forgotten low high start at width keys) j 0 ≡ get_or keys j 0) × Spared low high start at width (slot_at j)
-left_of low high start at width keys j l h =
-    left_if (eqb width 0) (touches_hull low high at width) keys (cleared_near (start + at) keys) j (Far ((start + at) / 2 + slots - 1) (slot_at j))
-    (left_near (start + at) keys j l) h
+left_of : (low high start : ℕ) (s : Store) (keys : List ℕ) (j : ℕ) → j < entries → (get_or (forgotten low high start (Some s) keys) j 0 ≡ 0 → ⊥)
+    → (get_or (forgotten low high start (Some s) keys) j 0 ≡ get_or keys j 0) × Spared low high start s.at s.width (slot_at j)
+left_of low high start s keys j l h =
+    left_if (touches_hull low high s.at s.width) keys (cleared_near (start + s.at) keys) j (Far ((start + s.at) / 2 + slots - 1) (slot_at j))
+    (left_near (start + s.at) keys j l) h
 
 -- ---- four bytes whose slot is left are apart from what is stored
 
@@ -173,11 +173,20 @@ module _ (low high start at width a : ℕ) (aligned : start % granule_bytes ≡ 
   untouched_apart (inr t) k l g = let h = ltb-false at high t in absurd (omega (arith, h, to, g, l))
 
   spared_apart : Spared low high start at width (slot_of a) → Apart
-  spared_apart (inl t) = let z : width ≡ 0 = eqb-true width 0 t in absurd (omega (arith, z, some))
-  spared_apart (inr (inl t)) = untouched_apart (one_fails (ltb low (at + width)) (ltb at high) t)
-  spared_apart (inr (inr far)) = far_apart far
+  spared_apart (inl t) = untouched_apart (one_fails (ltb low (at + width)) (ltb at high) t)
+  spared_apart (inr far) = far_apart far
 
 -- ---- the entries after a store
+
+same_store : {at width i n : ℕ} → ◌≡◌ {A = Option Store} (Some (store at width)) (Some (store i n)) → (at ≡ i) × (width ≡ n)
+same_store {at} {width} {i} {n} h =
+    let e : store at width ≡ store i n = cc in
+    (ap (λ (s : Store). s.at) e, ap (λ (s : Store). s.width) e)
+
+unstored : (mem : List ℕ) (x : Stored) → MayStore x None → memory_after x mem ≡ mem
+unstored mem nothing m = refl
+unstored mem (bytes n i value) m = cc
+unstored mem (whole i value) m = cc
 
 module _ (start : ℕ) (mem : List ℕ) (low high j key n : ℕ) (op : Operation) (at width : ℕ) (aligned : start % granule_bytes ≡ 0)
     (e : Entry start mem low high j key n op) (spared : Spared low high start at width (slot_at j)) where
@@ -199,31 +208,36 @@ module _ (start : ℕ) (mem : List ℕ) (low high j key n : ℕ) (op : Operation
         placed = e.placed;
       }
 
-  entry_after : (x : Stored) → Within (length mem) x → MayStore x at width → Entry start (memory_after x mem) low high j key n op
+  entry_after : (x : Stored) → Within (length mem) x → MayStore x (Some (store at width)) → Entry start (memory_after x mem) low high j key n op
   entry_after nothing w m = e
   entry_after (bytes k i value) w m =
-      entry_outside (stored mem k i value) (rw (m.0, m.1) (stored_outside mem k i value w.inside)) (rw m.1 w.some) (rw (m.0, m.1) w.together)
+      let p = same_store m in
+      entry_outside (stored mem k i value) (rw (p.0, p.1) (stored_outside mem k i value w.inside)) (rw p.1 w.some) (rw (p.0, p.1) w.together)
   entry_after (whole i value) w m =
-      entry_outside (stored_capability mem i value) (rw (m.0, m.1) (capability_outside mem i value w.inside)) (rw m.1 w.some)
-      (rw (m.0, m.1) w.together)
+      let p = same_store m in
+      entry_outside (stored_capability mem i value) (rw (p.0, p.1) (capability_outside mem i value w.inside)) (rw p.1 w.some)
+      (rw (p.0, p.1) w.together)
 
-module _ (start : ℕ) (mem : List ℕ) (low high : ℕ) (lens keys : List ℕ) (code : List Operation) where
+module _ (start : ℕ) (mem : List ℕ) (low high : ℕ) (keys : List ℕ) (code : List Found) where
   -- each entry that a store leaves is one of memory after it
-  pub entries_after : (x : Stored) (at width : ℕ) → start % granule_bytes ≡ 0 → Within (length mem) x → MayStore x at width
-      → Entries start mem low high lens keys code → Entries start (memory_after x mem) low high lens (forgotten low high start at width keys) code
-  entries_after x at width aligned w m es j l h =
-      let k = left_of low high start at width keys j l h in
+  pub entries_after : (x : Stored) (o : Option Store) → start % granule_bytes ≡ 0 → Within (length mem) x → MayStore x o
+      → Entries start mem low high keys code → Entries start (memory_after x mem) low high (forgotten low high start o keys) code
+  entries_after x None aligned w m es j l h =
+      let same : Entries start (memory_after x mem) low high keys code = rw (unstored mem x m) es in
+      same j l h
+  entries_after x (Some s) aligned w m es j l h =
+      let k = left_of low high start s keys j l h in
       rw k.0
-      (entry_after start mem low high j (get_or keys j 0) (get_or lens j 0) (get_or code j Plain) at width aligned (es j l (λ z. h (k.0 ∙ z))) k.1 x w m)
+      (entry_after start mem low high j (get_or keys j 0) (get_or code j absent).bytes (get_or code j absent).op s.at s.width aligned (es j l (λ z. h (k.0 ∙ z))) k.1 x w m)
 
   -- after a plain step none is left, unless it trapped: then memory is as it was
-  pub entries_cleared : (trapped : ℕ) (after keys' : List ℕ) → ClearedUnless trapped keys keys' → ((trapped ≡ 0 → ⊥) → after ≡ mem)
-      → Entries start mem low high lens keys code → Entries start after low high lens keys' code
-  entries_cleared trapped after keys' (inl c) same es = rw (c.1, same c.0) es
-  entries_cleared trapped after keys' (inr c) same es = λ j l h. absurd (h (c.1 j l))
+  pub entries_cleared : (alone : Bool) (after keys' : List ℕ) → ClearedUnless alone keys keys' → (alone ≡ true → after ≡ mem)
+      → Entries start mem low high keys code → Entries start after low high keys' code
+  entries_cleared true after keys' c same es = rw (c, same refl) es
+  entries_cleared false after keys' c same es = λ j l h. absurd (h (c j l))
 
   -- no keys, no entries
-  pub entries_none : ((j : ℕ) → j < entries → get_or keys j 0 ≡ 0) → Entries start mem low high lens keys code
+  pub entries_none : ((j : ℕ) → j < entries → get_or keys j 0 ≡ 0) → Entries start mem low high keys code
   entries_none none j l h = absurd (h (none j l))
 
 -- ---- a new entry
@@ -234,27 +248,27 @@ put_same [] i v h = absurd (h refl)
 put_same (x ∷ xs) zero v h = refl
 put_same (x ∷ xs) (suc i) v h = put_same xs i v h
 
-module _ (start : ℕ) (mem : List ℕ) (low high low' high' : ℕ) (lens keys : List ℕ) (code : List Operation) (i key n : ℕ) (op : Operation)
-    (inside : i < entries) (lens_long : length lens ≡ entries) (code_long : length code ≡ entries) (e : Entry start mem low' high' i key n op) where
+module _ (start : ℕ) (mem : List ℕ) (low high low' high' : ℕ) (keys : List ℕ) (code : List Found) (i key : ℕ) (f : Found)
+    (inside : i < entries) (code_long : length code ≡ entries) (e : Entry start mem low' high' i key f.bytes f.op) where
   abbrev Put : ℕ → Type 0
   Put j =
       (get_or (set keys i key) j 0 ≡ 0 → ⊥)
-      → Entry start mem low' high' j (get_or (set keys i key) j 0) (get_or (set lens i n) j 0) (get_or (set code i op) j Plain)
+      → Entry start mem low' high' j (get_or (set keys i key) j 0) (get_or (set code i f) j absent).bytes (get_or (set code i f) j absent).op
 
   put_there : Put i
   put_there h =
-      rw (put_same keys i key h, get_or-set_same lens i n 0 (rw lens_long inside), get_or-set_same code i op Plain (rw code_long inside)) e
+      rw (put_same keys i key h, get_or-set_same code i f absent (rw code_long inside)) e
 
-  put_other : (j : ℕ) → (j ≡ i → ⊥) → Entry start mem low' high' j (get_or keys j 0) (get_or lens j 0) (get_or code j Plain)
-      → Entry start mem low' high' j (get_or (set keys i key) j 0) (get_or (set lens i n) j 0) (get_or (set code i op) j Plain)
-  put_other j d o = rw (get_or-set_other keys i j key 0 d, get_or-set_other lens i j n 0 d, get_or-set_other code i j op Plain d) o
+  put_other : (j : ℕ) → (j ≡ i → ⊥) → Entry start mem low' high' j (get_or keys j 0) (get_or code j absent).bytes (get_or code j absent).op
+      → Entry start mem low' high' j (get_or (set keys i key) j 0) (get_or (set code i f) j absent).bytes (get_or (set code i f) j absent).op
+  put_other j d o = rw (get_or-set_other keys i j key 0 d, get_or-set_other code i j f absent d) o
 
   -- the hull only grows
-  pub entries_put : low' ≤ low → high ≤ high' → Entries start mem low high lens keys code
-      → Entries start mem low' high' (set lens i n) (set keys i key) (set code i op)
+  pub entries_put : low' ≤ low → high ≤ high' → Entries start mem low high keys code
+      → Entries start mem low' high' (set keys i key) (set code i f)
   entries_put l g es j s =
       by_test (eqb j i)
       (λ t. rw (eqb-true j i t) put_there)
       (λ t h. let d = eqb-false j i t in
-      put_other j d (wider start mem low high low' high' j (get_or keys j 0) (get_or lens j 0) (get_or code j Plain) l g
+      put_other j d (wider start mem low high low' high' j (get_or keys j 0) (get_or code j absent).bytes (get_or code j absent).op l g
       (es j s (λ z. h (get_or-set_other keys i j key 0 d ∙ z)))))

@@ -1,5 +1,6 @@
 -- What `look` finds: the four bytes at PCC's address, in memory and allowed, are a long word or start with a half, and PCC is itself after it. Assumes nothing.
 use Rattle.std.proofs.Common.{◌≡◌, ℕ, ◌+◌, ◌-◌, ◌%◌, ◌^◌, ◌<◌, true, false, List, length, sym, refl, ap, ◌∙◌, arith, eq-eqb, ne_eqb}
+use Rattle.std.proofs.Common.{Option, Some, None, Bool}
 use Rattle.words.specs.Words.{le_bytes, wrap, Bytes}
 use Rattle.capability.specs.Capability.{capability, move_of}
 use Rattle.capability.specs.declared.Capability.{Capability}
@@ -10,7 +11,7 @@ use Rattle.short_forms.specs.Standing.{is_long, half_bytes, long_bytes}
 use Rattle.short_forms.proofs.Standing.{low_half}
 use Rattle.execution.specs.Step.{instruction_in, length_in}
 use Rattle.quick.specs.Turns.{pcc_at}
-use Rattle.quick.specs.Entries.{Open, there_of, FoundOf, FoundAt}
+use Rattle.quick.specs.Entries.{Open, there_of, FoundOf, FoundAs, FoundAt, FoundIf, FirstLook}
 use Rattle.quick.specs.declared.Found.{Found}
 
 tagged_is : (c : Capability) → c.tag ≡ 1 → c ≡ pcc_at c.metadata c.address
@@ -62,3 +63,21 @@ module _ (start : ℕ) (mem : List ℕ) (pcc : Capability) (known : Bytes mem) (
   found_half h x d found =
       let t : is_long (le_bytes half_bytes mem (pcc.address - start)) ≡ false = rw half_is (ne_eqb (word % 2 ^ 16 % 4) 3 (λ q. h (omega (arith, q)))) in
       found_at half_bytes x found (rw t refl) (rw t (ap (λ (z : ℕ). decode_of (long_form z)) half_is ∙ sym d))
+
+-- ---- what is found, or nothing
+
+pub long_if : (start : ℕ) (mem : List ℕ) (pcc : Capability) → Bytes mem → Open start (length mem) pcc → (word : ℕ)
+    → word ≡ le_bytes long_bytes mem (pcc.address - start) → (o : Option Found) → word % 4 ≡ 3 → (x : Instruction) → x ≡ decode_of word
+    → FoundAs pcc long_bytes x o → FoundIf start mem pcc o
+long_if start mem pcc known there word is None h x d found = tt
+long_if start mem pcc known there word is (Some f) h x d found = λ m a. found_long start mem pcc known there word is f m a h x d found
+
+pub half_if : (start : ℕ) (mem : List ℕ) (pcc : Capability) → Bytes mem → Open start (length mem) pcc → (word : ℕ)
+    → word ≡ le_bytes long_bytes mem (pcc.address - start) → (o : Option Found) → (word % 4 ≡ 3 → ⊥) → (x : Instruction)
+    → x ≡ decode_of (long_form (word % 2 ^ 16)) → FoundAs pcc half_bytes x o → FoundIf start mem pcc o
+half_if start mem pcc known there word is None h x d found = tt
+half_if start mem pcc known there word is (Some f) h x d found = λ m a. found_half start mem pcc known there word is f m a h x d found
+
+pub first_look : (missed : Bool) (o : Option Found) → missed ≡ false → FirstLook missed o
+first_look missed None h = tt
+first_look missed (Some f) h = h

@@ -1,5 +1,6 @@
 -- An instruction that is no load or store stores nothing, so that a turn that leaves it to the plain step says of no store. Assumes nothing.
 use Rattle.std.proofs.Common.{ℕ, List, refl}
+use Rattle.std.proofs.Common.{None}
 use Rattle.instructions.specs.declared.Instruction.{Instruction}
 use Rattle.instructions.specs.declared.Instruction.TheVariants.{Integer, Jump, Memory, Capability, System, Illegal}
 use Rattle.operations.specs.Means.{Quiet}
@@ -23,4 +24,4 @@ quiet_storeless n (System i) word regs l h = system_storeless i regs
 quiet_storeless n Illegal word regs l h = tt
 
 pub turned_quiet : (start n : ℕ) (x : Instruction) (word : ℕ) (l : Lent) (s : State) → Quiet x → Turned start n (effect_of n x word s.regs l) s s left_turn
-turned_quiet start n x word l s h = (refl, may_nothing (stored_by (effect_of n x word s.regs l)) 0 0 (quiet_storeless n x word s.regs l h))
+turned_quiet start n x word l s h = (refl, may_nothing (stored_by (effect_of n x word s.regs l)) None (quiet_storeless n x word s.regs l h))

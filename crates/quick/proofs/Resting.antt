@@ -1,7 +1,7 @@
 -- Plain steps at once, of which nothing is known: what the loop keeps stays, with no entry left. Assumes nothing.
-use Rattle.std.proofs.Common.{◌≡◌, ℕ, zero, suc, ◌+◌, ◌-◌, ◌%◌, ◌^◌, ◌<◌, ◌≤◌, cond, List, length, get_or, sym, refl, ap, ◌∙◌, inl, inr, arith}
+use Rattle.std.proofs.Common.{◌≡◌, ℕ, zero, suc, ◌+◌, ◌-◌, ◌%◌, ◌^◌, ◌<◌, ◌≤◌, cond, List, length, get_or, sym, refl, ap, ◌∙◌, inl, inr, arith, Bool, true, false}
 use Rattle.watch.specs.declared.Watch.{Watch}
-use Rattle.operations.specs.declared.Operation.{Operation}
+use Rattle.quick.specs.declared.Found.{Found}
 use Rattle.state.specs.Memory.{granule_bytes}
 use Rattle.state.specs.Lent.{State}
 use Rattle.state.specs.declared.Board.{Board}
@@ -44,8 +44,8 @@ module _ (board : Board) (revoked : List ℕ) where
       let t : b ≡ (iterate m board revoked (ran s 0 0)).trapped = ap (λ (x : Ran). x.trapped) h in
       omega (arith, two, t)
 
-  module _ (n : ℕ) (s₀ : State) (w₀ : Watch) (s : State) (code : List Operation) (keys lens rows : List ℕ)
-      (low high base limit : ℕ) (watch : Watch) (trapped k : ℕ) (r : Running board revoked n s₀ w₀ s code keys lens rows low high base limit watch trapped k)
+  module _ (n : ℕ) (s₀ : State) (w₀ : Watch) (s : State) (code : List Found) (keys rows : List ℕ)
+      (low high base limit : ℕ) (watch : Watch) (trapped k : ℕ) (r : Running board revoked n s₀ w₀ s code keys rows low high base limit watch trapped k)
       (m : ℕ) (some : 0 < m) (room : m ≤ n - k) (last : State) (a b : ℕ) (watch' : Watch) (ran_on : ran last a b ≡ iterate m board revoked (ran s 0 0))
       (watched : watch' ≡ watched_by m board revoked s watch) (same-file : length last.regs ≡ length s.regs)
       (same_memory : length last.mem ≡ length s.mem) where
@@ -66,7 +66,7 @@ module _ (board : Board) (revoked : List ℕ) where
 
     -- all entries are dropped
     pub way_rest : (keys' : List ℕ) (base' limit' : ℕ) → ((j : ℕ) → j < entries → get_or keys' j 0 ≡ 0) → Calm base' (k + m) limit' last.regs
-        → Running board revoked n s₀ w₀ last code keys' lens rows low high base' limit' watch' (trapped + b) (k + m)
+        → Running board revoked n s₀ w₀ last code keys' rows low high base' limit' watch' (trapped + b) (k + m)
     way_rest keys' base' limit' none c =
         let split : m + (n - (k + m)) ≡ n - k = omega (arith, room) in
         let at : (iterate m board revoked (ran s 0 0)).at ≡ last = sym (ap (λ (x : Ran). x.at) ran_on) in
@@ -74,9 +74,8 @@ module _ (board : Board) (revoked : List ℕ) where
           in_run = omega (arith, room, some);
           few_trapped = omega (arith, r.few_trapped, counts);
           whole_file = same-file ∙ r.whole_file;
-          lens_long = r.lens_long;
           code_long = r.code_long;
-          entries_hold = entries_none board.start last.mem low high lens keys' code none;
+          entries_hold = entries_none board.start last.mem low high keys' code none;
           reach_holds = rw same_memory r.reach_holds;
           calm_holds = c;
           runs =
@@ -88,16 +87,16 @@ module _ (board : Board) (revoked : List ℕ) where
         }
 
     -- one that trapped leaves them
-    pub way_plainly : n < 2 ^ 32 → board.start % granule_bytes ≡ 0 → (alone : ℕ) → ((alone ≡ 0 → ⊥) → (m ≡ 1) × (alone ≡ b))
+    pub way_plainly : n < 2 ^ 32 → board.start % granule_bytes ≡ 0 → (alone : Bool) → (alone ≡ true → (m ≡ 1) × (b ≡ 0 → ⊥))
         → (keys' : List ℕ) (base' limit' : ℕ) → ClearedUnless alone keys keys' → Calm base' (k + m) limit' last.regs
-        → Running board revoked n s₀ w₀ last code keys' lens rows low high base' limit' watch' (trapped + b) (k + m)
-    way_plainly fits aligned alone told keys' base' limit' (inr (z, none)) c = way_rest keys' base' limit' none c
-    way_plainly fits aligned alone told keys' base' limit' (inl (some-trapped, same)) c =
-        let (one, is) = told some-trapped in
+        → Running board revoked n s₀ w₀ last code keys' rows low high base' limit' watch' (trapped + b) (k + m)
+    way_plainly fits aligned false told keys' base' limit' none c = way_rest keys' base' limit' none c
+    way_plainly fits aligned true told keys' base' limit' same c =
+        let (one, some-trapped) = told refl in
         let ran-one : ran last a b ≡ iterate 1 board revoked (ran s 0 0) = rw one at ran_on in
         let watched-one : watch' ≡ watched_by 1 board revoked s watch = rw one at watched in
         let calm-one : Calm base' (k + 1) limit' last.regs = rw one at c in
         let there =
-        way_plain board revoked n s₀ w₀ s code keys lens rows low high base limit watch trapped k r (omega (arith, room, some)) fits aligned last a b watch'
-        keys' base' limit' ran-one watched-one (inl (λ z. some-trapped (is ∙ z), same)) calm-one in
+        way_plain board revoked n s₀ w₀ s code keys rows low high base limit watch trapped k r (omega (arith, room, some)) fits aligned last a b watch'
+        true keys' base' limit' ran-one watched-one (λ e. some-trapped) same calm-one in
         rw one there

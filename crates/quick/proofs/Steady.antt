@@ -20,7 +20,7 @@ use Rattle.commit.specs.Commit.{apply_effect, retires}
 use Rattle.quick.specs.Turns.{went_on, written_at, Stands, Done, Turned}
 use Rattle.quick.specs.Jumps.{WentIf, Went}
 use Rattle.quick.specs.Steady.{Steady, SteadyIf}
-use Rattle.quick.specs.declared.Took.{Took}
+use Rattle.quick.specs.Turns.{Took, is_done, said}
 use Rattle.quick.proofs.Onward.{stays_on, stays_written, stays_marked, long_on, long_written, long_marked, time_on}
 use Rattle.quick.proofs.Onward.{took_write, took_store, took_store_capability}
 
@@ -68,8 +68,8 @@ steady_marked l after to address long e =
 -- ---- jumps
 
 pub went_steady : (regs after : List ℕ) (start size to : ℕ) (t : Took) → length regs ≡ register_words → Went start size to regs after t
-    → SteadyIf t.done regs after
-went_steady regs after start size to t long w = go t.done w.0
+    → SteadyIf (is_done t) regs after
+went_steady regs after start size to t long w = go (is_done t) w.0
   where
     go : (b : Bool) → WentIf b start size to regs after → SteadyIf b regs after
     go true (h, r) = steady_on regs after to long h
@@ -124,9 +124,9 @@ module _ (regs mem tags : List ℕ) (start m a n to : ℕ) (s : Stands regs m a 
       (placed Leaves (λ p. store_capability_at p b (register_at regs rs2)) (traps _ _) (traps _ _) (λ i. stores_capability _ _)
       (place_of l.board.start (length l.mem) b granule_bytes))
 
-  pub done_steady : (e : Effect) (after : State) (t : Took) → Leaves e → Turned start n e (state regs mem tags) after t → SteadyIf t.done regs after.regs
-  done_steady e after t h w = go t.done w
+  pub done_steady : (e : Effect) (after : State) (t : Took) → Leaves e → Turned start n e (state regs mem tags) after t → SteadyIf (is_done t) regs after.regs
+  done_steady e after t h w = go (is_done t) w
     where
-      go : (b : Bool) → Done b start n e (state regs mem tags) after t.at t.width → SteadyIf b regs after.regs
+      go : (b : Bool) → Done b start n e (state regs mem tags) after (said t) → SteadyIf b regs after.regs
       go true (x, r, z) = rw x (h r)
       go false z = tt

@@ -1,5 +1,6 @@
 -- A jump to what PCC reaches passes its checks, so that its effect is PCC at the target. Assumes nothing.
 use Rattle.std.proofs.Common.{◌≡◌, ℕ, ◌+◌, ◌*◌, ◌/◌, ◌%◌, ◌^◌, ◌<◌, Bool, true, false, not, ◌&&◌, eqb, List, length, get_or, sym, refl, ap, ◌∙◌, true≢false}
+use Rattle.std.proofs.Common.{Option, None}
 use Rattle.std.proofs.Common.{arith, eq-eqb}
 use Rattle.words.specs.Words.{wrap}
 use Rattle.metadata.specs.Rights.{EX}
@@ -26,16 +27,17 @@ use Rattle.quick.specs.Rows.{Good, InRow, Reached}
 use Rattle.quick.specs.Turns.{went_on, written_at, held_at, pcc_at, Stands, MayStore, Done, Turned, done_turn, left_turn}
 use Rattle.quick.specs.Jumps.{WentIf, Went, GoTurns, BranchTurns, link_at, LinkTurns, shut, RegisterTurns}
 use Rattle.quick.specs.Steady.{SteadyIf}
-use Rattle.quick.specs.declared.Took.{Took}
+use Rattle.quick.specs.Turns.{Took, is_done, said}
+use Rattle.quick.specs.declared.Store.{Store}
 use Rattle.quick.proofs.Onward.{took_advance, took_jump, took_linked, pcc_words}
 use Rattle.quick.proofs.Reach.{reached}
 use Rattle.quick.proofs.Steady.{steady_written}
 
 -- what stores nothing may store anywhere
-pub may_nothing : (x : Stored) (at width : ℕ) → Nothing x → MayStore x at width
-may_nothing nothing at width h = tt
-may_nothing (bytes n i value) at width h = absurd h
-may_nothing (whole i value) at width h = absurd h
+pub may_nothing : (x : Stored) (o : Option Store) → Nothing x → MayStore x o
+may_nothing nothing o h = tt
+may_nothing (bytes n i value) o h = absurd h
+may_nothing (whole i value) o h = absurd h
 
 opened : (b : Bool) → not b ≡ false → b ≡ true
 opened true h = refl
@@ -66,9 +68,9 @@ module _ (regs after mem tags : List ℕ) (start size to m a n : ℕ) (p : pcc_o
     (f : Reached EX start size (pcc_of regs) to 2 → to % 2 ≡ 0 → e ≡ Jump rd link (move_of (pcc_of regs) to) (mstatus_of regs)) (t : Took) where
   went_turned : to % 2 ≡ 0 → Went start size to regs after t → Turned start n e (state regs mem tags) (state after mem tags) t
   unfolding capability_at retires
-  went_turned k w = go t.done w.0
+  went_turned k w = go (is_done t) w.0
     where
-      go : (b : Bool) → WentIf b start size to regs after → Done b start n e (state regs mem tags) (state after mem tags) t.at t.width
+      go : (b : Bool) → WentIf b start size to regs after → Done b start n e (state regs mem tags) (state after mem tags) (said t)
       go true (h, g) =
           let r = g (pcc_words regs m a p).2 in
           rw (f r k, h) (
@@ -77,7 +79,7 @@ module _ (regs after mem tags : List ℕ) (start size to m a n : ℕ) (p : pcc_o
             refl,
             w.1,
           )
-      go false h = (ap (λ (l : List ℕ). state l mem tags) h, may_nothing (stored_by e) t.at t.width still)
+      go false h = (ap (λ (l : List ℕ). state l mem tags) h, may_nothing (stored_by e) (said t) still)
 
 module _ (regs after : List ℕ) (start size offset to : ℕ) (t : Took) (e : to ≡ wrap (get_or regs 48 0 + offset)) (o : offset % 2 ≡ 0)
     (w : Went start size to regs after t) where
@@ -138,7 +140,7 @@ module _ (regs after mem tags : List ℕ) (start m a n next to at rd edition mst
 pub link_turned : (regs after : List ℕ) (start size edition rd offset next to at : ℕ) (t : Took) → length regs ≡ register_words → t ≡ done_turn
     → to ≡ wrap (get_or regs 48 0 + offset) → to % 2 ≡ 0 → ((held_at 48 regs).tag ≡ 1 → Reached EX start size (held_at 48 regs) to 2) → at ≡ rd % 16 * 3
     → after ≡ went_on to (written_at at (link_at edition next (get_or regs 49 0) (get_or regs 63 0)) regs)
-    → LinkTurns start edition rd offset next regs after t × SteadyIf t.done regs after
+    → LinkTurns start edition rd offset next regs after t × SteadyIf (is_done t) regs after
 unfolding jump_effect capability_at
 link_turned regs after start size edition rd offset next to at t long u e z g w h =
     rw u (
@@ -179,7 +181,7 @@ pub register_turned : (regs after : List ℕ) (start size edition rd rs1 offset 
     → (with_object_type c 0).metadata ≡ get_or regs 49 0 → Reached EX start size (with_object_type c 0) to 2 → shut edition rd rs1 offset c ≡ false
     → jump_status edition (type_of c.metadata) (get_or regs 63 0) ≡ get_or regs 63 0 → at ≡ rd % 16 * 3
     → after ≡ went_on to (written_at at (link_at edition next (get_or regs 49 0) (get_or regs 63 0)) regs)
-    → RegisterTurns start edition rd rs1 offset next regs after t × SteadyIf t.done regs after
+    → RegisterTurns start edition rd rs1 offset next regs after t × SteadyIf (is_done t) regs after
 unfolding jump_effect capability_at integer_at
 register_turned regs after start size edition rd rs1 offset next to at from c t long u e f g word r z k w h =
     let held : c ≡ register_at regs rs1 = e ∙ ap (λ (x : ℕ). held_at x regs) f in
@@ -196,19 +198,19 @@ register_turned regs after start size edition rd rs1 offset next to at from c t 
 
 -- a jump that is left
 pub link_left : (regs : List ℕ) (start edition rd offset next : ℕ) (t : Took) → t ≡ left_turn
-    → LinkTurns start edition rd offset next regs regs t × SteadyIf t.done regs regs
+    → LinkTurns start edition rd offset next regs regs t × SteadyIf (is_done t) regs regs
 link_left regs start edition rd offset next t u =
     rw u (
-      λ m a n mem tags s q. (refl, may_nothing (stored_by (jump_effect n edition (Jal rd offset) regs)) 0 0 (jump_storeless n edition (Jal rd offset) regs)),
+      λ m a n mem tags s q. (refl, may_nothing (stored_by (jump_effect n edition (Jal rd offset) regs)) None (jump_storeless n edition (Jal rd offset) regs)),
       tt,
     )
 
 pub register_left : (regs : List ℕ) (start edition rd rs1 offset next : ℕ) (t : Took) → t ≡ left_turn
-    → RegisterTurns start edition rd rs1 offset next regs regs t × SteadyIf t.done regs regs
+    → RegisterTurns start edition rd rs1 offset next regs regs t × SteadyIf (is_done t) regs regs
 register_left regs start edition rd rs1 offset next t u =
     rw u (
       λ m a n mem tags s q.
-          (refl, may_nothing (stored_by (jump_effect n edition (Jalr rd rs1 offset) regs)) 0 0 (jump_storeless n edition (Jalr rd rs1 offset) regs)),
+          (refl, may_nothing (stored_by (jump_effect n edition (Jalr rd rs1 offset) regs)) None (jump_storeless n edition (Jalr rd rs1 offset) regs)),
       tt,
     )
 

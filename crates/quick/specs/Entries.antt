@@ -1,7 +1,7 @@
 -- Decoded code that is kept: what an entry is, what a store leaves of the entries, and how long no step needs more than its entry. Document 02, 14. Assumes
 -- nothing.
-use Rattle.std.specs.Prelude.{◌≡◌, ℕ, ◌+◌, ◌-◌, ◌*◌, ◌/◌, ◌%◌, ◌^◌, ◌<◌, ◌≤◌, Bool, true, cond, ◌&&◌, ◌⊎◌, List, length, ◌==◌, ◌≢◌, nat_lt}
-use Rattle.std.specs.Prelude.{slice_index, slice_index_or, slice_set}
+use Rattle.std.specs.Prelude.{◌≡◌, ℕ, ◌+◌, ◌-◌, ◌*◌, ◌/◌, ◌%◌, ◌^◌, ◌<◌, ◌≤◌, Bool, true, false, cond, ◌&&◌, ◌⊎◌, List, length, ◌≢◌, nat_lt}
+use Rattle.std.specs.Prelude.{slice_index, slice_index_or, slice_set, Option, None, Some}
 use Rattle.words.specs.Words.{wrap, le_bytes}
 use Rattle.metadata.specs.Rights.{bit}
 use Rattle.metadata.specs.Rights.{EX}
@@ -10,6 +10,7 @@ use Rattle.state.specs.Checks.{access_cause, execute_cause, no_cause}
 use Rattle.capability.specs.Capability.{move_of}
 use Rattle.capability.specs.declared.Capability.{Capability}
 use Rattle.quick.specs.declared.Found.{Found}
+use Rattle.quick.specs.declared.Store.{Store}
 use Rattle.instructions.specs.declared.Instruction.{Instruction}
 use Rattle.operations.specs.Means.{Means, Placed}
 use Rattle.operations.specs.declared.Operation.{Operation}
@@ -79,13 +80,18 @@ pub record Entry (start : ℕ) (mem : List ℕ) (low high j key bytes : ℕ) (op
   pub placed : Placed op
 
 -- each entry that has a key is one
-abbrev pub Entries : (start : ℕ) → (mem : List ℕ) → (low high : ℕ) → (lens keys : List ℕ) → (code : List Operation) → Type 0
-Entries start mem low high lens keys code =
-    (j : ℕ) → j < entries → (slice_index keys j ≢ 0) → Entry start mem low high j (slice_index keys j) (slice_index lens j) (slice_index_or code j Plain)
+abbrev pub absent : Found
+absent = record { bytes = 0; op = Plain }
 
--- the entry i that a step stands at for a key, where it is one
-abbrev pub ReadyAt : (i k limit : ℕ) → (keys : List ℕ) → (key : ℕ) → Type 0
-ReadyAt i k limit keys key = i < entries → (k < limit) × (slice_index keys i ≡ key)
+abbrev pub Entries : (start : ℕ) → (mem : List ℕ) → (low high : ℕ) → (keys : List ℕ) → (code : List Found) → Type 0
+Entries start mem low high keys code =
+    (j : ℕ) → j < entries → (slice_index keys j ≢ 0)
+    → Entry start mem low high j (slice_index keys j) (slice_index_or code j absent).bytes (slice_index_or code j absent).op
+
+-- the entry that a step stands at for a key, where there is one
+abbrev pub ReadyAt : Option ℕ → (k limit : ℕ) → (keys : List ℕ) → (key : ℕ) → Type 0
+ReadyAt None k limit keys key = Unit {0}
+ReadyAt (Some i) k limit keys key = (i < entries) × (k < limit) × (slice_index keys i ≡ key)
 
 -- ---- how one is made
 
@@ -99,8 +105,9 @@ pub record FoundOf (pcc : Capability) (bytes : ℕ) (x : Instruction) (f : Found
   pub op_means : Means f.op x
   pub op_placed : Placed f.op
 
-abbrev pub FoundAs : (pcc : Capability) → (bytes : ℕ) → Instruction → Found → Type 0
-FoundAs pcc bytes x f = (f.bytes ≢ 0) → FoundOf pcc bytes x f
+abbrev pub FoundAs : (pcc : Capability) → (bytes : ℕ) → Instruction → Option Found → Type 0
+FoundAs pcc bytes x None = Unit {0}
+FoundAs pcc bytes x (Some f) = FoundOf pcc bytes x f
 
 pub record FoundAt (start : ℕ) (mem : List ℕ) (pcc : Capability) (f : Found) : Type 0 where
   pub is_tagged : pcc.tag ≡ 1
@@ -109,12 +116,14 @@ pub record FoundAt (start : ℕ) (mem : List ℕ) (pcc : Capability) (f : Found)
   pub op_means : Means f.op stands_there
   pub op_placed : Placed f.op
 
-abbrev pub FoundIf : (start : ℕ) → (mem : List ℕ) → (pcc : Capability) → Found → Type 0
-FoundIf start mem pcc f = (f.bytes ≢ 0) → pcc.metadata < 2 ^ 32 → pcc.address < 2 ^ 32 → FoundAt start mem pcc f
+abbrev pub FoundIf : (start : ℕ) → (mem : List ℕ) → (pcc : Capability) → Option Found → Type 0
+FoundIf start mem pcc None = Unit {0}
+FoundIf start mem pcc (Some f) = pcc.metadata < 2 ^ 32 → pcc.address < 2 ^ 32 → FoundAt start mem pcc f
 
 -- anything is found only where nothing was looked up just now
-abbrev pub FirstLook : (missed : ℕ) → Found → Type 0
-FirstLook missed f = (f.bytes ≢ 0) → missed ≡ 0
+abbrev pub FirstLook : (missed : Bool) → Option Found → Type 0
+FirstLook missed None = Unit {0}
+FirstLook missed (Some f) = missed ≡ false
 
 -- ---- what a store leaves of them
 
@@ -132,12 +141,14 @@ cleared_near address keys =
 abbrev pub touches_hull : (low high at width : ℕ) → Bool
 touches_hull low high at width = nat_lt low (at + width) && nat_lt at high
 
-abbrev pub forgotten : (low high start at width : ℕ) → (keys : List ℕ) → List ℕ
-forgotten low high start at width keys = cond (width == 0) keys (cond (touches_hull low high at width) (cleared_near (start + at) keys) keys)
+abbrev pub forgotten : (low high start : ℕ) → Option Store → (keys : List ℕ) → List ℕ
+forgotten low high start None keys = keys
+forgotten low high start (Some s) keys = cond (touches_hull low high s.at s.width) (cleared_near (start + s.at) keys) keys
 
--- no entry, unless a step trapped
-abbrev pub ClearedUnless : (trapped : ℕ) → (before after : List ℕ) → Type 0
-ClearedUnless trapped before after = ((trapped ≢ 0) × (after ≡ before)) ⊎ ((trapped ≡ 0) × ((j : ℕ) → j < entries → slice_index after j ≡ 0))
+-- no entry, unless nothing was stored
+abbrev pub ClearedUnless : (nothing : Bool) → (before after : List ℕ) → Type 0
+ClearedUnless true before after = after ≡ before
+ClearedUnless false before after = (j : ℕ) → j < entries → slice_index after j ≡ 0
 
 -- ---- how long PCC's word and tag stay and no interrupt is due
 
@@ -156,5 +167,6 @@ Calm base k limit regs = (base ≡ slice_index regs 49 * 2 ^ 32) × QuietUntil k
 
 -- ---- the record after a turn that is done
 
-abbrev pub noted_at : Watch → (start at width : ℕ) → Watch
-noted_at w start at width = cond (width == 0) w (touched_at w ((start + at) % 2 ^ 32) width)
+abbrev pub noted_at : Watch → (start : ℕ) → Option Store → Watch
+noted_at w start None = w
+noted_at w start (Some s) = touched_at w ((start + s.at) % 2 ^ 32) s.width

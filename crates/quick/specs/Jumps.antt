@@ -1,5 +1,5 @@
 -- A turn of a jump. CHERIoT report, 9.4 (CJAL, CJALR); document 02, 14. Assumes nothing.
-use Rattle.std.specs.Prelude.{◌≡◌, ℕ, ◌+◌, ◌*◌, ◌%◌, ◌^◌, ◌<◌, Bool, true, false, not, ◌&&◌, ◌||◌, List, ◌==◌}
+use Rattle.std.specs.Prelude.{◌≡◌, ℕ, ◌+◌, ◌*◌, ◌%◌, ◌^◌, ◌<◌, Bool, true, false, not, ◌&&◌, ◌||◌, List, Option, None, ◌==◌}
 use Rattle.words.specs.Words.{wrap}
 use Rattle.metadata.specs.Rights.{EX}
 use Rattle.capability.specs.Capability.{sealed}
@@ -12,8 +12,7 @@ use Rattle.state.specs.Lent.{state}
 use Rattle.jump_instructions.specs.Editions.{accepts, link_type}
 use Rattle.jump_instructions.specs.Jumps.{jump_effect}
 use Rattle.quick.specs.Rows.{row_of_pcc, InRow, Reached}
-use Rattle.quick.specs.Turns.{went_on, held_at, pcc_at, pcc_place, Stands, Turned}
-use Rattle.quick.specs.declared.Took.{Took}
+use Rattle.quick.specs.Turns.{went_on, held_at, pcc_at, pcc_place, Stands, Took, is_done, said, Turned}
 
 -- a target is aligned and in PCC's row; PCC's own address is a word, and in the row
 pub record Lands (rows : List ℕ) (pcc : Capability) (to : ℕ) : Type 0 where
@@ -29,7 +28,7 @@ WentIf false start size to before after = after ≡ before
 
 -- and nothing is stored
 abbrev pub Went : (start size to : ℕ) → (before after : List ℕ) → Took → Type 0
-Went start size to before after t = WentIf t.done start size to before after × (t.width ≡ 0)
+Went start size to before after t = WentIf (is_done t) start size to before after × (said t ≡ None)
 
 -- CJAL to c0
 abbrev pub GoTurns : (start offset : ℕ) → (before after : List ℕ) → Took → Type 0

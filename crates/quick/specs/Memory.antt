@@ -10,11 +10,7 @@ use Rattle.state.specs.Registers.{register_at, integer_at}
 use Rattle.state.specs.Lent.{State, state, Lent}
 use Rattle.state.specs.Memory.{store_width}
 use Rattle.memory_instructions.specs.Access.{load_effect, store_effect, load_capability_effect, store_capability_effect, address_of}
-use Rattle.quick.specs.Turns.{Stands, Turned}
-use Rattle.quick.specs.declared.Took.{Took}
-
-abbrev pub took : Bool → (at width : ℕ) → Took
-took done at width = record { done = done; at = at; width = width }
+use Rattle.quick.specs.Turns.{Stands, Took, Turned}
 
 -- the place of a register's first word in the register file, and that it is one
 abbrev pub place_of_register : (r : ℕ) → ℕ

@@ -2,7 +2,7 @@
 -- memory says; and what is remembered of reach and of quiet is so. Document 02, 14. Assumes nothing.
 use Rattle.std.specs.Prelude.{◌≡◌, ℕ, ◌-◌, ◌≤◌, List, length}
 use Rattle.watch.specs.declared.Watch.{Watch}
-use Rattle.operations.specs.declared.Operation.{Operation}
+use Rattle.quick.specs.declared.Found.{Found}
 use Rattle.state.specs.Layout.{register_words}
 use Rattle.state.specs.Lent.{State}
 use Rattle.state.specs.declared.Board.{Board}
@@ -11,14 +11,13 @@ use Rattle.machine.specs.Watching.{watched_by}
 use Rattle.quick.specs.Rows.{Good}
 use Rattle.quick.specs.Entries.{entries, Entries, Calm}
 
-pub record Running (board : Board) (revoked : List ℕ) (n : ℕ) (s₀ : State) (w₀ : Watch) (s : State) (code : List Operation) (keys lens rows : List ℕ)
+pub record Running (board : Board) (revoked : List ℕ) (n : ℕ) (s₀ : State) (w₀ : Watch) (s : State) (code : List Found) (keys rows : List ℕ)
     (low high base limit : ℕ) (watch : Watch) (trapped k : ℕ) : Type 0 where
   pub in_run : k ≤ n
   pub few_trapped : trapped ≤ k
   pub whole_file : length s.regs ≡ register_words
-  pub lens_long : length lens ≡ entries
   pub code_long : length code ≡ entries
-  pub entries_hold : Entries board.start s.mem low high lens keys code
+  pub entries_hold : Entries board.start s.mem low high keys code
   pub reach_holds : Good board.start (length s.mem) rows
   pub calm_holds : Calm base k limit s.regs
   pub runs : iterate (n - k) board revoked (ran s (k - trapped) trapped) ≡ iterate n board revoked (ran s₀ 0 0)

@@ -8,8 +8,7 @@ use Rattle.state.specs.Timer.{time_of, compare_of}
 use Rattle.state.specs.Lent.{State}
 use Rattle.state.specs.declared.Board.{Board}
 use Rattle.execution.specs.Step.{effect_of, seen}
-use Rattle.quick.specs.Turns.{Stands, Turned}
-use Rattle.quick.specs.declared.Took.{Took}
+use Rattle.quick.specs.Turns.{Stands, Took, is_done, Turned}
 
 -- ---- what a turn that is done leaves of what the next one asks
 
@@ -30,4 +29,4 @@ SteadyIf false before after = Unit {0}
 abbrev pub TurnedBy : Board → (revoked : List ℕ) → Operation → (bytes : ℕ) → (before after : State) → Took → Type 0
 TurnedBy board revoked op n before after t =
     (x : Instruction) → (word m a : ℕ) → Means op x → Stands before.regs m a n
-    → Turned board.start n (effect_of n x word before.regs (seen board revoked before)) before after t × SteadyIf t.done before.regs after.regs
+    → Turned board.start n (effect_of n x word before.regs (seen board revoked before)) before after t × SteadyIf (is_done t) before.regs after.regs

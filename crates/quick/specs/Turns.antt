@@ -1,5 +1,6 @@
 -- A step of the second engine: the register file where PCC goes on by one word, and what is promised of a turn. Document 02, 14. Assumes nothing.
 use Rattle.std.specs.Prelude.{◌≡◌, ℕ, ◌+◌, ◌%◌, ◌≤◌, Bool, true, false, cond, List, length, ◌==◌, ◌≢◌, slice_index, slice_set}
+use Rattle.std.specs.Prelude.{Option, None, Some, Result, Ok, Err}
 use Rattle.words.specs.Words.{wrap}
 use Rattle.capability.specs.Capability.{capability, move_of}
 use Rattle.capability.specs.declared.Capability.{Capability}
@@ -11,7 +12,7 @@ use Rattle.state.specs.Memory.{granule_bytes}
 use Rattle.state.specs.Effects.{Stored, nothing, bytes, whole, stored_by}
 use Rattle.state.specs.declared.Effect.{Effect}
 use Rattle.commit.specs.Commit.{apply_effect, retires}
-use Rattle.quick.specs.declared.Took.{Took}
+use Rattle.quick.specs.declared.Store.{Store}
 
 -- the place of PCC's address in the register file
 abbrev pub pcc_place : ℕ
@@ -44,30 +45,46 @@ pub record Stands (regs : List ℕ) (m a bytes : ℕ) : Type 0 where
   pub even : a % 2 ≡ 0
   pub goes_on : move_of (pcc_at m a) (wrap (a + bytes)) ≡ pcc_at m (wrap (a + bytes))
 
--- what an effect stores is where a turn says; no width is no store
-abbrev pub StoredAt : Stored → (at width : ℕ) → Type 0
-StoredAt nothing at width = width ≡ 0
-StoredAt (bytes n i value) at width = (at ≡ i) × (width ≡ n)
-StoredAt (whole i value) at width = (at ≡ i) × (width ≡ granule_bytes)
+-- what a turn answers: done, and what it stored; or left to a plain step, and what that may store
+abbrev pub Took : Type 0
+Took = Result (Option Store) (Option Store)
+
+abbrev pub is_done : Took → Bool
+is_done (Ok s) = true
+is_done (Err s) = false
+
+-- what it says of a store
+abbrev pub said : Took → Option Store
+said (Ok s) = s
+said (Err s) = s
+
+abbrev pub store : (at width : ℕ) → Store
+store at width = record { at = at; width = width }
+
+-- what an effect stores is what a turn says
+abbrev pub StoredAt : Stored → Option Store → Type 0
+StoredAt nothing s = s ≡ None
+StoredAt (bytes n i value) s = s ≡ Some (store i n)
+StoredAt (whole i value) s = s ≡ Some (store i granule_bytes)
 
 -- what it may store is
-abbrev pub MayStore : Stored → (at width : ℕ) → Type 0
-MayStore nothing at width = Unit {0}
-MayStore (bytes n i value) at width = (at ≡ i) × (width ≡ n)
-MayStore (whole i value) at width = (at ≡ i) × (width ≡ granule_bytes)
+abbrev pub MayStore : Stored → Option Store → Type 0
+MayStore nothing s = Unit {0}
+MayStore (bytes n i value) s = s ≡ Some (store i n)
+MayStore (whole i value) s = s ≡ Some (store i granule_bytes)
 
 -- What a turn promises for an effect of an instruction of some bytes: it is done, and what is left is what the effect leaves; or nothing is changed, and the
 -- turn says where the effect may store.
-abbrev pub Done : Bool → (start bytes : ℕ) → Effect → (before after : State) → (at width : ℕ) → Type 0
-Done true start n e before after at width = (after ≡ apply_effect start n e before) × (retires e ≡ true) × StoredAt (stored_by e) at width
-Done false start n e before after at width = (after ≡ before) × MayStore (stored_by e) at width
+abbrev pub Done : Bool → (start bytes : ℕ) → Effect → (before after : State) → Option Store → Type 0
+Done true start n e before after s = (after ≡ apply_effect start n e before) × (retires e ≡ true) × StoredAt (stored_by e) s
+Done false start n e before after s = (after ≡ before) × MayStore (stored_by e) s
 
 abbrev pub Turned : (start bytes : ℕ) → Effect → (before after : State) → Took → Type 0
-Turned start n e before after t = Done t.done start n e before after t.at t.width
+Turned start n e before after t = Done (is_done t) start n e before after (said t)
 
 -- a turn that is done and has stored nothing, and one that is not and says of no store
 abbrev pub done_turn : Took
-done_turn = record { done = true; at = 0; width = 0 }
+done_turn = Ok None
 
 abbrev pub left_turn : Took
-left_turn = record { done = false; at = 0; width = 0 }
+left_turn = Err None

@@ -1,9 +1,10 @@
-// Entries: the code that is kept, by slot. Its keys, lengths and operations are three arrays; a key of 0 is no entry.
-ghost use Rattle.std.specs.Prelude.{◌≡◌, ◌+◌, ◌-◌, ◌^◌, ◌<◌, ◌≤◌, true, ◌≢◌};
+// Entries: the code that is kept, by slot. A key of 0 is no entry. Keys are an array of their own, which is let go at once: an array of keys with what was
+// found, or of Option, was tried, and long loops then took a twelfth more than plain steps do.
+ghost use Rattle.std.specs.Prelude.{◌≡◌, ◌+◌, ◌^◌, ◌<◌, ◌≤◌, true, ◌≢◌};
 ghost use Rattle.quick.specs.Entries.{slots, entries, slot_of, slot_at, ReadyAt};
 ghost use Rattle.quick.specs.Entries.{OpenIf, FoundIf, FirstLook, FoundAs, ClearedUnless, cleared_slot, cleared_near, forgotten};
 
-use crate::{Found, Took};
+use crate::{Found, Store};
 use capability::Capability;
 use instructions::Instruction;
 use operations::Operation;
@@ -15,6 +16,12 @@ use std::num::wrapping_add_u32;
 const SLOTS: usize = 1024;
 
 pub(crate) const ENTRIES: usize = 2048;
+
+// What stands in the place of an entry that there is not.
+pub(crate) const ABSENT: Found = Found {
+    bytes: 0,
+    op: Operation::Plain,
+};
 
 // The slot of an address.
 pub(crate) fn slot_of(address: u32) -> usize
@@ -42,47 +49,37 @@ fn is_open(pcc: Capability, start: u32, size: usize) -> bool
     state::access_cause(pcc, metadata::EX, EXECUTE_CAUSE, pcc.address, LONG_BYTES) == NO_CAUSE
 }
 
-fn absent() -> Found
-    ensures { result.bytes ≡ 0 }
-{
-    Found {
-        bytes: 0,
-        op: Operation::Plain,
-    }
-}
-
 // An instruction of some bytes at PCC, where PCC is itself after it.
-fn standing(pcc: Capability, bytes: u32, x: Instruction) -> Found
+fn standing(pcc: Capability, bytes: u32, x: Instruction) -> Option<Found>
     ensures { FoundAs pcc bytes x result }
 {
     let next = capability::move_address(pcc, wrapping_add_u32(pcc.address, bytes));
-    if next.tag == 1 {
-        Found {
-            bytes,
-            op: operations::operation_of(x),
-        }
-    } else {
-        absent()
+    if next.tag != 1 {
+        return None;
     }
+    Some(Found {
+        bytes,
+        op: operations::operation_of(x),
+    })
 }
 
 // What stands at PCC, unless it was looked up just now and no entry serves.
-pub(crate) fn look(missed: u32, pcc: Capability, start: u32, mem: &[u8]) -> Found
+pub(crate) fn look(missed: bool, pcc: Capability, start: u32, mem: &[u8]) -> Option<Found>
     ensures { FoundIf start mem.now pcc result × FirstLook missed result }
 {
-    if missed != 0 {
-        return absent();
+    if missed {
+        return None;
     }
     if !is_open(pcc, start, mem.len()) {
-        return absent();
+        return None;
     }
     let word = words::load32(mem, (pcc.address - start) as usize);
     match word % 4 {
-        3 => return standing(pcc, LONG_BYTES, instructions::decode_again(word)),
+        3 => return standing(pcc, LONG_BYTES, instructions::decode_for::<true>(word)),
         _ => return standing(
             pcc,
             HALF_BYTES,
-            short_forms::instruction_again(word % 0x1_0000),
+            short_forms::instruction_for::<true>(word % 0x1_0000),
         ),
     }
 }
@@ -109,52 +106,20 @@ fn clear_near(keys: &mut [u64; 2048], address: usize)
     clear_slot(keys, first + 4);
 }
 
-// The entries after width bytes are stored at a place.
-pub(crate) fn forget(keys: &mut [u64; 2048], low: u64, high: u64, start: u32, at: u32, width: u32)
-    ensures { keys.new ≡ forgotten low high start at width keys.old }
+// The entries after a store.
+pub(crate) fn forget(keys: &mut [u64; 2048], low: u64, high: u64, start: u32, stored: Option<Store>)
+    ensures { keys.new ≡ forgotten low high start stored keys.old }
 {
-    if width == 0 {
+    let Some(s) = stored else {
+        return;
+    };
+    if s.at as u64 + s.width as u64 <= low {
         return;
     }
-    if at as u64 + width as u64 <= low {
+    if high <= s.at as u64 {
         return;
     }
-    if high <= at as u64 {
-        return;
-    }
-    clear_near(keys, start as usize + at as usize);
-}
-
-// Whether a turn is done and stored nothing.
-pub(crate) fn is_silent(t: Took) -> bool
-    ensures { result ≡ true → (t.done ≡ true) × (t.width ≡ 0) }
-{
-    if !t.done {
-        return false;
-    }
-    t.width == 0
-}
-
-// The place of an address in memory.
-pub(crate) fn place_in(start: u32, address: u32) -> u64
-    ensures { result ≡ address - start }
-{
-    if start <= address {
-        return (address - start) as u64;
-    }
-    0
-}
-
-pub(crate) fn smaller(a: u64, b: u64) -> u64
-    ensures { (result ≤ a) × (result ≤ b) }
-{
-    if a < b { a } else { b }
-}
-
-pub(crate) fn larger(a: u64, b: u64) -> u64
-    ensures { (a ≤ result) × (b ≤ result) }
-{
-    if a < b { b } else { a }
+    clear_near(keys, start as usize + s.at as usize);
 }
 
 // The key of an address, by PCC's metadata word as a key has it.
@@ -165,22 +130,28 @@ pub(crate) fn key_of(base: u64, address: u32) -> u64
     base + address as u64
 }
 
-// The entry that step k stands at, for a key of a slot; where there is none, the number of entries.
-pub(crate) fn entry_for(k: u32, limit: u32, keys: &[u64; 2048], slot: usize, key: u64) -> usize
+// The entry that step k stands at, for a key of a slot.
+pub(crate) fn entry_for(
+    k: u32,
+    limit: u32,
+    keys: &[u64; 2048],
+    slot: usize,
+    key: u64,
+) -> Option<usize>
     requires { slot < slots }
     ensures { ReadyAt result k limit keys.now key }
 {
     if limit <= k {
-        return ENTRIES;
+        return None;
     }
     if keys[slot] == key {
-        return slot;
+        return Some(slot);
     }
     let other = slot + SLOTS;
     if keys[other] == key {
-        return other;
+        return Some(other);
     }
-    ENTRIES
+    None
 }
 
 // What tosses between two entries: a number times MIX, in halves of 2^32.
@@ -202,23 +173,19 @@ pub(crate) fn room_at(keys: &[u64; 2048], slot: usize, time: u32) -> usize
     slot + SLOTS
 }
 
-// What is told of some plain steps: that a single one trapped.
-pub(crate) fn trapped_alone(steps: u32, trapped: u32) -> u32
-    ensures { (result ≢ 0) → (steps ≡ 1) × (result ≡ trapped) }
+// Whether some plain steps are known to have stored nothing: it was a single one, which trapped.
+pub(crate) fn stored_nothing(steps: u32, trapped: u32) -> bool
+    ensures { result ≡ true → (steps ≡ 1) × (trapped ≢ 0) }
 {
-    if steps == 1 { trapped } else { 0 }
+    steps == 1 && trapped != 0
 }
 
-// No entry left after steps of which nothing is known, unless it was one that trapped and so stored nothing.
-pub(crate) fn clear_unless(keys: &mut [u64; 2048], trapped: u32)
-    ensures { ClearedUnless trapped keys.old keys.new }
+// No entry left after steps of which nothing is known; they stay after those that stored nothing.
+pub(crate) fn clear_unless(keys: &mut [u64; 2048], nothing: bool)
+    ensures { ClearedUnless nothing keys.old keys.new }
 {
-    if trapped != 0 {
+    if nothing {
         return;
     }
-    let mut i = 0;
-    while i < ENTRIES {
-        keys[i] = 0;
-        i += 1;
-    }
+    keys.fill(0);
 }

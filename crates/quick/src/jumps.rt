@@ -4,11 +4,12 @@ ghost use Rattle.state.specs.Layout.{register_words};
 ghost use Rattle.quick.specs.Rows.{Good};
 ghost use Rattle.quick.specs.Jumps.{Lands, Went, GoTurns, BranchTurns, link_at, LinkTurns, shut, RegisterTurns};
 ghost use Rattle.quick.specs.Steady.{SteadyIf};
+ghost use Rattle.quick.specs.Turns.{is_done};
 
 use crate::pace::{STATUS_PLACE, WORD_PLACE};
 use crate::registers::PCC_PLACE;
 use crate::rows::ROW_OF_PCC;
-use crate::{Took, registers, rows, turn};
+use crate::{Took, registers, rows};
 use capability::Capability;
 use instructions::BranchKind;
 use state::{TARGET_ALIGNMENT, TARGET_BYTES};
@@ -37,9 +38,9 @@ fn go_to(rows: &[u64; 99], regs: &mut [u32], start: u32, size: usize, to: u32) -
         TARGET_BYTES,
     ) {
         registers::go_on(regs, to);
-        return turn::done();
+        return Ok(None);
     }
-    turn::left()
+    Err(None)
 }
 
 // CJAL to c0.
@@ -52,7 +53,7 @@ pub(crate) fn take_go(
 ) -> Took
     requires { (length regs.old ≡ register_words) × Good start size rows.now × (offset % 2 ≡ 0) }
     ensures { GoTurns start offset regs.old regs.new result
-        × SteadyIf result.done regs.old regs.new }
+        × SteadyIf (is_done result) regs.old regs.new }
 {
     let to = wrapping_add_u32(regs[PCC_PLACE], offset);
     go_to(rows, regs, start, size, to)
@@ -72,7 +73,7 @@ pub(crate) fn take_branch(
 ) -> Took
     requires { (length regs.old ≡ register_words) × (from ≤ 45) × (other ≤ 45) × Good start size rows.now × (offset % 2 ≡ 0) }
     ensures { BranchTurns start kind from other offset to regs.old regs.new result
-        × SteadyIf result.done regs.old regs.new }
+        × SteadyIf (is_done result) regs.old regs.new }
 {
     let a = registers::read(regs, from);
     let b = registers::read(regs, other);
@@ -81,7 +82,7 @@ pub(crate) fn take_branch(
         return go_to(rows, regs, start, size, target);
     }
     registers::go_on(regs, to);
-    turn::done()
+    Ok(None)
 }
 
 // The link of a jump: PCC's word at the address after it, sealed.
@@ -109,16 +110,16 @@ pub(crate) fn take_link(
 ) -> Took
     requires { (length regs.old ≡ register_words) × Good start size rows.now }
     ensures { LinkTurns start edition rd offset next regs.old regs.new result
-        × SteadyIf result.done regs.old regs.new }
+        × SteadyIf (is_done result) regs.old regs.new }
 {
     let to = wrapping_add_u32(regs[PCC_PLACE], offset);
     let pcc = registers::read_pcc(regs);
     if !is_landing(rows, pcc, to) {
-        return turn::left();
+        return Err(None);
     }
     let link = link_at(edition, next, pcc.metadata, regs[STATUS_PLACE]);
     registers::write(regs, operations::place_of(rd), link, to);
-    turn::done()
+    Ok(None)
 }
 
 // Whether a sealed capability may be jumped to.
@@ -148,7 +149,7 @@ pub(crate) fn take_register(
 ) -> Took
     requires { (length regs.old ≡ register_words) × Good start size rows.now }
     ensures { RegisterTurns start edition rd rs1 offset next regs.old regs.new result
-        × SteadyIf result.done regs.old regs.new }
+        × SteadyIf (is_done result) regs.old regs.new }
 {
     let c = registers::read_capability(regs, operations::place_of(rs1));
     let to = wrapping_add_u32(c.address, offset) / 2 * 2;
@@ -156,16 +157,16 @@ pub(crate) fn take_register(
     let word = regs[WORD_PLACE];
     let mstatus = regs[STATUS_PLACE];
     if open.metadata != word {
-        return turn::left();
+        return Err(None);
     }
     if !rows::has(rows, ROW_OF_PCC, open, to, TARGET_BYTES) {
-        return turn::left();
+        return Err(None);
     }
     if !is_entered(edition, rd, rs1, offset, c) {
-        return turn::left();
+        return Err(None);
     }
     if jump_instructions::jump_status(edition, metadata::otype(c.metadata), mstatus) != mstatus {
-        return turn::left();
+        return Err(None);
     }
     registers::write(
         regs,
@@ -173,5 +174,5 @@ pub(crate) fn take_register(
         link_at(edition, next, word, mstatus),
         to,
     );
-    turn::done()
+    Ok(None)
 }

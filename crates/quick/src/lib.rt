@@ -15,20 +15,22 @@ mod turn;
 ghost use Rattle.state.specs.Lent.{state};
 ghost use Rattle.machine.specs.Watching.{WatchPromise, watch_of, CountPromise};
 
-use machine::{RunAnswer, Watched};
+use machine::{Counts, Refusal, Watched};
 use operations::Operation;
 use state::Board;
 use watch::{Range, Watch};
 
-// What a turn answers: whether it is done, and where and how many bytes it stored, or would have a plain step store; no width is no store.
+// A store: so many bytes at a place of memory.
 #[derive(Clone, Copy)]
-pub struct Took {
-    pub done: bool,
+pub struct Store {
     pub at: u32,
     pub width: u32,
 }
 
-// What is found at PCC: an operation and its bytes, or no bytes.
+// What a turn answers: done, and what it stored; or left to a plain step, and what that may store.
+type Took = Result<Option<Store>, Option<Store>>;
+
+// What is found at PCC: an operation and its bytes.
 #[derive(Clone, Copy)]
 pub struct Found {
     pub bytes: u32,
@@ -48,21 +50,16 @@ pub fn run_quick(
     ensures { WatchPromise n board revoked.now (state regs.old mem.old tags.old)
         (state regs.new mem.new tags.new) w result.watch result.answer }
 {
-    let no = machine::refusal(n, regs, board, mem, tags, revoked);
-    if no != 0 {
+    if let Err(why) = machine::refusal(n, regs, board, mem, tags, revoked) {
         return Watched {
-            answer: RunAnswer::Refused(no),
+            answer: Err(why),
             watch: w,
         };
     }
-    let counts = steps::take_steps(regs, board, mem, tags, revoked, n, w);
-    let watch = counts.watch;
+    let tally = steps::take_steps(regs, board, mem, tags, revoked, n, w);
     Watched {
-        answer: RunAnswer::Ran {
-            retired: counts.retired,
-            trapped: counts.trapped,
-        },
-        watch,
+        answer: Ok(tally.counts),
+        watch: tally.watch,
     }
 }
 
@@ -75,7 +72,7 @@ pub fn run_quick_in_place(
     revoked: &[u8],
     n: u32,
     watch: &mut Watch,
-) -> RunAnswer
+) -> Result<Counts, Refusal>
     ensures { WatchPromise n board revoked.now (state regs.old mem.old tags.old)
         (state regs.new mem.new tags.new) watch.old watch.new result }
 {
@@ -98,7 +95,7 @@ pub fn run_quick_counting(
     start2: u32,
     length2: u32,
     count2: &mut u32,
-) -> RunAnswer
+) -> Result<Counts, Refusal>
     ensures { CountPromise n board revoked.now (state regs.old mem.old tags.old)
         (state regs.new mem.new tags.new)
         (watch_of start1 length1 count1.old start2 length2 count2.old) count1.new count2.new result }

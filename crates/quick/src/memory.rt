@@ -8,11 +8,11 @@ ghost use Rattle.state.specs.Lent.{state, lent};
 ghost use Rattle.memory_instructions.specs.Access.{loaded_value, revoked_value};
 ghost use Rattle.operations.specs.Means.{OneByte};
 ghost use Rattle.quick.specs.Rows.{Good};
-ghost use Rattle.quick.specs.Memory.{Place, Loads, Stores, LoadsCapability, StoresCapability, Aligned, MayHold, took, stored_bytes};
+ghost use Rattle.quick.specs.Memory.{Place, Loads, Stores, LoadsCapability, StoresCapability, Aligned, MayHold, stored_bytes};
 
-use crate::Took;
 use crate::registers::{go_on, mark, read, read_capability, write};
 use crate::rows::{ROWS_OF_STORES, reaches};
+use crate::{Store, Took};
 use capability::Capability;
 use instructions::{LoadKind, StoreKind};
 use metadata::{GL, LD, MC, SD, SL};
@@ -61,14 +61,14 @@ pub(crate) fn take_word(
     let c = read_capability(regs, from);
     let address = wrapping_add_u32(c.address, offset);
     if address % 4 != 0 {
-        return not_done();
+        return Err(None);
     }
     if !reaches(rows, from as usize, c, LD, address, 4, start, mem.len()) {
-        return not_done();
+        return Err(None);
     }
     let v = word_at(mem, (address - start) as usize);
     write(regs, at, capability::integer(v), to);
-    done(0, 0)
+    Ok(None)
 }
 
 // Whether an address is aligned for a load of one or two bytes; one of four is not for `take_small`.
@@ -129,11 +129,11 @@ pub(crate) fn take_byte(
     let c = read_capability(regs, from);
     let address = wrapping_add_u32(c.address, offset);
     if !reaches(rows, from as usize, c, LD, address, 1, start, mem.len()) {
-        return not_done();
+        return Err(None);
     }
     let v = byte_value(kind, mem, (address - start) as usize);
     write(regs, at, capability::integer(v), to);
-    done(0, 0)
+    Ok(None)
 }
 
 // LH, LHU.
@@ -155,45 +155,15 @@ pub(crate) fn take_small(
     let c = read_capability(regs, from);
     let address = wrapping_add_u32(c.address, offset);
     if !is_small_aligned(kind, address) {
-        return not_done();
+        return Err(None);
     }
     let width = state::load_width(kind);
     if !reaches(rows, from as usize, c, LD, address, width, start, mem.len()) {
-        return not_done();
+        return Err(None);
     }
     let v = small_value(kind, mem, (address - start) as usize);
     write(regs, at, capability::integer(v), to);
-    done(0, 0)
-}
-
-fn not_done() -> Took
-    ensures { result ≡ took false 0 0 }
-{
-    Took {
-        done: false,
-        at: 0,
-        width: 0,
-    }
-}
-
-fn left(at: u32, width: u32) -> Took
-    ensures { result ≡ took false at width }
-{
-    Took {
-        done: false,
-        at,
-        width,
-    }
-}
-
-fn done(at: u32, width: u32) -> Took
-    ensures { result ≡ took true at width }
-{
-    Took {
-        done: true,
-        at,
-        width,
-    }
+    Ok(None)
 }
 
 // A granule's tag cleared: written only where it is set.
@@ -225,18 +195,19 @@ pub(crate) fn take_store_word(
     let c = read_capability(regs, from);
     let address = wrapping_add_u32(c.address, offset);
     let at = wrapping_sub_u32(address, start);
+    let store = Some(Store { at, width: 4 });
     if address % 4 != 0 {
-        return left(at, 4);
+        return Err(store);
     }
     let row = from as usize + ROWS_OF_STORES;
     if !reaches(rows, row, c, SD, address, 4, start, mem.len()) {
-        return left(at, 4);
+        return Err(store);
     }
     words::store32(mem, at as usize, read(regs, other));
     clear_tag(tags, at as usize / GRANULE);
     mark(regs, address);
     go_on(regs, to);
-    done(at, 4)
+    Ok(store)
 }
 
 // Whether an address is aligned for a store of one or two bytes; one of four is not for `take_store_small`.
@@ -282,18 +253,19 @@ pub(crate) fn take_store_small(
     let address = wrapping_add_u32(c.address, offset);
     let at = wrapping_sub_u32(address, start);
     let width = state::store_width(kind);
+    let store = Some(Store { at, width });
     if !is_small_store(kind, address) {
-        return left(at, width);
+        return Err(store);
     }
     let row = from as usize + ROWS_OF_STORES;
     if !reaches(rows, row, c, SD, address, width, start, mem.len()) {
-        return left(at, width);
+        return Err(store);
     }
     put_small(mem, kind, at as usize, read(regs, other));
     clear_tag(tags, at as usize / GRANULE);
     mark(regs, address);
     go_on(regs, to);
-    done(at, width)
+    Ok(store)
 }
 
 // A loaded value after the revocation test, which never takes what is not tagged.
@@ -304,11 +276,7 @@ fn unrevoked(board: Board, revoked: &[u8], v: Capability) -> Capability
         return v;
     }
     if memory_instructions::is_revoked(board, revoked, v) {
-        Capability {
-            address: v.address,
-            metadata: v.metadata,
-            tag: 0,
-        }
+        Capability { tag: 0, ..v }
     } else {
         v
     }
@@ -335,7 +303,7 @@ pub(crate) fn take_load_capability(
     let c = read_capability(regs, from);
     let address = wrapping_add_u32(c.address, offset);
     if address % GRANULE_BYTES != 0 {
-        return not_done();
+        return Err(None);
     }
     let start = board.start;
     if !reaches(
@@ -348,11 +316,11 @@ pub(crate) fn take_load_capability(
         start,
         mem.len(),
     ) {
-        return not_done();
+        return Err(None);
     }
     let v = capability::loaded(c, state::capability_in(mem, tags, address - start));
     write(regs, at, unrevoked(board, revoked, v), to);
-    done(0, 0)
+    Ok(None)
 }
 
 // Whether an authority may store a capability: MC for a tagged one, SL for a tagged one that is not global.
@@ -392,18 +360,22 @@ pub(crate) fn take_store_capability(
     let v = read_capability(regs, other);
     let address = wrapping_add_u32(c.address, offset);
     let at = wrapping_sub_u32(address, start);
+    let store = Some(Store {
+        at,
+        width: GRANULE_BYTES,
+    });
     if address % GRANULE_BYTES != 0 {
-        return left(at, GRANULE_BYTES);
+        return Err(store);
     }
     if !may_hold(c, v) {
-        return left(at, GRANULE_BYTES);
+        return Err(store);
     }
     let row = from as usize + ROWS_OF_STORES;
     if !reaches(rows, row, c, SD, address, GRANULE_BYTES, start, mem.len()) {
-        return left(at, GRANULE_BYTES);
+        return Err(store);
     }
     commit::store_capability(mem, tags, at, v);
     mark(regs, address);
     go_on(regs, to);
-    done(at, GRANULE_BYTES)
+    Ok(store)
 }

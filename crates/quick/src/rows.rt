@@ -35,32 +35,7 @@ pub(crate) fn in_row(rows: &[u64; 99], i: usize, c: Capability, address: u32, wi
     from + width as u64 <= high
 }
 
-// The start of a row: not below the bounds, nor below memory.
-fn row_start(low: u32, start: u32) -> u64
-    ensures { (low ≤ result) × (start ≤ result) }
-{
-    if low < start {
-        start as u64
-    } else {
-        low as u64
-    }
-}
-
-// Its end: not above the bounds, nor above memory.
-fn row_end(high: u64, start: u64, size: u64) -> u64
-    ensures { (result ≤ high) × (result ≤ start + size) }
-{
-    if high <= start {
-        return high;
-    }
-    if high - start < size {
-        high
-    } else {
-        start + size
-    }
-}
-
-// A row filled for a capability whose address is in its own bounds; else the rows stay.
+// A row filled for a capability whose address is in its own bounds, from where memory starts to where it ends; else the rows stay.
 fn fill(rows: &mut [u64; 99], i: usize, c: Capability, right: u32, start: u32, size: usize)
     requires { (i ≤ row_of_pcc) × (i % 3 ≡ 0) × (right ≡ right_of i) × Good start size rows.old }
     ensures { Good start size rows.new }
@@ -79,8 +54,8 @@ fn fill(rows: &mut [u64; 99], i: usize, c: Capability, right: u32, start: u32, s
         return;
     }
     rows[i] = c.metadata as u64;
-    rows[i + 1] = row_start(b.low, start);
-    rows[i + 2] = row_end(b.high, start as u64, size as u64);
+    rows[i + 1] = b.low.max(start) as u64;
+    rows[i + 2] = b.high.min((start as u64).saturating_add(size as u64));
 }
 
 // Whether a row has them for a capability that is tagged.

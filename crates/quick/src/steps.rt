@@ -1,4 +1,4 @@
-// The loop of the second engine. Its array of operations stays in its own frame: an array of enums is not lent. Those of numbers are.
+// The loop of the second engine. Its arrays stay in its own frame.
 ghost use Rattle.std.specs.Prelude.{◌≡◌, ◌%◌, length};
 ghost use Rattle.state.specs.Layout.{register_words};
 ghost use Rattle.state.specs.Lent.{state};
@@ -7,11 +7,11 @@ ghost use Rattle.machine.specs.Watching.{watched_by};
 ghost use Rattle.quick.specs.Entries.{noted_at};
 
 use crate::entries::ENTRIES;
+use crate::pace::Luck;
 use crate::registers::PCC_PLACE;
 use crate::rows::ROW_WORDS;
-use crate::{entries, pace, registers, rows, turn};
-use machine::Tally;
-use operations::Operation;
+use crate::{Store, entries, pace, registers, rows, turn};
+use machine::{Counts, Tally};
 use state::{Board, TIME_INDEX};
 use std::num::wrapping_add_u32;
 use watch::Watch;
@@ -23,13 +23,13 @@ const NO_LOW: u64 = 0xFFFF_FFFF_FFFF_FFFF;
 const MOST_BYTES: u64 = 4;
 
 // The record after a turn that is done.
-fn noted(w: Watch, start: u32, at: u32, width: u32) -> Watch
-    ensures { result ≡ noted_at w start at width }
+fn noted(w: Watch, start: u32, stored: Option<Store>) -> Watch
+    ensures { result ≡ noted_at w start stored }
 {
-    if width == 0 {
-        return w;
+    match stored {
+        Some(s) => w.touched(wrapping_add_u32(start, s.at), s.width),
+        None => w,
     }
-    w.touched(wrapping_add_u32(start, at), width)
 }
 
 // n steps. Nothing is refused.
@@ -43,79 +43,76 @@ pub(crate) fn take_quick(
     w: Watch,
 ) -> Tally
     requires { (length regs.old ≡ register_words) × (board.start % 8 ≡ 0) }
-    ensures { (ran (state regs.new mem.new tags.new) result.retired result.trapped
+    ensures { (ran (state regs.new mem.new tags.new) result.counts.retired result.counts.trapped
         ≡ iterate n board revoked.now (ran (state regs.old mem.old tags.old) 0 0))
         × (result.watch ≡ watched_by n board revoked.now (state regs.old mem.old tags.old) w) }
 {
-    let mut code = [Operation::Plain; ENTRIES];
+    let mut code = [entries::ABSENT; ENTRIES];
     let mut keys = [0u64; ENTRIES];
-    let mut lens = [0u32; ENTRIES];
     let mut rows = [0u64; ROW_WORDS];
     let mut low = NO_LOW;
     let mut high: u64 = 0;
     let mut base = pace::base_of(regs);
     let mut limit = pace::limit_from(regs, 0, n);
-    let mut luck = [0u32; 3];
-    pace::begin(&mut luck);
-    let mut missed: u32 = 0;
+    let mut luck = Luck::new();
+    let mut missed = false;
     let mut watch = w;
     let mut trapped: u32 = 0;
     let mut k: u32 = 0;
     while k < n {
         let pc = regs[PCC_PLACE];
         let slot = entries::slot_of(pc);
-        let i = entries::entry_for(k, limit, &keys, slot, entries::key_of(base, pc));
-        if i < ENTRIES {
-            let op = code[i];
-            let bytes = lens[i];
-            let t = turn::turn(op, bytes, &mut rows, regs, board, mem, tags, revoked);
+        if let Some(i) = entries::entry_for(k, limit, &keys, slot, entries::key_of(base, pc)) {
+            let f = code[i];
+            let t = turn::turn(f.op, f.bytes, &mut rows, regs, board, mem, tags, revoked);
             k += 1;
-            missed = 0;
-            if entries::is_silent(t) {
-                continue;
-            }
-            entries::forget(&mut keys, low, high, board.start, t.at, t.width);
-            if t.done {
-                watch = noted(watch, board.start, t.at, t.width);
-                continue;
+            missed = false;
+            match t {
+                Ok(None) => continue,
+                Ok(stored) => {
+                    entries::forget(&mut keys, low, high, board.start, stored);
+                    watch = noted(watch, board.start, stored);
+                    continue;
+                }
+                Err(stored) => entries::forget(&mut keys, low, high, board.start, stored),
             }
             rows::learn(&mut rows, registers::read_pcc(regs), board.start, mem.len());
             let p = machine::take_watched(regs, board, mem, tags, revoked, 1, watch);
             watch = p.watch;
-            trapped += p.trapped;
+            trapped += p.counts.trapped;
             base = pace::base_of(regs);
-            limit = pace::limit_while(pace::spend(&mut luck, k), regs, k, n);
+            limit = pace::limit_while(luck.spend(k), regs, k, n);
             continue;
         }
-        let tried = pace::is_tried(missed, pace::spend(&mut luck, k));
-        let f = entries::look(tried, registers::read_pcc(regs), board.start, mem);
+        let tried = pace::is_tried(missed, luck.spend(k));
+        let found = entries::look(tried, registers::read_pcc(regs), board.start, mem);
         base = pace::base_of(regs);
-        if f.bytes != 0 {
-            let op = f.op;
-            let at = entries::place_in(board.start, pc);
+        if let Some(f) = found {
+            let at = pc.saturating_sub(board.start) as u64;
             let j = entries::room_at(&keys, slot, regs[TIME_INDEX]);
-            code[j] = op;
+            code[j] = f;
             keys[j] = entries::key_of(base, pc);
-            lens[j] = f.bytes;
-            low = entries::smaller(low, at);
-            high = entries::larger(high, at + MOST_BYTES);
-            missed = 1;
+            low = low.min(at);
+            high = high.max(at + MOST_BYTES);
+            missed = true;
             continue;
         }
-        let m = pace::steps_now(&luck, n - k);
+        let m = luck.steps_now(n - k);
         let p = machine::take_watched(regs, board, mem, tags, revoked, m, watch);
         watch = p.watch;
-        trapped += p.trapped;
-        entries::clear_unless(&mut keys, entries::trapped_alone(m, p.trapped));
+        trapped += p.counts.trapped;
+        entries::clear_unless(&mut keys, entries::stored_nothing(m, p.counts.trapped));
         base = pace::base_of(regs);
         k += m;
         limit = pace::limit_from(regs, k, n);
-        missed = 0;
-        pace::rested(&mut luck, k);
+        missed = false;
+        luck.rested(k);
     }
     Tally {
-        retired: n - trapped,
-        trapped,
+        counts: Counts {
+            retired: n - trapped,
+            trapped,
+        },
         watch,
     }
 }
@@ -134,7 +131,7 @@ pub(crate) fn take_steps(
     w: Watch,
 ) -> Tally
     requires { (length regs.old ≡ register_words) × (board.start % 8 ≡ 0) }
-    ensures { (ran (state regs.new mem.new tags.new) result.retired result.trapped
+    ensures { (ran (state regs.new mem.new tags.new) result.counts.retired result.counts.trapped
         ≡ iterate n board revoked.now (ran (state regs.old mem.old tags.old) 0 0))
         × (result.watch ≡ watched_by n board revoked.now (state regs.old mem.old tags.old) w) }
 {

@@ -4,7 +4,6 @@ ghost use Rattle.state.specs.Layout.{register_words};
 ghost use Rattle.operations.specs.Means.{Placed};
 ghost use Rattle.state.specs.Lent.{state};
 ghost use Rattle.quick.specs.Rows.{Good};
-ghost use Rattle.quick.specs.Turns.{done_turn, left_turn};
 ghost use Rattle.quick.specs.Steady.{TurnedBy};
 
 use crate::registers::PCC_PLACE;
@@ -12,26 +11,6 @@ use crate::{Took, capabilities, integers, jumps, memory, registers};
 use operations::Operation;
 use state::Board;
 use std::num::wrapping_add_u32;
-
-pub(crate) fn done() -> Took
-    ensures { result ≡ done_turn }
-{
-    Took {
-        done: true,
-        at: 0,
-        width: 0,
-    }
-}
-
-pub(crate) fn left() -> Took
-    ensures { result ≡ left_turn }
-{
-    Took {
-        done: false,
-        at: 0,
-        width: 0,
-    }
-}
 
 // A turn of an operation of some bytes.
 pub(crate) fn turn(
@@ -52,14 +31,14 @@ pub(crate) fn turn(
     let to = wrapping_add_u32(regs[PCC_PLACE], bytes);
     let start = board.start;
     match op {
-        Operation::Plain => left(),
+        Operation::Plain => Err(None),
         Operation::Put { at, value } => {
             integers::put(at, value, regs, to);
-            done()
+            Ok(None)
         }
         Operation::AddImmediate { at, from, value } => {
             integers::add_immediate(at, from, value, regs, to);
-            done()
+            Ok(None)
         }
         Operation::Immediate {
             op,
@@ -68,7 +47,7 @@ pub(crate) fn turn(
             value,
         } => {
             integers::immediate(op, at, from, value, regs, to);
-            done()
+            Ok(None)
         }
         Operation::Two {
             op,
@@ -77,7 +56,7 @@ pub(crate) fn turn(
             other,
         } => {
             integers::two(op, at, from, other, regs, to);
-            done()
+            Ok(None)
         }
         Operation::Multiply {
             kind,
@@ -86,7 +65,7 @@ pub(crate) fn turn(
             other,
         } => {
             integers::multiply(kind, at, from, other, regs, to);
-            done()
+            Ok(None)
         }
         Operation::Divide {
             kind,
@@ -95,7 +74,7 @@ pub(crate) fn turn(
             other,
         } => {
             integers::divide(kind, at, from, other, regs, to);
-            done()
+            Ok(None)
         }
         Operation::Go { offset } => jumps::take_go(offset, rows, regs, start, mem.len()),
         Operation::JumpLink { rd, offset } => {
@@ -156,27 +135,27 @@ pub(crate) fn turn(
         }
         Operation::Increment { at, from, offset } => {
             capabilities::increment(at, from, offset, regs, to);
-            done()
+            Ok(None)
         }
         Operation::Cut { at, from, length } => {
             capabilities::cut(at, from, length, regs, to);
-            done()
+            Ok(None)
         }
         Operation::Copy { at, from } => {
             capabilities::copy(at, from, regs, to);
-            done()
+            Ok(None)
         }
         Operation::SetAddress { at, from, other } => {
             capabilities::set_address(at, from, other, regs, to);
-            done()
+            Ok(None)
         }
         Operation::IncrementBy { at, from, other } => {
             capabilities::increment_by(at, from, other, regs, to);
-            done()
+            Ok(None)
         }
         Operation::Address { at, from } => {
             integers::put_any(at, registers::read(regs, from), regs, to);
-            done()
+            Ok(None)
         }
         Operation::LoadByte {
             kind,

@@ -11,57 +11,55 @@ use instructions::{
 };
 
 // The registers that a form names without a field: the stack's capability, and the link of a call.
-pub(crate) const SP: u32 = 2;
+const SP: u32 = 2;
 
-pub(crate) const RA: u32 = 1;
+const RA: u32 = 1;
 
 // An instruction that names a register by a full field.
-pub(crate) fn naming(n: u32, i: Instruction) -> Instruction
+fn naming(n: u32, i: Instruction) -> Instruction
     ensures { result ≡ naming_of n i }
 {
-    match n {
-        0..=LAST_REGISTER => return i,
-        _ => return Instruction::Illegal,
+    if n > LAST_REGISTER {
+        return Instruction::Illegal;
     }
+    i
 }
 
 // The register that a form writes whose source and destination are one: none where it would only be copied.
+#[tactic(auto, using(words::proofs::Tests::tests), unfolding(crate::specs::Long::unless_hint))]
 fn unless_hint(rd: u32, operand: u32) -> u32
     ensures { result ≡ unless_hint rd operand }
 {
-    match operand {
-        0 => return 0,
-        _ => return rd,
-    }
+    if operand == 0 { 0 } else { rd }
 }
 
 // An immediate operation on a register in place.
-pub(crate) fn in_place(op: Alu, rd: u32, value: u32) -> Instruction
+fn in_place(op: Alu, rd: u32, value: u32) -> Instruction
     ensures { result ≡ Instruction.Integer (IntegerInstruction.OpImm op (unless_hint rd value) rd value) }
 {
     op_imm(op, unless_hint(rd, value), rd, value)
 }
 
-pub(crate) fn op_imm(op: Alu, rd: u32, rs1: u32, value: u32) -> Instruction
+fn op_imm(op: Alu, rd: u32, rs1: u32, value: u32) -> Instruction
     ensures { result ≡ Instruction.Integer (IntegerInstruction.OpImm op rd rs1 value) }
 {
     Instruction::Integer(IntegerInstruction::OpImm { op, rd, rs1, value })
 }
 
-pub(crate) fn op(op: Alu, rd: u32, rs1: u32, rs2: u32) -> Instruction
+fn op(op: Alu, rd: u32, rs1: u32, rs2: u32) -> Instruction
     ensures { result ≡ Instruction.Integer (IntegerInstruction.Op op rd rs1 rs2) }
 {
     Instruction::Integer(IntegerInstruction::Op { op, rd, rs1, rs2 })
 }
 
-pub(crate) fn lui(rd: u32, value: u32) -> Instruction
+fn lui(rd: u32, value: u32) -> Instruction
     ensures { result ≡ Instruction.Integer (IntegerInstruction.Lui rd value) }
 {
     Instruction::Integer(IntegerInstruction::Lui { rd, value })
 }
 
 // The address of a capability moved on from the stack's.
-pub(crate) fn from_sp(rd: u32, value: u32) -> Instruction
+fn from_sp(rd: u32, value: u32) -> Instruction
     ensures { result ≡ Instruction.Capability (CapabilityInstruction.IncAddrImm rd 2 value) }
 {
     Instruction::Capability(CapabilityInstruction::IncAddrImm {
@@ -71,7 +69,7 @@ pub(crate) fn from_sp(rd: u32, value: u32) -> Instruction
     })
 }
 
-pub(crate) fn lw(rd: u32, rs1: u32, offset: u32) -> Instruction
+fn lw(rd: u32, rs1: u32, offset: u32) -> Instruction
     ensures { result ≡ Instruction.Memory (MemoryInstruction.Load LoadKind.Lw rd rs1 offset) }
 {
     Instruction::Memory(MemoryInstruction::Load {
@@ -82,13 +80,13 @@ pub(crate) fn lw(rd: u32, rs1: u32, offset: u32) -> Instruction
     })
 }
 
-pub(crate) fn clc(rd: u32, rs1: u32, offset: u32) -> Instruction
+fn clc(rd: u32, rs1: u32, offset: u32) -> Instruction
     ensures { result ≡ Instruction.Memory (MemoryInstruction.LoadCapability rd rs1 offset) }
 {
     Instruction::Memory(MemoryInstruction::LoadCapability { rd, rs1, offset })
 }
 
-pub(crate) fn sw(rs1: u32, rs2: u32, offset: u32) -> Instruction
+fn sw(rs1: u32, rs2: u32, offset: u32) -> Instruction
     ensures { result ≡ Instruction.Memory (MemoryInstruction.Store StoreKind.Sw rs1 rs2 offset) }
 {
     Instruction::Memory(MemoryInstruction::Store {
@@ -99,26 +97,26 @@ pub(crate) fn sw(rs1: u32, rs2: u32, offset: u32) -> Instruction
     })
 }
 
-pub(crate) fn csc(rs1: u32, rs2: u32, offset: u32) -> Instruction
+fn csc(rs1: u32, rs2: u32, offset: u32) -> Instruction
     ensures { result ≡ Instruction.Memory (MemoryInstruction.StoreCapability rs1 rs2 offset) }
 {
     Instruction::Memory(MemoryInstruction::StoreCapability { rs1, rs2, offset })
 }
 
-pub(crate) fn jal(rd: u32, offset: u32) -> Instruction
+fn jal(rd: u32, offset: u32) -> Instruction
     ensures { result ≡ Instruction.Jump (JumpInstruction.Jal rd offset) }
 {
     Instruction::Jump(JumpInstruction::Jal { rd, offset })
 }
 
-pub(crate) fn jalr(rd: u32, rs1: u32) -> Instruction
+fn jalr(rd: u32, rs1: u32) -> Instruction
     ensures { result ≡ Instruction.Jump (JumpInstruction.Jalr rd rs1 0) }
 {
     Instruction::Jump(JumpInstruction::Jalr { rd, rs1, offset: 0 })
 }
 
 // A comparison with c0.
-pub(crate) fn branch(kind: BranchKind, rs1: u32, offset: u32) -> Instruction
+fn branch(kind: BranchKind, rs1: u32, offset: u32) -> Instruction
     ensures { result ≡ Instruction.Jump (JumpInstruction.Branch kind rs1 0 offset) }
 {
     Instruction::Jump(JumpInstruction::Branch {
@@ -129,7 +127,9 @@ pub(crate) fn branch(kind: BranchKind, rs1: u32, offset: u32) -> Instruction
     })
 }
 
-pub fn meaning(s: ShortForm) -> Instruction
+// What a form is; for each engine, as short_form_for.
+#[tactic(auto, using(words::proofs::Tests::tests), unfolding(crate::specs::Meaning::meaning_of))]
+pub fn meaning_for<const KEPT: bool>(s: ShortForm) -> Instruction
     ensures { result ≡ meaning_of s }
 {
     match s {

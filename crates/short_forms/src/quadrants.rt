@@ -1,4 +1,5 @@
 // The form that a half is, a quadrant at a time, in the order of the standard's tables. An arm of a match returns at once.
+// Both engines have quadrants of their own, of the same leaves: see short_form_for.
 ghost use Rattle.std.specs.Prelude.{◌≡◌};
 ghost use Rattle.short_forms.specs.Forms.{addi4spn_of, quadrant0, addi16sp_of, upper_of, two_of, arithmetic_of, quadrant1, slli_of, lwsp_of, ldsp_of};
 ghost use Rattle.short_forms.specs.Forms.{moves_of, adds_of};
@@ -12,7 +13,8 @@ use crate::immediates::{
 };
 
 // Quadrant 0.
-pub(crate) fn addi4spn(rd: u32, value: u32) -> ShortForm
+#[tactic(auto, using(words::proofs::Tests::tests), unfolding(crate::specs::Forms::addi4spn_of))]
+fn addi4spn(rd: u32, value: u32) -> ShortForm
     ensures { result ≡ addi4spn_of rd value }
 {
     match value {
@@ -21,7 +23,8 @@ pub(crate) fn addi4spn(rd: u32, value: u32) -> ShortForm
     }
 }
 
-pub(crate) fn quadrant_0(h: u32) -> ShortForm
+#[tactic(auto, using(words::proofs::Tests::tests), unfolding(crate::specs::Forms::quadrant0))]
+pub(crate) fn quadrant_0<const KEPT: bool>(h: u32) -> ShortForm
     ensures { result ≡ quadrant0 h }
 {
     let low = 8 + h / 4 % 8;
@@ -53,7 +56,8 @@ pub(crate) fn quadrant_0(h: u32) -> ShortForm
 }
 
 // Quadrant 1.
-pub(crate) fn addi16sp(value: u32) -> ShortForm
+#[tactic(auto, using(words::proofs::Tests::tests), unfolding(crate::specs::Forms::addi16sp_of))]
+fn addi16sp(value: u32) -> ShortForm
     ensures { result ≡ addi16sp_of value }
 {
     match value {
@@ -62,7 +66,8 @@ pub(crate) fn addi16sp(value: u32) -> ShortForm
     }
 }
 
-pub(crate) fn upper(rd: u32, value: u32) -> ShortForm
+#[tactic(auto, using(words::proofs::Tests::tests), unfolding(crate::specs::Forms::upper_of))]
+fn upper(rd: u32, value: u32) -> ShortForm
     ensures { result ≡ upper_of rd value }
 {
     match value {
@@ -71,6 +76,7 @@ pub(crate) fn upper(rd: u32, value: u32) -> ShortForm
     }
 }
 
+#[tactic(auto, using(words::proofs::Tests::tests), unfolding(crate::specs::Forms::two_of))]
 fn two(f2: u32, rd: u32, rs2: u32) -> ShortForm
     ensures { result ≡ two_of f2 rd rs2 }
 {
@@ -83,7 +89,8 @@ fn two(f2: u32, rd: u32, rs2: u32) -> ShortForm
 }
 
 // Bit 12, then bits 11 and 10: a shift by 32 or more and the forms on 32 bits of 64 are none here.
-pub(crate) fn arithmetic(f: u32, f2: u32, rd: u32, rs2: u32, shamt: u32, value: u32) -> ShortForm
+#[tactic(auto, using(words::proofs::Tests::tests), unfolding(crate::specs::Forms::arithmetic_of))]
+fn arithmetic(f: u32, f2: u32, rd: u32, rs2: u32, shamt: u32, value: u32) -> ShortForm
     ensures { result ≡ arithmetic_of f f2 rd rs2 shamt value }
 {
     match f {
@@ -96,7 +103,8 @@ pub(crate) fn arithmetic(f: u32, f2: u32, rd: u32, rs2: u32, shamt: u32, value: 
     }
 }
 
-pub(crate) fn quadrant_1(h: u32) -> ShortForm
+#[tactic(auto, using(words::proofs::Tests::tests), unfolding(crate::specs::Forms::quadrant1))]
+pub(crate) fn quadrant_1<const KEPT: bool>(h: u32) -> ShortForm
     ensures { result ≡ quadrant1 h }
 {
     let rd = h / 128 % 32;
@@ -137,7 +145,8 @@ pub(crate) fn quadrant_1(h: u32) -> ShortForm
 }
 
 // Quadrant 2.
-pub(crate) fn slli(f: u32, rd: u32, shamt: u32) -> ShortForm
+#[tactic(auto, using(words::proofs::Tests::tests), unfolding(crate::specs::Forms::slli_of))]
+fn slli(f: u32, rd: u32, shamt: u32) -> ShortForm
     ensures { result ≡ slli_of f rd shamt }
 {
     match f {
@@ -146,7 +155,8 @@ pub(crate) fn slli(f: u32, rd: u32, shamt: u32) -> ShortForm
     }
 }
 
-pub(crate) fn lwsp(rd: u32, offset: u32) -> ShortForm
+#[tactic(auto, using(words::proofs::Tests::tests), unfolding(crate::specs::Forms::lwsp_of))]
+fn lwsp(rd: u32, offset: u32) -> ShortForm
     ensures { result ≡ lwsp_of rd offset }
 {
     match rd {
@@ -155,7 +165,8 @@ pub(crate) fn lwsp(rd: u32, offset: u32) -> ShortForm
     }
 }
 
-pub(crate) fn ldsp(rd: u32, offset: u32) -> ShortForm
+#[tactic(auto, using(words::proofs::Tests::tests), unfolding(crate::specs::Forms::ldsp_of))]
+fn ldsp(rd: u32, offset: u32) -> ShortForm
     ensures { result ≡ ldsp_of rd offset }
 {
     match rd {
@@ -164,6 +175,7 @@ pub(crate) fn ldsp(rd: u32, offset: u32) -> ShortForm
     }
 }
 
+#[tactic(auto, using(words::proofs::Tests::tests), unfolding(crate::specs::Forms::moves_of))]
 fn moves(rd: u32, rs2: u32) -> ShortForm
     ensures { result ≡ moves_of rd rs2 }
 {
@@ -176,6 +188,7 @@ fn moves(rd: u32, rs2: u32) -> ShortForm
     }
 }
 
+#[tactic(auto, using(words::proofs::Tests::tests), unfolding(crate::specs::Forms::adds_of))]
 fn adds(rd: u32, rs2: u32) -> ShortForm
     ensures { result ≡ adds_of rd rs2 }
 {
@@ -188,7 +201,8 @@ fn adds(rd: u32, rs2: u32) -> ShortForm
     }
 }
 
-pub(crate) fn registers(f: u32, rd: u32, rs2: u32) -> ShortForm
+#[tactic(auto, using(words::proofs::Tests::tests), unfolding(crate::specs::Forms::registers_of))]
+fn registers(f: u32, rd: u32, rs2: u32) -> ShortForm
     ensures { result ≡ registers_of f rd rs2 }
 {
     match f {
@@ -197,7 +211,8 @@ pub(crate) fn registers(f: u32, rd: u32, rs2: u32) -> ShortForm
     }
 }
 
-pub(crate) fn quadrant_2(h: u32) -> ShortForm
+#[tactic(auto, using(words::proofs::Tests::tests), unfolding(crate::specs::Forms::quadrant2))]
+pub(crate) fn quadrant_2<const KEPT: bool>(h: u32) -> ShortForm
     ensures { result ≡ quadrant2 h }
 {
     let rd = h / 128 % 32;

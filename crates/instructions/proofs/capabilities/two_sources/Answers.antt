@@ -1,19 +1,12 @@
--- The row that is selected, or none; or the second source is no register.
-use Rattle.instructions.proofs.Rows.{row_is, row_none, row_illegal}
+-- The row that is selected; or the second source is no register. That there is no row is found.
+use Rattle.std.proofs.Common.{arith}
+use Rattle.instructions.proofs.Rows.{row_is, row_illegal}
 use Rattle.instructions.proofs.capabilities.two_sources.Goals as goal
 
--- a row
-pub returns-in-Is : goal.returns-in-Is
-returns-in-Is c =
-    let a = c.args in
-    row_is a.f7 a.rd a.rs1 a.rs2 _ (rw c.in-Is.is at c.selected-selection.ensures) c.in-0-to-15.if-rs2-lt16-own.true
-
--- none
-pub returns-in-Nothing : goal.returns-in-Nothing
-returns-in-Nothing c =
-    let a = c.args in
-    row_none a.f7 a.rd a.rs1 a.rs2 (rw c.in-Nothing.is at c.selected-selection.ensures)
-
 -- no register
-pub returns-in_default : goal.returns-in_default
-returns-in_default c = let a = c.args in row_illegal a.f7 a.rd a.rs1 a.rs2 c.in_default.if-rs2-lt16-own.false
+pub returns-then-rs2-gt-LAST_REGISTER : goal.returns-then-rs2-gt-LAST_REGISTER
+returns-then-rs2-gt-LAST_REGISTER g c = let a = c.args in row_illegal a.f7 a.rd a.rs1 a.rs2 (omega arith)
+
+-- a row
+pub returns-in-Some : goal.returns-in-Some
+returns-in-Some g c = let a = c.args in row_is a.f7 a.rd a.rs1 a.rs2 _ c.in-Some.ensures (omega arith)

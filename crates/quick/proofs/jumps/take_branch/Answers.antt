@@ -1,4 +1,5 @@
 -- Taken, it is a jump; not taken, PCC goes on.
+use Rattle.std.proofs.Common.{refl}
 use Rattle.quick.proofs.Targets.{branch_turned, branch_passed}
 use Rattle.quick.proofs.Steady.{steady_on, went_steady}
 use Rattle.quick.proofs.jumps.take_branch.Goals as goal
@@ -30,11 +31,10 @@ returns c =
     let read = c.read-a in
     let if1 = c.if-is_taken in
     let go_on = c.go_on in
-    let done = c.done in
     let pre = c.requires in
     let a = args in
     let passes = rw (is-taken.ensures, read2.ensures, read.ensures) at if1.false in (
-      rw (go_on.ensures, done.ensures)
+      rw go_on.ensures
           (branch_passed a.regs.now a.start a.offset a.to a.kind a.from a.other passes),
-      rw done.ensures (steady_on a.regs.now _ a.to pre.0 go_on.ensures),
+      steady_on a.regs.now _ a.to pre.0 go_on.ensures,
     )

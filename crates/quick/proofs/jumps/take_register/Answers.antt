@@ -7,22 +7,22 @@ use Rattle.quick.proofs.jumps.take_register.Goals as goal
 pub returns-then-open-word : goal.returns-then-open-word
 returns-then-open-word c =
     let a = c.args in
-    register_left a.regs.now a.start a.edition a.rd a.rs1 a.offset a.next c.left.result c.left.ensures
+    register_left a.regs.now a.start a.edition a.rd a.rs1 a.offset a.next _ refl
 
 pub returns-then-not-has : goal.returns-then-not-has
 returns-then-not-has c =
     let a = c.args in
-    register_left a.regs.now a.start a.edition a.rd a.rs1 a.offset a.next c.left-then-not-has.result c.left-then-not-has.ensures
+    register_left a.regs.now a.start a.edition a.rd a.rs1 a.offset a.next _ refl
 
 pub returns-then-not-is_entered : goal.returns-then-not-is_entered
 returns-then-not-is_entered c =
     let a = c.args in
-    register_left a.regs.now a.start a.edition a.rd a.rs1 a.offset a.next c.left-then-not-is_entered.result c.left-then-not-is_entered.ensures
+    register_left a.regs.now a.start a.edition a.rd a.rs1 a.offset a.next _ refl
 
 pub returns-then-jump_status-mstatus : goal.returns-then-jump_status-mstatus
 returns-then-jump_status-mstatus c =
     let a = c.args in
-    register_left a.regs.now a.start a.edition a.rd a.rs1 a.offset a.next c.left-then-jump_status-mstatus.result c.left-then-jump_status-mstatus.ensures
+    register_left a.regs.now a.start a.edition a.rd a.rs1 a.offset a.next _ refl
 
 pub write-requires : goal.write-requires
 write-requires c =
@@ -37,7 +37,6 @@ returns c =
     let has = c.has in
     let if2 = c.if-not-has in
     let pre = c.requires in
-    let done = c.done in
     let place_of = c.place_of in
     let if1 = c.if-open-word in
     let is-entered = c.is_entered in
@@ -54,7 +53,7 @@ returns c =
     let bare = with-object-type.ensures in
     let there = rw bare at (has.ensures (passed _ if2.false-raw)) in
     let reach = reached _ _ _ 96 _ _ _ pre.1 (omega arith) refl there.0 there.1 (omega (arith, sum)) there.2 in
-    register_turned a.regs.now _ a.start a.size a.edition a.rd a.rs1 a.offset a.next _ _ _ held.result done.result
-    pre.0 done.ensures held.ensures place_of.ensures (ap (λ (x : ℕ). x / 2 * 2) sum) (rw bare at if1.false) reach
+    register_turned a.regs.now _ a.start a.size a.edition a.rd a.rs1 a.offset a.next _ _ _ held.result _
+    pre.0 refl held.ensures place_of.ensures (ap (λ (x : ℕ). x / 2 * 2) sum) (rw bare at if1.false) reach
     (is-entered.ensures (passed _ if3.false-raw)) (rw otype.ensures.0 at (sym jump-status.ensures ∙ if4.false)) place-of2.ensures
     (rw link_at.ensures at write.ensures)

@@ -1,5 +1,5 @@
 -- Out of reach nothing is done; else the byte at the place, by its kind, is written.
-use Rattle.std.proofs.Common.{sym, arith}
+use Rattle.std.proofs.Common.{refl, sym, arith}
 use Rattle.quick.proofs.Accesses.{load_stays, load_done, byte_width, byte_aligned}
 use Rattle.quick.proofs.Reach.{passed, right_load}
 use Rattle.quick.proofs.memory.take_byte.Goals as goal
@@ -10,7 +10,7 @@ reaches-requires c =
     (omega (arith, p.2.0), p.2.1, right_load _ p.2.0, p.3)
 
 pub returns-then-not-reaches : goal.returns-then-not-reaches
-returns-then-not-reaches c = (c.reaches.ensures.0, load_stays _ _ _ _ _ _ _ _ _ c.not_done.ensures)
+returns-then-not-reaches c = (c.reaches.ensures.0, load_stays _ _ _ _ _ _ _ _ _ refl)
 
 pub overflow_sub-address : goal.overflow_sub-address
 overflow_sub-address c =
@@ -28,11 +28,10 @@ returns c =
     let byte-value = c.byte_value-v in
     let integer = c.integer in
     let write = c.write in
-    let done = c.done in
     let kind = args.kind in
     let one = pre.4 in (
       reaches.ensures.0,
       load_done _ _ _ _ _ _ _ _ _ _ _ _ _ _ _ read-capability.ensures wrapping-add-u32.ensures.value (sym (byte_width kind one))
           (byte_aligned kind _ one) (reaches.ensures.1 (passed _ if1.false-raw)) byte-value.ensures integer.ensures
-          write.ensures done.ensures,
+          write.ensures refl,
     )

@@ -1,12 +1,12 @@
 -- Misaligned or out of reach nothing is done; else what the plain step's checks let through is loaded, filtered and written.
 use Rattle.quick.proofs.Accesses.{load_capability_stays, load_capability_done}
 use Rattle.quick.proofs.Reach.{passed, right_load}
-use Rattle.std.proofs.Common.{arith}
+use Rattle.std.proofs.Common.{refl, arith}
 use Rattle.quick.proofs.memory.take_load_capability.Goals as goal
 
 pub returns-then-address-ne0 : goal.returns-then-address-ne0
 returns-then-address-ne0 c =
-    (c.requires.3, load_capability_stays _ _ _ _ _ _ _ c.not_done.ensures)
+    (c.requires.3, load_capability_stays _ _ _ _ _ _ _ refl)
 
 pub reaches-requires : goal.reaches-requires
 reaches-requires c =
@@ -16,7 +16,7 @@ reaches-requires c =
 pub returns-then-not-reaches : goal.returns-then-not-reaches
 returns-then-not-reaches c =
     let reaches = c.reaches in
-    (reaches.ensures.0, load_capability_stays _ _ _ _ _ _ _ c.not_done-then-not-reaches.ensures)
+    (reaches.ensures.0, load_capability_stays _ _ _ _ _ _ _ refl)
 
 pub overflow_sub-address : goal.overflow_sub-address
 overflow_sub-address c =
@@ -40,5 +40,5 @@ returns c =
     let read-capability = c.read_capability-c in (
       reaches.ensures.0,
       load_capability_done _ _ _ _ _ _ _ _ _ _ _ _ _ _ _ _ read-capability.ensures wrapping-add-u32.ensures.value if1.false
-          (reaches.ensures.1 (passed _ if2.false-raw)) capability-in.ensures loaded.ensures unrevoked.ensures write.ensures c.done.ensures,
+          (reaches.ensures.1 (passed _ if2.false-raw)) capability-in.ensures loaded.ensures unrevoked.ensures write.ensures refl,
     )

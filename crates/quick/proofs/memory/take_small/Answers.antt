@@ -1,12 +1,12 @@
 -- Misaligned or out of reach nothing is done; else one or two bytes at the place, by their kind, are written.
 use Rattle.quick.proofs.Accesses.{load_stays, load_done}
 use Rattle.quick.proofs.Reach.{passed, right_load}
-use Rattle.std.proofs.Common.{arith}
+use Rattle.std.proofs.Common.{refl, arith}
 use Rattle.quick.proofs.memory.take_small.Goals as goal
 
 pub returns-then-not-is_small_aligned : goal.returns-then-not-is_small_aligned
 returns-then-not-is_small_aligned c =
-    (c.requires.3, load_stays _ _ _ _ _ _ _ _ _ c.not_done.ensures)
+    (c.requires.3, load_stays _ _ _ _ _ _ _ _ _ refl)
 
 pub reaches-requires : goal.reaches-requires
 reaches-requires c =
@@ -16,7 +16,7 @@ reaches-requires c =
 pub returns-then-not-reaches : goal.returns-then-not-reaches
 returns-then-not-reaches c =
     let reaches = c.reaches in
-    (reaches.ensures.0, load_stays _ _ _ _ _ _ _ _ _ c.not_done-then-not-reaches.ensures)
+    (reaches.ensures.0, load_stays _ _ _ _ _ _ _ _ _ refl)
 
 pub overflow_sub-address : goal.overflow_sub-address
 overflow_sub-address c =
@@ -38,5 +38,5 @@ returns c =
       reaches.ensures.0,
       load_done _ _ _ _ _ _ _ _ _ _ _ _ _ _ _ read-capability.ensures wrapping-add-u32.ensures.value load-width.ensures
           (is-small-aligned.ensures (passed _ if1.false-raw)) (reaches.ensures.1 (passed _ if2.false-raw)) small-value.ensures integer.ensures
-          write.ensures c.done.ensures,
+          write.ensures refl,
     )

@@ -1,6 +1,6 @@
 -- Misaligned, not to be held or out of reach the store is left; else the plain store is done, the mark set, PCC goes on.
 use Rattle.quick.proofs.Onward.{long_marked}
-use Rattle.std.proofs.Common.{ℕ, List, length, ap, ◌∙◌, arith}
+use Rattle.std.proofs.Common.{refl, ℕ, List, length, ap, ◌∙◌, arith}
 use Rattle.quick.proofs.Accesses.{store_capability_stays, store_capability_done}
 use Rattle.quick.proofs.Reach.{passed, right_store}
 use Rattle.quick.proofs.memory.take_store_capability.Goals as goal
@@ -12,7 +12,7 @@ returns-then-address-ne0 c =
     let read-capability = c.read_capability-c in (
       c.requires.3,
       store_capability_stays _ _ _ _ _ _ _ read-capability.ensures wrapping-add-u32.ensures.value
-          (omega (arith, wrapping-sub-u32.type_inv)) wrapping-sub-u32.ensures.value _ _ _ _ _ c.left.ensures,
+          (omega (arith, wrapping-sub-u32.type_inv)) wrapping-sub-u32.ensures.value _ _ _ _ _ refl,
     )
 
 pub returns-then-not-may_hold : goal.returns-then-not-may_hold
@@ -22,7 +22,7 @@ returns-then-not-may_hold c =
     let read-capability = c.read_capability-c in (
       c.requires.3,
       store_capability_stays _ _ _ _ _ _ _ read-capability.ensures wrapping-add-u32.ensures.value
-          (omega (arith, wrapping-sub-u32.type_inv)) wrapping-sub-u32.ensures.value _ _ _ _ _ c.left-then-not-may_hold.ensures,
+          (omega (arith, wrapping-sub-u32.type_inv)) wrapping-sub-u32.ensures.value _ _ _ _ _ refl,
     )
 
 pub reaches-requires : goal.reaches-requires
@@ -38,7 +38,7 @@ returns-then-not-reaches c =
     let read-capability = c.read_capability-c in (
       reaches.ensures.0,
       store_capability_stays _ _ _ _ _ _ _ read-capability.ensures wrapping-add-u32.ensures.value
-          (omega (arith, wrapping-sub-u32.type_inv)) wrapping-sub-u32.ensures.value _ _ _ _ _ c.left-then-not-reaches.ensures,
+          (omega (arith, wrapping-sub-u32.type_inv)) wrapping-sub-u32.ensures.value _ _ _ _ _ refl,
     )
 
 pub go_on-requires : goal.go_on-requires
@@ -65,5 +65,5 @@ returns c =
           (omega (arith, wrapping-sub-u32.type_inv)) wrapping-sub-u32.ensures.value _ _ _ _ _ _ _ _ _ _ read-capability2.ensures if1.false
           (may-hold.ensures (passed _ if2.false-raw))
           (reaches.ensures.1 (passed _ if3.false-raw)) store-capability.ensures.0 store-capability.ensures.1 mark.ensures go_on.ensures
-          c.done.ensures,
+          refl,
     )

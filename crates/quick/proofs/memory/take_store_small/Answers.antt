@@ -1,6 +1,6 @@
 -- Misaligned or out of reach the store is left with its width; else its bytes are put, the tag cleared, the mark set, then on.
 use Rattle.quick.proofs.Onward.{long_marked}
-use Rattle.std.proofs.Common.{ℕ, List, length, ap, ◌∙◌, arith}
+use Rattle.std.proofs.Common.{refl, ℕ, List, length, ap, ◌∙◌, arith}
 use Rattle.quick.proofs.Accesses.{store_stays, store_done}
 use Rattle.quick.proofs.Reach.{passed, right_store}
 use Rattle.quick.proofs.memory.take_store_small.Goals as goal
@@ -13,7 +13,7 @@ returns-then-not-is_small_store c =
     let read-capability = c.read_capability-c in (
       c.requires.3,
       store_stays _ _ _ _ _ _ _ read-capability.ensures wrapping-add-u32.ensures.value
-          (omega (arith, wrapping-sub-u32.type_inv)) wrapping-sub-u32.ensures.value _ _ _ _ _ _ _ store_width_lem.ensures c.left.ensures,
+          (omega (arith, wrapping-sub-u32.type_inv)) wrapping-sub-u32.ensures.value _ _ _ _ _ _ _ store_width_lem.ensures refl,
     )
 
 pub reaches-requires : goal.reaches-requires
@@ -30,7 +30,7 @@ returns-then-not-reaches c =
     let read-capability = c.read_capability-c in (
       reaches.ensures.0,
       store_stays _ _ _ _ _ _ _ read-capability.ensures wrapping-add-u32.ensures.value
-          (omega (arith, wrapping-sub-u32.type_inv)) wrapping-sub-u32.ensures.value _ _ _ _ _ _ _ store_width_lem.ensures c.left-then-not-reaches.ensures,
+          (omega (arith, wrapping-sub-u32.type_inv)) wrapping-sub-u32.ensures.value _ _ _ _ _ _ _ store_width_lem.ensures refl,
     )
 
 pub go_on-requires : goal.go_on-requires
@@ -57,5 +57,5 @@ returns c =
       store_done _ _ _ _ _ _ _ read-capability.ensures wrapping-add-u32.ensures.value
           (omega (arith, wrapping-sub-u32.type_inv)) wrapping-sub-u32.ensures.value _ _ _ _ _ _ _ _ _ _ _ _ store_width_lem.ensures read.ensures
           (is-small-store.ensures (passed _ if1.false-raw))
-          (reaches.ensures.1 (passed _ if2.false-raw)) put_small.ensures clear-tag.ensures mark.ensures go_on.ensures c.done.ensures,
+          (reaches.ensures.1 (passed _ if2.false-raw)) put_small.ensures clear-tag.ensures mark.ensures go_on.ensures refl,
     )

@@ -11,7 +11,7 @@ returns-then-address-ne0 c =
     let read-capability = c.read_capability-c in (
       c.requires.3,
       store_stays _ _ _ _ _ _ _ read-capability.ensures wrapping-add-u32.ensures.value
-          (omega (arith, wrapping-sub-u32.type_inv)) wrapping-sub-u32.ensures.value _ _ _ _ _ _ _ refl c.left.ensures,
+          (omega (arith, wrapping-sub-u32.type_inv)) wrapping-sub-u32.ensures.value _ _ _ _ _ _ _ refl refl,
     )
 
 pub reaches-requires : goal.reaches-requires
@@ -27,7 +27,7 @@ returns-then-not-reaches c =
     let read-capability = c.read_capability-c in (
       reaches.ensures.0,
       store_stays _ _ _ _ _ _ _ read-capability.ensures wrapping-add-u32.ensures.value
-          (omega (arith, wrapping-sub-u32.type_inv)) wrapping-sub-u32.ensures.value _ _ _ _ _ _ _ refl c.left-then-not-reaches.ensures,
+          (omega (arith, wrapping-sub-u32.type_inv)) wrapping-sub-u32.ensures.value _ _ _ _ _ _ _ refl refl,
     )
 
 pub returns : goal.returns
@@ -46,5 +46,5 @@ returns c =
       reaches.ensures.0,
       store_done _ _ _ _ _ _ _ read-capability.ensures wrapping-add-u32.ensures.value
           (omega (arith, wrapping-sub-u32.type_inv)) wrapping-sub-u32.ensures.value _ _ _ _ _ _ _ _ _ _ _ _ refl read.ensures if1.false
-          (reaches.ensures.1 (passed _ if2.false-raw)) store32.ensures clear-tag.ensures mark.ensures go_on.ensures c.done.ensures,
+          (reaches.ensures.1 (passed _ if2.false-raw)) store32.ensures clear-tag.ensures mark.ensures go_on.ensures refl,
     )

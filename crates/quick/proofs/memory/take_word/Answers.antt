@@ -6,7 +6,7 @@ use Rattle.std.proofs.Common.{refl, arith}
 use Rattle.quick.proofs.memory.take_word.Goals as goal
 
 pub returns-then-address-ne0 : goal.returns-then-address-ne0
-returns-then-address-ne0 c = (c.requires.3, load_stays _ _ _ _ _ _ _ _ _ c.not_done.ensures)
+returns-then-address-ne0 c = (c.requires.3, load_stays _ _ _ _ _ _ _ _ _ refl)
 
 pub reaches-requires : goal.reaches-requires
 reaches-requires c =
@@ -14,7 +14,7 @@ reaches-requires c =
     (omega (arith, p.2.0), p.2.1, right_load _ p.2.0, p.3)
 
 pub returns-then-not-reaches : goal.returns-then-not-reaches
-returns-then-not-reaches c = (c.reaches.ensures.0, load_stays _ _ _ _ _ _ _ _ _ c.not_done-then-not-reaches.ensures)
+returns-then-not-reaches c = (c.reaches.ensures.0, load_stays _ _ _ _ _ _ _ _ _ refl)
 
 pub overflow_sub-address : goal.overflow_sub-address
 overflow_sub-address c =
@@ -36,9 +36,8 @@ returns c =
     let if2 = c.if-not-reaches in
     let word_at_lem = c.word_at-v in
     let integer = c.integer in
-    let write = c.write in
-    let done = c.done in (
+    let write = c.write in (
       reaches.ensures.0,
       load_done _ _ _ _ _ _ _ _ _ _ _ _ _ _ _ read-capability.ensures wrapping-add-u32.ensures.value refl if1.false
-          (reaches.ensures.1 (passed _ if2.false-raw)) word_at_lem.ensures integer.ensures write.ensures done.ensures,
+          (reaches.ensures.1 (passed _ if2.false-raw)) word_at_lem.ensures integer.ensures write.ensures refl,
     )

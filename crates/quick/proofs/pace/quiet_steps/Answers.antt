@@ -17,16 +17,9 @@ returns-then-mie_of-eq0 c = (omega arith, inr (inl (sym c.mie_of.ensures ∙ c.i
 pub returns-then-compare-time : goal.returns-then-compare-time
 returns-then-compare-time c = (omega arith, inl refl)
 
-pub returns-then-left-most : goal.returns-then-left-most
-returns-then-left-most c = (
-  omega (arith, c.if-left-most.true),
-  inr (inr (before-compare c.args.regs.now c.long_of-time.result
-      c.long_of-compare.result _ c.long_of-time.ensures c.long_of-compare.ensures (omega (arith, c.if-compare-time.false)))),
-)
-
 pub returns : goal.returns
 returns c = (
-  omega arith,
+  omega (arith, c.min.ensures),
   inr (inr (before-compare c.args.regs.now c.long_of-time.result
-      c.long_of-compare.result _ c.long_of-time.ensures c.long_of-compare.ensures (omega (arith, c.if-compare-time.false, c.if-left-most.false)))),
+      c.long_of-compare.result _ c.long_of-time.ensures c.long_of-compare.ensures (omega (arith, c.if-compare-time.false, c.min.ensures)))),
 )

@@ -21,5 +21,5 @@ returns c =
     good_put _ _ _ _ _ _ _ p.0 p.1
     (row_filled _ _ _ _ _ _ (omega (arith, struct-known5.given, struct-known2.given)) (sym is-sealed.ensures ∙ if1.false)
     (rw (← p.2) (sym has_right.ensures ∙ passed _ if2.false-raw)) (rw (← low_is) if3.false) (rw (← high_is) if4.false)
-    (rw (← low_is) c.row_start.ensures.0) c.row_start.ensures.1 (rw (← high_is) c.row_end.ensures.0)
-    c.row_end.ensures.1) p.3
+    (omega (arith, low_is, c.max.ensures)) (omega (arith, c.max.ensures)) (omega (arith, high_is, c.min.ensures))
+    (omega (arith, c.min.ensures, c.saturating_add.ensures))) p.3

@@ -1,6 +1,7 @@
 -- Each arm's function leaves what the turn of its operation asks.
+use Rattle.std.proofs.Common.{refl}
 use Rattle.state.specs.Lent.{state}
-use Rattle.quick.proofs.Arms.{told, told_op, placed_as, by_plain, by_put, by_add, by_immediate, by_two, by_multiply, by_divide, by_go}
+use Rattle.quick.proofs.Arms.{told_op, placed_as, by_plain, by_put, by_add, by_immediate, by_two, by_multiply, by_divide, by_go}
 use Rattle.quick.proofs.Arms.{by_jump_link, by_jump_register}
 use Rattle.quick.proofs.Arms.{by_branch, by_load_word, by_load, by_load_byte, by_store_word, by_store, by_load_capability, by_store_capability}
 use Rattle.quick.proofs.Arms.{by_increment, by_cut, by_copy, by_set_address, by_increment_by, by_address}
@@ -119,7 +120,7 @@ take_byte-requires c =
 pub returns-in-Plain : goal.returns-in-Plain
 returns-in-Plain c = (
   c.requires.2,
-  told c.args.board _ _ _ _ _ _ _ _ c.in-Plain.is c.left.ensures
+  rw c.in-Plain.is
       (by_plain c.args.board c.args.revoked.now c.args.bytes
       (state c.args.regs.now c.args.mem.now c.args.tags.now)),
 )
@@ -130,13 +131,12 @@ returns-in-Put c =
     let put = c.put in
     let pre = c.requires in
     let args = c.args in
-    let done = c.done in
     let sum = wrapping-add-u32 in
     let is-op = c.in-Put.is in
     let call = put in
     let pl = placed_as _ _ is-op pre.1 in (
       pre.2,
-      told args.board _ _ _ _ _ _ _ _ is-op done.ensures
+      rw is-op
           (by_put args.board args.revoked.now args.regs.now args.mem.now args.tags.now
           args.bytes sum.result sum.ensures.value
           _ _ pl.0 _ call.ensures),
@@ -148,13 +148,12 @@ returns-in-AddImmediate c =
     let add-immediate = c.add_immediate in
     let pre = c.requires in
     let args = c.args in
-    let done2 = c.done-in-AddImmediate in
     let sum = wrapping-add-u32 in
     let is-op = c.in-AddImmediate.is in
     let call = add-immediate in
     let pl = placed_as _ _ is-op pre.1 in (
       pre.2,
-      told args.board _ _ _ _ _ _ _ _ is-op done2.ensures
+      rw is-op
           (by_add args.board args.revoked.now args.regs.now args.mem.now args.tags.now
           args.bytes sum.result sum.ensures.value
           _ _ pl.0.0 _ _ call.ensures),
@@ -166,13 +165,12 @@ returns-in-Immediate c =
     let immediate = c.immediate in
     let pre = c.requires in
     let args = c.args in
-    let done3 = c.done-in-Immediate in
     let sum = wrapping-add-u32 in
     let is-op = c.in-Immediate.is in
     let call = immediate in
     let pl = placed_as _ _ is-op pre.1 in (
       pre.2,
-      told args.board _ _ _ _ _ _ _ _ is-op done3.ensures
+      rw is-op
           (by_immediate args.board args.revoked.now args.regs.now args.mem.now args.tags.now
           args.bytes sum.result sum.ensures.value
           _ _ pl.0.0 _ _ _ call.ensures),
@@ -184,13 +182,12 @@ returns-in-Two c =
     let two = c.two in
     let pre = c.requires in
     let args = c.args in
-    let done4 = c.done-in-Two in
     let sum = wrapping-add-u32 in
     let is-op = c.in-Two.is in
     let call = two in
     let pl = placed_as _ _ is-op pre.1 in (
       pre.2,
-      told args.board _ _ _ _ _ _ _ _ is-op done4.ensures
+      rw is-op
           (by_two args.board args.revoked.now args.regs.now args.mem.now args.tags.now
           args.bytes sum.result sum.ensures.value
           _ _ pl.0.0 _ _ _ call.ensures),
@@ -202,13 +199,12 @@ returns-in-Multiply c =
     let multiply = c.multiply in
     let pre = c.requires in
     let args = c.args in
-    let done5 = c.done-in-Multiply in
     let sum = wrapping-add-u32 in
     let is-op = c.in-Multiply.is in
     let call = multiply in
     let pl = placed_as _ _ is-op pre.1 in (
       pre.2,
-      told args.board _ _ _ _ _ _ _ _ is-op done5.ensures
+      rw is-op
           (by_multiply args.board args.revoked.now args.regs.now args.mem.now args.tags.now
           args.bytes sum.result sum.ensures.value
           _ _ pl.0.0 _ _ _ call.ensures),
@@ -220,13 +216,12 @@ returns-in-Divide c =
     let divide = c.divide in
     let pre = c.requires in
     let args = c.args in
-    let done6 = c.done-in-Divide in
     let sum = wrapping-add-u32 in
     let is-op = c.in-Divide.is in
     let call = divide in
     let pl = placed_as _ _ is-op pre.1 in (
       pre.2,
-      told args.board _ _ _ _ _ _ _ _ is-op done6.ensures
+      rw is-op
           (by_divide args.board args.revoked.now args.regs.now args.mem.now args.tags.now
           args.bytes sum.result sum.ensures.value
           _ _ pl.0.0 _ _ _ call.ensures),
@@ -409,13 +404,12 @@ returns-in-Increment c =
     let increment = c.increment in
     let pre = c.requires in
     let args = c.args in
-    let done7 = c.done-in-Increment in
     let sum = wrapping-add-u32 in
     let is-op = c.in-Increment.is in
     let call = increment in
     let pl = placed_as _ _ is-op pre.1 in (
       pre.2,
-      told args.board _ _ _ _ _ _ _ _ is-op done7.ensures
+      rw is-op
           (by_increment args.board args.revoked.now args.regs.now args.mem.now args.tags.now
           args.bytes sum.result sum.ensures.value
           _ _ pl.0.0 _ _ call.ensures),
@@ -427,13 +421,12 @@ returns-in-Cut c =
     let cut = c.cut in
     let pre = c.requires in
     let args = c.args in
-    let done8 = c.done-in-Cut in
     let sum = wrapping-add-u32 in
     let is-op = c.in-Cut.is in
     let call = cut in
     let pl = placed_as _ _ is-op pre.1 in (
       pre.2,
-      told args.board _ _ _ _ _ _ _ _ is-op done8.ensures
+      rw is-op
           (by_cut args.board args.revoked.now args.regs.now args.mem.now args.tags.now
           args.bytes sum.result sum.ensures.value
           _ _ pl.0.0 _ _ call.ensures),
@@ -445,13 +438,12 @@ returns-in-Copy c =
     let copy = c.copy in
     let pre = c.requires in
     let args = c.args in
-    let done9 = c.done-in-Copy in
     let sum = wrapping-add-u32 in
     let is-op = c.in-Copy.is in
     let call = copy in
     let pl = placed_as _ _ is-op pre.1 in (
       pre.2,
-      told args.board _ _ _ _ _ _ _ _ is-op done9.ensures
+      rw is-op
           (by_copy args.board args.revoked.now args.regs.now args.mem.now args.tags.now
           args.bytes sum.result sum.ensures.value
           _ _ pl.0.0 _ call.ensures),
@@ -463,13 +455,12 @@ returns-in-SetAddress c =
     let set-address = c.set_address in
     let pre = c.requires in
     let args = c.args in
-    let done10 = c.done-in-SetAddress in
     let sum = wrapping-add-u32 in
     let is-op = c.in-SetAddress.is in
     let call = set-address in
     let pl = placed_as _ _ is-op pre.1 in (
       pre.2,
-      told args.board _ _ _ _ _ _ _ _ is-op done10.ensures
+      rw is-op
           (by_set_address args.board args.revoked.now args.regs.now args.mem.now args.tags.now
           args.bytes sum.result sum.ensures.value
           _ _ pl.0.0 _ _ call.ensures),
@@ -481,13 +472,12 @@ returns-in-IncrementBy c =
     let increment-by = c.increment_by in
     let pre = c.requires in
     let args = c.args in
-    let done11 = c.done-in-IncrementBy in
     let sum = wrapping-add-u32 in
     let is-op = c.in-IncrementBy.is in
     let call = increment-by in
     let pl = placed_as _ _ is-op pre.1 in (
       pre.2,
-      told args.board _ _ _ _ _ _ _ _ is-op done11.ensures
+      rw is-op
           (by_increment_by args.board args.revoked.now args.regs.now args.mem.now args.tags.now
           args.bytes sum.result sum.ensures.value
           _ _ pl.0.0 _ _ call.ensures),
@@ -500,7 +490,7 @@ returns-in-Address c =
     let call = c.put_any in
     let pl = placed_as _ _ is-op c.requires.1 in (
       c.requires.2,
-      told c.args.board _ _ _ _ _ _ _ _ is-op c.done-in-Address.ensures
+      rw is-op
           (by_address c.args.board c.args.revoked.now c.args.regs.now c.args.mem.now c.args.tags.now
           c.args.bytes sum.result sum.ensures.value
           _ _ pl.0.0 _ (rw c.read.ensures at call.ensures)),

@@ -2,7 +2,7 @@
 use mathlib.Core.Path.{sym, ap, ◌∙◌}
 use Rattle.short_forms.specs.Meaning.{meaning_of}
 use Rattle.short_forms.proofs.Laws.{half_means}
-use Rattle.short_forms.proofs.instruction_of.Goals as goal
+use Rattle.short_forms.proofs.instruction_for.Goals as goal
 
 pub returns : goal.returns
-returns c = c.meaning.ensures ∙ ap meaning_of c.short_form.ensures ∙ sym (half_means _)
+returns g c = c.meaning_for.ensures ∙ ap meaning_of c.short_form_for.ensures ∙ sym (half_means _)
