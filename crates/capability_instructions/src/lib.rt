@@ -2,7 +2,6 @@
 #![tactic(auto)]
 
 ghost use Rattle.std.specs.Prelude.{◌≡◌};
-ghost use Rattle.capability.specs.Capability.{low, high};
 ghost use Rattle.capability_instructions.specs.Derivation.{moved_by, at_most_word, length_of, inspected, subset, equal_exact, truth, combined};
 ghost use Rattle.capability_instructions.specs.Derivation.{capability_effect};
 
@@ -30,26 +29,11 @@ fn moved_by(c: Capability, offset: u32) -> Capability
 fn at_most_word(x: u64) -> u32
     ensures { result ≡ at_most_word x }
 {
-    if x <= LARGEST_WORD as u64 {
-        x as u32
-    } else {
-        LARGEST_WORD
-    }
-}
-
-fn low_of(c: Capability) -> u32
-    ensures { result ≡ low c }
-{
-    capability::bounds_of(c).low
-}
-
-fn high_of(c: Capability) -> u64
-    ensures { result ≡ high c }
-{
-    capability::bounds_of(c).high
+    u32::try_from(x).unwrap_or(LARGEST_WORD)
 }
 
 // The 33-bit length of a capability.
+#[tactic(auto, unfolding(crate::specs::Derivation::length_of))]
 fn length_of(c: Capability) -> u64
     ensures { result ≡ length_of c }
 {
@@ -58,24 +42,26 @@ fn length_of(c: Capability) -> u64
 }
 
 // The number that an inspection gives.
+#[tactic(auto, unfolding(crate::specs::Derivation::inspected))]
 fn inspect(what: Inspection, c: Capability) -> u32
     ensures { result ≡ inspected what c }
 {
     match what {
         Inspection::GetPerm => capability::indexed_rights(c),
         Inspection::GetType => capability::object_type(c),
-        Inspection::GetBase => low_of(c),
+        Inspection::GetBase => capability::bounds_of(c).low,
         Inspection::GetLen => at_most_word(length_of(c)),
         Inspection::GetTag => c.tag,
         Inspection::RoundLength => bounds::representable_length(c.address),
         Inspection::AlignmentMask => bounds::alignment_mask(c.address),
         Inspection::GetAddr => c.address,
         Inspection::GetHigh => c.metadata,
-        Inspection::GetTop => at_most_word(high_of(c)),
+        Inspection::GetTop => at_most_word(capability::bounds_of(c).high),
     }
 }
 
 // Whether the bounds and rights of d are within those of c, and the tags equal.
+#[tactic(auto, unfolding(crate::specs::Derivation::subset))]
 fn is_subset(c: Capability, d: Capability) -> bool
     ensures { result ≡ subset c d }
 {
@@ -91,6 +77,7 @@ fn is_subset(c: Capability, d: Capability) -> bool
 }
 
 // Whether all three words are equal.
+#[tactic(auto, unfolding(crate::specs::Derivation::equal_exact))]
 fn is_equal(c: Capability, d: Capability) -> bool
     ensures { result ≡ equal_exact c d }
 {
@@ -107,18 +94,8 @@ fn truth_of(b: bool) -> Capability
     capability::integer(choices::one_if(b))
 }
 
-// The capability's address with another metadata word, untagged.
-fn with_high(c: Capability, metadata: u32) -> Capability
-    ensures { result ≡ record { address = c.address; metadata = metadata; tag = 0 } }
-{
-    Capability {
-        address: c.address,
-        metadata,
-        tag: 0,
-    }
-}
-
 // What two registers combine to.
+#[tactic(auto, unfolding(crate::specs::Derivation::combined))]
 fn combine(what: Combination, c: Capability, d: Capability) -> Capability
     ensures { result ≡ combined what c d }
 {
@@ -131,7 +108,11 @@ fn combine(what: Combination, c: Capability, d: Capability) -> Capability
         Combination::SetAddr => capability::move_address(c, d.address),
         Combination::IncAddr => moved_by(c, d.address),
         Combination::SubAddr => capability::integer(wrapping_sub_u32(c.address, d.address)),
-        Combination::SetHigh => with_high(c, d.address),
+        Combination::SetHigh => Capability {
+            metadata: d.address,
+            tag: 0,
+            ..c
+        },
         Combination::TestSubset => truth_of(is_subset(c, d)),
         Combination::SetEqualExact => truth_of(is_equal(c, d)),
     }
@@ -144,6 +125,7 @@ fn write(rd: u32, value: Capability) -> Effect
     Effect::Write { rd, value }
 }
 
+#[tactic(auto, unfolding(crate::specs::Derivation::capability_effect))]
 pub fn capability_effect(i: CapabilityInstruction, regs: &[u32]) -> Effect
     ensures { result ≡ capability_effect i regs.now }
 {

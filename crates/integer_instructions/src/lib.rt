@@ -10,6 +10,7 @@ use state::Effect;
 use std::num::{wrapping_add_u32, wrapping_sub_u32};
 use words::{Division, Reading};
 
+#[tactic(auto, unfolding(crate::specs::Integer::alu_of))]
 pub fn alu(op: Alu, a: u32, b: u32) -> u32
     ensures { result ≡ alu_of op a b }
 {
@@ -27,6 +28,7 @@ pub fn alu(op: Alu, a: u32, b: u32) -> u32
     }
 }
 
+#[tactic(auto, unfolding(crate::specs::Integer::multiplied_of))]
 pub fn multiplied(kind: MultiplyKind, a: u32, b: u32) -> u32
     ensures { result ≡ multiplied_of kind a b }
 {
@@ -38,6 +40,7 @@ pub fn multiplied(kind: MultiplyKind, a: u32, b: u32) -> u32
     }
 }
 
+#[tactic(auto, unfolding(crate::specs::Integer::reading_of))]
 fn reading_of(kind: DivideKind) -> Reading
     ensures { result ≡ reading_of kind }
 {
@@ -49,6 +52,7 @@ fn reading_of(kind: DivideKind) -> Reading
     }
 }
 
+#[tactic(auto, unfolding(crate::specs::Integer::part_of))]
 fn part(kind: DivideKind, both: Division) -> u32
     ensures { result ≡ part_of kind both.quotient both.remainder }
 {
@@ -60,6 +64,7 @@ fn part(kind: DivideKind, both: Division) -> u32
     }
 }
 
+#[tactic(auto, unfolding(crate::specs::Integer::divided_of))]
 pub fn divided(kind: DivideKind, a: u32, b: u32) -> u32
     ensures { result ≡ divided_of kind a b }
 {
@@ -76,6 +81,7 @@ fn write_integer(rd: u32, value: u32) -> Effect
     }
 }
 
+#[tactic(auto, unfolding(crate::specs::Integer::integer_effect))]
 pub fn integer_effect(i: IntegerInstruction, regs: &[u32]) -> Effect
     ensures { result ≡ integer_effect i regs.now }
 {

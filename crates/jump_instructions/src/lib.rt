@@ -1,11 +1,10 @@
 // What jumps, branches and MRET do.
 #![tactic(auto)]
 
-ghost use Rattle.std.specs.Prelude.{◌≡◌, ◌+◌, not, ◌&&◌, ◌||◌};
+ghost use Rattle.std.specs.Prelude.{◌≡◌, ◌+◌, ◌*◌, ◌/◌, not, ◌&&◌, ◌||◌};
 ghost use Rattle.capability.specs.Capability.{integer};
-ghost use Rattle.state.specs.Registers.{pc_of};
+ghost use Rattle.state.specs.Registers.{pc_of, integer_at, register_at};
 ghost use Rattle.words.specs.Words.{wrap};
-ghost use Rattle.state.specs.Checks.{fail_if, tag_cause, seal_cause, execute_cause};
 ghost use Rattle.jump_instructions.specs.Editions.{later_table, accepts, link_type, report_status, later_status, jump_status};
 ghost use Rattle.jump_instructions.specs.Jumps.{link_of, aligned, target_cause, jal_effect, jalr_cause, jalr_effect, taken};
 ghost use Rattle.jump_instructions.specs.Jumps.{taken_effect, branch_effect, mret_effect, jump_effect};
@@ -31,6 +30,7 @@ pub const NO_LINK: u32 = 0;
 // ---- what the edition decides
 
 // Whether the later edition's table has a target of a type for a jump that links cd and goes through cs1.
+#[tactic(auto, unfolding(crate::specs::Editions::later_table))]
 fn later_table(t: u32, cd: u32, cs1: u32) -> bool
     ensures { result ≡ later_table t cd cs1 }
 {
@@ -44,6 +44,7 @@ fn later_table(t: u32, cd: u32, cs1: u32) -> bool
 }
 
 // Whether a jump accepts a sealed target.
+#[tactic(auto, unfolding(crate::specs::Editions::accepts))]
 pub fn accepts(edition: u32, c: Capability, cd: u32, cs1: u32) -> bool
     ensures { result ≡ accepts edition c cd cs1 }
 {
@@ -58,6 +59,7 @@ pub fn accepts(edition: u32, c: Capability, cd: u32, cs1: u32) -> bool
 }
 
 // The type of a link: an enabling one if MIE is set, else a disabling one.
+#[tactic(auto, unfolding(crate::specs::Editions::link_type))]
 pub fn link_type(edition: u32, mstatus: u32) -> u32
     ensures { result ≡ link_type edition mstatus }
 {
@@ -69,6 +71,7 @@ pub fn link_type(edition: u32, mstatus: u32) -> u32
     }
 }
 
+#[tactic(auto, unfolding(crate::specs::Editions::report_status))]
 fn report_status(t: u32, mstatus: u32) -> u32
     ensures { result ≡ report_status t mstatus }
 {
@@ -81,6 +84,7 @@ fn report_status(t: u32, mstatus: u32) -> u32
     mstatus
 }
 
+#[tactic(auto, unfolding(crate::specs::Editions::later_status))]
 fn later_status(t: u32, mstatus: u32) -> u32
     ensures { result ≡ later_status t mstatus }
 {
@@ -94,6 +98,7 @@ fn later_status(t: u32, mstatus: u32) -> u32
 }
 
 // mstatus after a jump by a target of a type.
+#[tactic(auto, unfolding(crate::specs::Editions::jump_status))]
 pub fn jump_status(edition: u32, t: u32, mstatus: u32) -> u32
     ensures { result ≡ jump_status edition t mstatus }
 {
@@ -107,6 +112,7 @@ pub fn jump_status(edition: u32, t: u32, mstatus: u32) -> u32
 // ---- jumps
 
 // The link of a jump of some bytes: PCC after it, sealed.
+#[tactic(auto, unfolding(crate::specs::Jumps::link_of))]
 fn link_of(bytes: u32, edition: u32, pcc: Capability, mstatus: u32) -> Capability
     ensures { result ≡ link_of bytes edition pcc mstatus }
 {
@@ -115,6 +121,7 @@ fn link_of(bytes: u32, edition: u32, pcc: Capability, mstatus: u32) -> Capabilit
 }
 
 // The effect where a target is aligned, else the trap.
+#[tactic(auto, unfolding(crate::specs::Jumps::aligned))]
 fn aligned_effect(target: u32, e: Effect) -> Effect
     ensures { result ≡ aligned target e }
 {
@@ -129,6 +136,7 @@ fn aligned_effect(target: u32, e: Effect) -> Effect
 }
 
 // The cause for which a target is out of bounds, or 0.
+#[tactic(auto, unfolding(crate::specs::Jumps::target_cause))]
 fn target_cause(c: Capability, target: u32) -> u32
     ensures { result ≡ target_cause c target }
 {
@@ -136,6 +144,7 @@ fn target_cause(c: Capability, target: u32) -> u32
 }
 
 // CJAL.
+#[tactic(auto, unfolding(crate::specs::Jumps::jal_effect))]
 fn jal(bytes: u32, edition: u32, rd: u32, offset: u32, regs: &[u32]) -> Effect
     ensures { result ≡ jal_effect bytes edition rd (wrap (pc_of regs.now + offset)) regs.now }
 {
@@ -155,22 +164,6 @@ fn jal(bytes: u32, edition: u32, rd: u32, offset: u32, regs: &[u32]) -> Effect
     )
 }
 
-// The first check of CJALR's that fails: tag, seal, execute, bounds; else 0.
-fn first_jalr_cause(tagged: bool, shut: bool, executes: bool, bounds: u32) -> u32
-    ensures { result ≡ fail_if (not tagged) tag_cause (fail_if shut seal_cause (fail_if (not executes) execute_cause bounds)) }
-{
-    if !tagged {
-        return TAG_CAUSE;
-    }
-    if shut {
-        return SEAL_CAUSE;
-    }
-    if !executes {
-        return EXECUTE_CAUSE;
-    }
-    bounds
-}
-
 // Whether a target may not be jumped to: sealed, and not accepted or with an offset.
 fn is_shut(sealed: bool, accepted: bool, still: bool) -> bool
     ensures { result ≡ (sealed && (not accepted || not still)) }
@@ -178,34 +171,35 @@ fn is_shut(sealed: bool, accepted: bool, still: bool) -> bool
     sealed && (!accepted || !still)
 }
 
+// The cause for which a target may not be jumped to, or 0: tag, seal, EX, bounds.
+#[tactic(auto, unfolding(crate::specs::Jumps::jalr_cause))]
 fn jalr_cause(edition: u32, rd: u32, rs1: u32, c: Capability, offset: u32, target: u32) -> u32
     ensures { result ≡ jalr_cause edition rd rs1 c offset target }
 {
-    first_jalr_cause(
-        capability::is_tagged(c),
-        is_shut(
-            capability::is_sealed(c),
-            accepts(edition, c, rd, rs1),
-            offset == 0,
-        ),
-        capability::has_right(c, metadata::EX),
-        target_cause(c, target),
-    )
+    if !capability::is_tagged(c) {
+        return TAG_CAUSE;
+    }
+    if is_shut(
+        capability::is_sealed(c),
+        accepts(edition, c, rd, rs1),
+        offset == 0,
+    ) {
+        return SEAL_CAUSE;
+    }
+    if !capability::has_right(c, metadata::EX) {
+        return EXECUTE_CAUSE;
+    }
+    target_cause(c, target)
 }
 
 // CJALR.
-fn jalr(
-    bytes: u32,
-    edition: u32,
-    rd: u32,
-    rs1: u32,
-    offset: u32,
-    target: u32,
-    c: Capability,
-    regs: &[u32],
-) -> Effect
-    ensures { result ≡ jalr_effect bytes edition rd rs1 offset target c regs.now }
+#[tactic(auto, using(state::proofs::Laws::integer_is), unfolding(crate::specs::Jumps::jalr_effect))]
+fn jalr(bytes: u32, edition: u32, rd: u32, rs1: u32, offset: u32, regs: &[u32]) -> Effect
+    ensures { result ≡ jalr_effect bytes edition rd rs1 offset (wrap (integer_at regs.now rs1 + offset) / 2 * 2)
+        (register_at regs.now rs1) regs.now }
 {
+    let c = state::register_at(regs, rs1);
+    let target = wrapping_add_u32(c.address, offset) / 2 * 2;
     let mstatus = state::csr_at(regs, Csr::Mstatus);
     let jump = Effect::Jump {
         rd,
@@ -221,6 +215,7 @@ fn jalr(
 }
 
 // Whether a branch is taken.
+#[tactic(auto, unfolding(crate::specs::Jumps::taken))]
 pub fn is_taken(kind: BranchKind, a: u32, b: u32) -> bool
     ensures { result ≡ taken kind a b }
 {
@@ -235,6 +230,7 @@ pub fn is_taken(kind: BranchKind, a: u32, b: u32) -> bool
 }
 
 // A taken branch.
+#[tactic(auto, unfolding(crate::specs::Jumps::taken_effect))]
 fn take(offset: u32, regs: &[u32]) -> Effect
     ensures { result ≡ taken_effect (wrap (pc_of regs.now + offset)) regs.now }
 {
@@ -263,6 +259,7 @@ fn go_to(target: Capability, mstatus: u32) -> Effect
     }
 }
 
+#[tactic(auto, unfolding(crate::specs::Jumps::branch_effect))]
 fn branch(takes: bool, offset: u32, regs: &[u32]) -> Effect
     ensures { result ≡ branch_effect takes (wrap (pc_of regs.now + offset)) regs.now }
 {
@@ -273,6 +270,7 @@ fn branch(takes: bool, offset: u32, regs: &[u32]) -> Effect
     }
 }
 
+#[tactic(auto, unfolding(crate::specs::Jumps::mret_effect))]
 fn mret(regs: &[u32]) -> Effect
     ensures { result ≡ mret_effect regs.now }
 {
@@ -286,16 +284,13 @@ fn mret(regs: &[u32]) -> Effect
 }
 
 // What a jump of some bytes does, in an edition.
+#[tactic(auto, using(state::proofs::Laws::integer_is), unfolding(crate::specs::Jumps::jump_effect))]
 pub fn jump_effect(bytes: u32, edition: u32, i: JumpInstruction, regs: &[u32]) -> Effect
     ensures { result ≡ jump_effect bytes edition i regs.now }
 {
     match i {
         JumpInstruction::Jal { rd, offset } => jal(bytes, edition, rd, offset, regs),
-        JumpInstruction::Jalr { rd, rs1, offset } => {
-            let c = state::register_at(regs, rs1);
-            let target = wrapping_add_u32(c.address, offset) / 2 * 2;
-            jalr(bytes, edition, rd, rs1, offset, target, c, regs)
-        }
+        JumpInstruction::Jalr { rd, rs1, offset } => jalr(bytes, edition, rd, rs1, offset, regs),
         JumpInstruction::Branch {
             kind,
             rs1,

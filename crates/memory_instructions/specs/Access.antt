@@ -1,5 +1,5 @@
 -- Loads and stores. CHERIoT report, 7.6, 7.7, 7.8 and 9.4 (CLC, CSC); document 01, "Loading capabilities" and "Traps". Assumes nothing.
-use Rattle.std.specs.Prelude.{ℕ, ◌+◌, Bool, false, not, ◌&&◌, List, length}
+use Rattle.std.specs.Prelude.{◌≡◌, ℕ, ◌+◌, Bool, false, not, ◌&&◌, List, length}
 use Rattle.words.specs.Words.{wrap, sign_extend, le_bytes}
 use Rattle.metadata.specs.Rights.{LD, SD, MC, SL, GL}
 use Rattle.capability.specs.Capability.{integer, keep_tag_if, low, grants, sealed, tagged}
@@ -32,7 +32,12 @@ loaded_value Lw mem i = le_bytes 4 mem i
 loaded_value Lbu mem i = le_bytes 1 mem i
 loaded_value Lhu mem i = le_bytes 2 mem i
 
--- a place that is none traps with the address (document 01, "Traps")
+-- a place that is none traps with the address (document 01, "Traps"); elsewhere the access is made
+abbrev pub DoneAt : Place → (misaligned fault address : ℕ) → (access : ℕ → Effect → Type 0) → Effect → Type 0
+DoneAt Misaligned misaligned fault address access e = e ≡ Trap misaligned address
+DoneAt Outside misaligned fault address access e = e ≡ Trap fault address
+DoneAt (At i) misaligned fault address access e = access i e
+
 unfoldable pub load_at : Place → LoadKind → (rd address : ℕ) → (mem : List ℕ) → Effect
 load_at Misaligned kind rd address mem = Trap load_misaligned address
 load_at Outside kind rd address mem = Trap load_fault address

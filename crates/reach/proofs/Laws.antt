@@ -2,6 +2,7 @@
 use mathlib.Core.Path.{◌≡◌, refl, sym, ap, ◌∙◌}
 use mathlib.Core.Bool.{Bool, true, false, cond, not, ◌&&◌, ◌||◌, true≢false}
 use mathlib.Core.List.{[]}
+use Rattle.std.specs.Prelude.{Option, Some, None, Result, Ok, Err}
 use Prim.Native.Nat.{ℕ, zero, suc, ◌+◌, ◌-◌, ◌^◌, ◌≤◌}
 use native.Mathlib.Omega.{arith}
 use lib.Dec.{eqb, leb, ltb}
@@ -17,17 +18,17 @@ use Rattle.state.specs.Lent.{State}
 use Rattle.state.specs.Checks.{fail_if}
 use Rattle.state.proofs.Laws.{cond_holds}
 use Rattle.machine.specs.Refusals.{most_memory, good_memory, good_window, good_bits, good_words, good_edition, good_bounds, sound, refusal_of}
-use Rattle.machine.proofs.Laws.{good_size}
+use Rattle.machine.specs.Refusals.{number_of, number_in, refusal_named}
+use Rattle.machine.specs.declared.answers.Refusal.{Refusal}
+use Rattle.machine.proofs.Laws.{refusal_named_number, number_positive, good_size}
 use Rattle.reach.specs.Reach.{end, grants_all, reaches_into, places_in, first_of, passes_in, first_reach, board_at, asked_refusal, reach_refusal, reach_answer}
-use Rattle.reach.specs.Reach.{NoneBetween, FirstPlace, none_passes, first_passes, reach_number, reach_place, packed_reach, ReachPromise}
+use Rattle.reach.specs.Reach.{NoneBetween, FirstPlace, none_passes, first_passes, reach_number, found_place, reach_place, packed_reach, ReachPromise}
 use Rattle.reach.specs.declared.Query.{Query}
-use Rattle.reach.specs.declared.ReachAnswer.{ReachAnswer}
-use Rattle.reach.specs.declared.ReachAnswer.TheVariants.{Found, Nowhere, Refused}
 
 -- ---- the first place
 
 module _ (passes : ℕ → Bool) (to : ℕ) where
-  later : (p : ℕ) → passes p ≡ false → (a : ReachAnswer) → FirstPlace passes (p + 1) to a → FirstPlace passes p to a
+  later : (p : ℕ) → passes p ≡ false → (a : Option ℕ) → FirstPlace passes (p + 1) to a → FirstPlace passes p to a
   later p f a (none_passes h) = none_passes (λ k l u. by_test (eqb k p) (λ e. rw (eqb-true k p e) f) (λ e. h k (omega (arith, eqb-false k p e)) u))
   later p f a (first_passes i l u t h) =
       first_passes i (omega arith) u t (λ k m v. by_test (eqb k p) (λ e. rw (eqb-true k p e) f) (λ e. h k (omega (arith, eqb-false k p e)) v))
@@ -39,24 +40,13 @@ module _ (passes : ℕ → Bool) (to : ℕ) where
       by_test (passes p) (λ t. rw t (first_passes p (omega arith) (omega (arith, e)) t (λ k l u. absurd (omega arith))))
       (λ t. rw t (later p t _ (first_of_is n (p + 1) (omega (arith, e)))))
 
--- a search refuses nothing, and its place is 0 where there is none
-pub first_number : (n p : ℕ) (passes : ℕ → Bool) → reach_number (first_of n passes p) ≡ 0
-unfolding first_of
-first_number zero p passes = refl
-first_number (suc n) p passes =
-    cond_holds (λ a. reach_number a ≡ 0) (passes p) (Found p) (first_of n passes (p + 1)) refl (first_number n (p + 1) passes)
-
-pub none_of : (n p : ℕ) (passes : ℕ → Bool) → reach_place (first_of n passes p) ≡ 0 → first_of n passes p ≡ Nowhere
-none_of n p passes z = at (first_of n passes p) (first_of_is passes (p + n) n p refl) z
+-- its place is 0 where there is none alone
+pub none_of : (n p : ℕ) (passes : ℕ → Bool) → found_place (first_of n passes p) ≡ 0 → first_of n passes p ≡ None
+none_of n p passes z = at (first_of n passes p) z
   where
-    at : (a : ReachAnswer) → FirstPlace passes p (p + n) a → reach_place a ≡ 0 → a ≡ Nowhere
-    at a (none_passes h) z = refl
-    at a (first_passes i l u t h) z = absurd (omega arith)
-
-abbrev pub is_nowhere : ReachAnswer → Bool
-is_nowhere (Found p) = false
-is_nowhere Nowhere = true
-is_nowhere (Refused n) = false
+    at : (a : Option ℕ) → found_place a ≡ 0 → a ≡ None
+    at None z = refl
+    at (Some i) z = absurd (omega arith)
 
 module _ (q : Query) (s : State) where
   -- which it is, from a place on
@@ -65,19 +55,19 @@ module _ (q : Query) (s : State) where
   first_is from l = first_of_is (passes_in q s) (places_in (length s.mem)) (places_in (length s.mem) - from) from (omega arith)
 
   -- none from the first place on: none at all
-  pub none_at_all : first_reach q s 0 ≡ Nowhere → NoneBetween (passes_in q s) 0 (places_in (length s.mem))
+  pub none_at_all : first_reach q s 0 ≡ None → NoneBetween (passes_in q s) 0 (places_in (length s.mem))
   none_at_all e = go (first_reach q s 0) (first_is 0 (omega arith)) e
     where
-      go : (a : ReachAnswer) → FirstPlace (passes_in q s) 0 (places_in (length s.mem)) a → a ≡ Nowhere
+      go : (a : Option ℕ) → FirstPlace (passes_in q s) 0 (places_in (length s.mem)) a → a ≡ None
           → NoneBetween (passes_in q s) 0 (places_in (length s.mem))
       go a (none_passes h) z = h
-      go a (first_passes p l u t h) z = absurd (true≢false (sym (ap is_nowhere z)))
+      go a (first_passes p l u t h) z = cc
 
   -- and the other way round
-  pub at_all_none : NoneBetween (passes_in q s) 0 (places_in (length s.mem)) → first_reach q s 0 ≡ Nowhere
+  pub at_all_none : NoneBetween (passes_in q s) 0 (places_in (length s.mem)) → first_reach q s 0 ≡ None
   at_all_none f = go (first_reach q s 0) (first_is 0 (omega arith))
     where
-      go : (a : ReachAnswer) → FirstPlace (passes_in q s) 0 (places_in (length s.mem)) a → a ≡ Nowhere
+      go : (a : Option ℕ) → FirstPlace (passes_in q s) 0 (places_in (length s.mem)) a → a ≡ None
       go a (none_passes h) = refl
       go a (first_passes p l u t h) = absurd (true≢false (sym t ∙ f p l u))
 
@@ -159,18 +149,24 @@ module _ (start : ℕ) (q : Query) (from : ℕ) (s : State) where
   unfolding refusal_of good_window good_edition
   as_a_step = rw (le-leb 0 size (omega arith)) refl
 
+  -- that, where a register that is not sound is none
   module _ (n : ℕ) (is : n ≡ refusal_of 0 (board_at start) [] s) where
-    pub refused_as_a_step : refused n ≡ true → n ≡ reach_refusal start q from s
+    pub refused_as_a_step : (why : Refusal) → number_of why ≡ cond (eqb n 8) 0 n → number_of why ≡ reach_refusal start q from s
     unfolding reach_refusal
-    refused_as_a_step h =
-        let e = is ∙ as_a_step in
-        e ∙ row_stops bad_registers bad_memory bad_bits bad_words unsound (asked_refusal q size from) (rw (← e) h)
+    refused_as_a_step why e =
+        by_test (eqb n 8) (λ t. absurd (number_positive why (rw t at e)))
+        (λ t.
+        let f : number_of why ≡ n = rw t at e in
+        let g = is ∙ as_a_step in
+        let h : refused n ≡ true = rw (t, ne_eqb n 0 (λ z. number_positive why (f ∙ z))) in
+        f ∙ g ∙ row_stops bad_registers bad_memory bad_bits bad_words unsound (asked_refusal q size from) (rw (← g) h))
 
-    pub refused_as_asked : (asked : ℕ) → asked ≡ asked_refusal q size from → refused n ≡ false → asked ≡ reach_refusal start q from s
+    pub refused_as_asked : 0 ≡ cond (eqb n 8) 0 n → asked_refusal q size from ≡ reach_refusal start q from s
     unfolding reach_refusal
-    refused_as_asked asked a h =
-        let e = is ∙ as_a_step in
-        a ∙ row_passes bad_registers bad_memory bad_bits bad_words unsound (asked_refusal q size from) (rw (← e) h)
+    refused_as_asked z =
+        let g = is ∙ as_a_step in
+        let h : refused n ≡ false = by_test (eqb n 8) (λ t. rw (eqb-true n 8 t)) (λ t. let f : 0 ≡ n = rw t at z in rw (← f)) in
+        row_passes bad_registers bad_memory bad_bits bad_words unsound (asked_refusal q size from) (rw (← g) h)
 
   pub refusal_small : reach_refusal start q from s ≤ 21
   unfolding reach_refusal
@@ -195,41 +191,37 @@ module _ (start : ℕ) (q : Query) (from : ℕ) (s : State) where
 
   -- ---- the promise
 
-  pub reach_refused : (n : ℕ) → n ≡ reach_refusal start q from s → (n ≡ 0 → ⊥) → ReachPromise start q from s (Refused n)
+  pub reach_refused : (why : Refusal) → number_of why ≡ reach_refusal start q from s → ReachPromise start q from s (Err why)
   unfolding reach_answer
-  reach_refused n e h =
-      let f : eqb (reach_refusal start q from s) 0 ≡ false = rw (← e) (ne_eqb n 0 h) in
-      record { answer_is = rw (f, e); number_is = e; place_is = rw f }
+  reach_refused why e =
+      let f : eqb (reach_refusal start q from s) 0 ≡ false = rw (← e) (ne_eqb (number_of why) 0 (number_positive why)) in
+      record { answer_is = rw (f, ← e, refusal_named_number why); number_is = e; place_is = rw f }
 
-  pub reach_done : (answer : ReachAnswer) → 0 ≡ reach_refusal start q from s → answer ≡ first_reach q s from → ReachPromise start q from s answer
-  unfolding reach_answer first_reach
-  reach_done answer e a =
+  pub reach_done : (found : Option ℕ) → 0 ≡ reach_refusal start q from s → found ≡ first_reach q s from → ReachPromise start q from s (Ok found)
+  unfolding reach_answer
+  reach_done found e a =
       let f : eqb (reach_refusal start q from s) 0 ≡ true = eq-eqb (reach_refusal start q from s) 0 (sym e) in
-      record {
-        answer_is = rw f a;
-        number_is = rw a (first_number _ from (passes_in q s)) ∙ e;
-        place_is = rw (f, a);
-      }
+      record { answer_is = rw (f, a); number_is = e; place_is = rw (f, a) }
 
   -- its number is that of a refusal
-  pub number_small : (answer : ReachAnswer) → ReachPromise start q from s answer → reach_number answer ≤ 21
+  pub number_small : (answer : Result (Option ℕ) Refusal) → ReachPromise start q from s answer → reach_number answer ≤ 21
   number_small answer p = rw p.number_is refusal_small
 
-  -- ---- an answer of none, as an enum and as a number
+  -- ---- an answer of none, as a value and as a number
 
-  pub nowhere_first : reach_answer start q from s ≡ Nowhere → first_reach q s from ≡ Nowhere
+  pub nowhere_first : reach_answer start q from s ≡ Ok None → first_reach q s from ≡ None
   unfolding reach_answer
   nowhere_first e = go (eqb (reach_refusal start q from s) 0) e
     where
-      go : (b : Bool) → cond b (first_reach q s from) (Refused (reach_refusal start q from s)) ≡ Nowhere → first_reach q s from ≡ Nowhere
-      go true e = e
-      go false e = absurd (true≢false (sym (ap is_nowhere e)))
+      go : (b : Bool) → cond b (Ok (first_reach q s from)) (Err (refusal_named (reach_refusal start q from s))) ≡ Ok None → first_reach q s from ≡ None
+      go true e = cc
+      go false e = cc
 
-  pub packed_none : packed_reach (reach_answer start q from s) ≡ 0 → first_reach q s from ≡ Nowhere
+  pub packed_none : packed_reach (reach_answer start q from s) ≡ 0 → first_reach q s from ≡ None
   unfolding reach_answer first_reach
-  packed_none e = go (eqb (reach_refusal start q from s) 0) refl e
+  packed_none e = go (eqb (reach_refusal start q from s) 0) e
     where
-      go : (b : Bool) → eqb (reach_refusal start q from s) 0 ≡ b → packed_reach (cond b (first_reach q s from) (Refused (reach_refusal start q from s))) ≡ 0
-          → first_reach q s from ≡ Nowhere
-      go true f e = none_of _ from (passes_in q s) (omega (arith, e))
-      go false f e = absurd (eqb-false (reach_refusal start q from s) 0 f (omega (arith, e)))
+      go : (b : Bool) → packed_reach (cond b (Ok (first_reach q s from)) (Err (refusal_named (reach_refusal start q from s)))) ≡ 0
+          → first_reach q s from ≡ None
+      go true e = none_of _ from (passes_in q s) (omega (arith, e))
+      go false e = absurd (number_positive (refusal_named (reach_refusal start q from s)) (omega (arith, e)))

@@ -3,6 +3,7 @@
 use mathlib.Core.Path.{◌≡◌, refl, sym, ap, ◌∙◌}
 use mathlib.Core.Bool.{Bool, true, false, cond, not, ◌&&◌, true≢false}
 use mathlib.Core.List.{[]}
+use Rattle.std.specs.Prelude.{Option, Some, None, Result, Ok, Err}
 use Prim.Native.Nat.{ℕ, ◌+◌, ◌-◌, ◌*◌, ◌%◌, ◌^◌, ◌≤◌, ◌<◌}
 use native.Mathlib.Omega.{arith}
 use lib.Dec.{eqb, leb, ltb}
@@ -14,16 +15,16 @@ use Rattle.state.specs.Layout.{register_words, capability_count}
 use Rattle.state.specs.Lent.{State}
 use Rattle.state.specs.Memory.{granule_bytes}
 use Rattle.state.specs.Checks.{fail_if}
-use Rattle.machine.specs.Refusals.{block_bytes, most_memory, good_memory, good_bits, good_words}
+use Rattle.machine.specs.declared.answers.Refusal.{Refusal}
+use Rattle.machine.proofs.Laws.{refusal_named_number, number_positive}
+use Rattle.machine.specs.Refusals.{number_of, refusal_named, block_bytes, most_memory, good_memory, good_bits, good_words}
 use Rattle.reach.specs.Reach.{end, places_in, first_of, passes_in, first_reach, board_at, asked_refusal, reach_refusal}
 use Rattle.reach.specs.Reach.{NoneBetween, FirstPlace, none_passes, first_passes, reach_number, packed_reach}
 use Rattle.reach.specs.Outside.{is_hidden, passes_outside, first_outside, at_edges, outside_refusal, outside_answer, OutsidePromise}
 use Rattle.reach.specs.Outside.{place_behind, found_hidden}
 use Rattle.reach.specs.declared.Query.{Query}
-use Rattle.reach.specs.declared.ReachAnswer.{ReachAnswer}
-use Rattle.reach.specs.declared.ReachAnswer.TheVariants.{Nowhere, Refused}
-use Rattle.reach.proofs.Search.{passed_over, passes_first, first_alike}
-use Rattle.reach.proofs.Laws.{is_nowhere, first_of_is, first_number, none_of, first_is, refusal_small}
+use Rattle.reach.proofs.Search.{passed_over, first_unique, first_alike}
+use Rattle.reach.proofs.Laws.{first_of_is, none_of, first_is, refusal_small}
 
 both : (a b : Bool) → a && b ≡ true → (a ≡ true) × (b ≡ true)
 both true b h = (refl, h)
@@ -31,20 +32,6 @@ both false b h = absurd (true≢false (sym h))
 
 fourth : (a b c d e : Bool) → a && (b && (c && (d && e))) ≡ true → d ≡ true
 fourth a b c d e h = (both d e (both c (d && e) (both b (c && (d && e)) (both a (b && (c && (d && e))) h).1).1).1).0
-
--- ---- one first place
-
--- what is the first place by its cases is what the search finds
-first_unique : (passes : ℕ → Bool) (to n from : ℕ) → from + n ≡ to → (a : ReachAnswer) → FirstPlace passes from to a → a ≡ first_of n passes from
-unfolding first_of
-first_unique passes to n from e a (none_passes f) =
-    let z : n - n ≡ 0 = omega arith in
-    sym (rw z at (passed_over passes n n from (λ j l. f (from + j) (omega arith) (omega (arith, e)))))
-first_unique passes to n from e a (first_passes p l u t f) =
-    let k : p - from + from ≡ p = omega arith in
-    let m : from + (p - from) ≡ p = omega arith in
-    passes_first passes (n - (p - from)) p (omega (arith, e)) t
-    ∙ sym (rw m at (passed_over passes (p - from) n from (λ j h. f (from + j) (omega arith) (omega arith))))
 
 -- ---- the search
 
@@ -87,20 +74,20 @@ module _ (start : ℕ) (q : Query) (s : State) where
   outside_is from l = first_of_is (passes_outside start q s) last (last - from) from (omega arith)
 
   -- none from the first place on: none at all, but those of the range
-  pub none_but_hidden : first_outside start q s 0 ≡ Nowhere → (p : ℕ) → p < last → is_hidden start q p ≡ false → passes_in q s p ≡ false
+  pub none_but_hidden : first_outside start q s 0 ≡ None → (p : ℕ) → p < last → is_hidden start q p ≡ false → passes_in q s p ≡ false
   none_but_hidden e p l h = sym (shown_outside p h) ∙ go _ (outside_is 0 (omega arith)) e
     where
-      go : (a : ReachAnswer) → FirstPlace (passes_outside start q s) 0 last a → a ≡ Nowhere → passes_outside start q s p ≡ false
+      go : (a : Option ℕ) → FirstPlace (passes_outside start q s) 0 last a → a ≡ None → passes_outside start q s p ≡ false
       go a (none_passes f) z = f p (omega arith) l
-      go a (first_passes i m u t f) z = absurd (true≢false (sym (ap is_nowhere z)))
+      go a (first_passes i m u t f) z = cc
 
-  module _ (from : ℕ) (one : from ≤ last) (found : ReachAnswer) (is : found ≡ first_reach q s from) where
+  module _ (from : ℕ) (one : from ≤ last) (found : Option ℕ) (is : found ≡ first_reach q s from) where
     -- the first find is no granule of the range
     pub outside_found : found_hidden start q found ≡ false → found ≡ first_outside start q s from
     unfolding first_outside
     outside_found h = rw is (first_unique (passes_outside start q s) last (last - from) from (omega arith) _ (go _ (first_is q s from one) (rw is at h)))
       where
-        go : (a : ReachAnswer) → FirstPlace (passes_in q s) from last a → found_hidden start q a ≡ false → FirstPlace (passes_outside start q s) from last a
+        go : (a : Option ℕ) → FirstPlace (passes_in q s) from last a → found_hidden start q a ≡ false → FirstPlace (passes_outside start q s) from last a
         go a (none_passes f) h = none_passes (λ p l u. none_outside p (f p l u))
         go a (first_passes p l u t f) h = first_passes p l u (shown_outside p h ∙ t) (λ k m v. none_outside k (f k m v))
 
@@ -119,7 +106,7 @@ module _ (start : ℕ) (q : Query) (s : State) where
       begun : Begun
       begun = go _ (first_is q s from one) (rw is at hidden)
         where
-          go : (a : ReachAnswer) → FirstPlace (passes_in q s) from last a → found_hidden start q a ≡ true → Begun
+          go : (a : Option ℕ) → FirstPlace (passes_in q s) from last a → found_hidden start q a ≡ true → Begun
           go a (none_passes f) h = absurd (true≢false (sym h))
           go a (first_passes p l u t f) h = record { first = p; after = l; is_one = h; none_before = f }
 
@@ -139,7 +126,7 @@ module _ (start : ℕ) (q : Query) (s : State) where
       pub outside_starts : start ≤ end q
       outside_starts = let b = hidden_is begun.first begun.is_one in omega (arith, b.2)
 
-      pub outside_behind : (a : ReachAnswer) → a ≡ first_reach q s behind → a ≡ first_outside start q s from
+      pub outside_behind : (a : Option ℕ) → a ≡ first_reach q s behind → a ≡ first_outside start q s from
       unfolding first_reach first_outside
       outside_behind a e =
           let b = hidden_is begun.first begun.is_one in
@@ -159,15 +146,15 @@ module _ (start : ℕ) (q : Query) (from : ℕ) (s : State) where
   abbrev no : ℕ
   no = outside_refusal start q from s
 
-  -- by the number of `reach`
-  pub refused_as_reach : (n : ℕ) → n ≡ asked → (n ≡ 0 → ⊥) → n ≡ no
+  -- by a refusal of `reach`
+  pub refused_as_reach : (why : Refusal) → number_of why ≡ asked → number_of why ≡ no
   unfolding outside_refusal
-  refused_as_reach n e h = let f : eqb asked 0 ≡ false = rw (← e) (ne_eqb n 0 h) in rw f e
+  refused_as_reach why e = let f : eqb asked 0 ≡ false = rw (← e) (ne_eqb (number_of why) 0 (number_positive why)) in rw f e
 
-  -- and where that is 0, by the range
-  pub refused_by_edges : asked ≡ 0 → (t : Bool) → t ≡ at_edges q → fail_if (not t) 22 0 ≡ no
+  -- and where there is none, by the range
+  pub refused_by_edges : asked ≡ 0 → fail_if (not (at_edges q)) 22 0 ≡ no
   unfolding outside_refusal
-  refused_by_edges z t e = rw (eq-eqb asked 0 z, e) refl
+  refused_by_edges z = rw (eq-eqb asked 0 z) refl
 
   -- what `reach` does not refuse has memory's start at the edge of a granule, and a place to search from
   pub accepted_start : asked ≡ 0 → start % granule_bytes ≡ 0
@@ -222,58 +209,55 @@ module _ (start : ℕ) (q : Query) (from : ℕ) (s : State) where
 
   -- ---- the promise
 
-  pub outside_refused : (n : ℕ) → n ≡ no → (n ≡ 0 → ⊥) → OutsidePromise start q from s (Refused n)
+  pub outside_refused : (why : Refusal) → number_of why ≡ no → OutsidePromise start q from s (Err why)
   unfolding outside_answer
-  outside_refused n e h =
-      let f : eqb no 0 ≡ false = rw (← e) (ne_eqb n 0 h) in
-      record { answer_is = rw (f, e); number_is = e; place_is = rw f }
+  outside_refused why e =
+      let f : eqb no 0 ≡ false = rw (← e) (ne_eqb (number_of why) 0 (number_positive why)) in
+      record { answer_is = rw (f, ← e, refusal_named_number why); number_is = e; place_is = rw f }
 
-  pub outside_done : (answer : ReachAnswer) → no ≡ 0 → answer ≡ first_outside start q s from → OutsidePromise start q from s answer
-  unfolding outside_answer first_outside
-  outside_done answer e a =
+  pub outside_done : (found : Option ℕ) → no ≡ 0 → found ≡ first_outside start q s from → OutsidePromise start q from s (Ok found)
+  unfolding outside_answer
+  outside_done found e a =
       let f : eqb no 0 ≡ true = eq-eqb no 0 e in
-      record {
-        answer_is = rw f a;
-        number_is = rw a (first_number _ from (passes_outside start q s)) ∙ sym e;
-        place_is = rw (f, a);
-      }
+      record { answer_is = rw (f, a); number_is = sym e; place_is = rw (f, a) }
 
   -- by what was found first
-  module _ (z : no ≡ 0) (found : ReachAnswer) (is : found ≡ first_reach q s from) where
+  module _ (z : no ≡ 0) (found : Option ℕ) (is : found ≡ first_reach q s from) where
     one : from ≤ places_in (length s.mem)
     one = omega (arith, accepted_from (accepted_outside z).0)
 
-    pub outside_returned : found_hidden start q found ≡ false → OutsidePromise start q from s found
+    pub outside_returned : found_hidden start q found ≡ false → OutsidePromise start q from s (Ok found)
     outside_returned h = outside_done found z (outside_found start q s from one found is h)
 
     module _ (h : found_hidden start q found ≡ true) where
       pub outside_in_order : start ≤ end q
       outside_in_order = outside_starts start q s from one found is (accepted_start (accepted_outside z).0) (accepted_outside z).2 h
 
-      pub outside_went_on : (p : ℕ) → p ≡ place_behind start q → (answer : ReachAnswer) → answer ≡ first_reach q s p → OutsidePromise start q from s answer
+      pub outside_went_on : (p : ℕ) → p ≡ place_behind start q → (answer : Option ℕ) → answer ≡ first_reach q s p → OutsidePromise start q from s (Ok answer)
       outside_went_on p e answer a =
           outside_done answer z
           (outside_behind start q s from one found is (accepted_start (accepted_outside z).0) (accepted_outside z).2 h answer (rw e at a))
 
   -- its number is that of a refusal
-  pub outside_number : (answer : ReachAnswer) → OutsidePromise start q from s answer → reach_number answer ≤ 22
+  pub outside_number : (answer : Result (Option ℕ) Refusal) → OutsidePromise start q from s answer → reach_number answer ≤ 22
   outside_number answer p = rw p.number_is outside_small
 
-  -- ---- an answer of none, as an enum and as a number
+  -- ---- an answer of none, as a value and as a number
 
-  pub nowhere_outside : outside_answer start q from s ≡ Nowhere → (no ≡ 0) × (first_outside start q s from ≡ Nowhere)
+  pub nowhere_outside : outside_answer start q from s ≡ Ok None → (no ≡ 0) × (first_outside start q s from ≡ None)
   unfolding outside_answer
   nowhere_outside e = go (eqb no 0) refl e
     where
-      go : (b : Bool) → eqb no 0 ≡ b → cond b (first_outside start q s from) (Refused no) ≡ Nowhere → (no ≡ 0) × (first_outside start q s from ≡ Nowhere)
-      go true f e = (eqb-true no 0 f, e)
-      go false f e = absurd (true≢false (sym (ap is_nowhere e)))
+      go : (b : Bool) → eqb no 0 ≡ b → cond b (Ok (first_outside start q s from)) (Err (refusal_named no)) ≡ Ok None
+          → (no ≡ 0) × (first_outside start q s from ≡ None)
+      go true f e = (eqb-true no 0 f, cc)
+      go false f e = cc
 
-  pub packed_outside : packed_reach (outside_answer start q from s) ≡ 0 → (no ≡ 0) × (first_outside start q s from ≡ Nowhere)
+  pub packed_outside : packed_reach (outside_answer start q from s) ≡ 0 → (no ≡ 0) × (first_outside start q s from ≡ None)
   unfolding outside_answer first_outside
   packed_outside e = go (eqb no 0) refl e
     where
-      go : (b : Bool) → eqb no 0 ≡ b → packed_reach (cond b (first_outside start q s from) (Refused no)) ≡ 0
-          → (no ≡ 0) × (first_outside start q s from ≡ Nowhere)
+      go : (b : Bool) → eqb no 0 ≡ b → packed_reach (cond b (Ok (first_outside start q s from)) (Err (refusal_named no))) ≡ 0
+          → (no ≡ 0) × (first_outside start q s from ≡ None)
       go true f e = (eqb-true no 0 f, none_of _ from (passes_outside start q s) (omega (arith, e)))
-      go false f e = absurd (eqb-false no 0 f (omega (arith, e)))
+      go false f e = absurd (number_positive (refusal_named no) (omega (arith, e)))

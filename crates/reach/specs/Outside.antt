@@ -1,14 +1,14 @@
 -- The search of what stands outside a range of whole granules: as Reach, but the granules that lie in the range are passed over. What stands there counts for
 -- nothing: what may not be loaded gives nobody authority. Assumes nothing.
-use Rattle.std.specs.Prelude.{Bool, false, cond, not, ◌&&◌, ◌≡◌, ℕ, ◌+◌, ◌-◌, ◌*◌, ◌/◌, ◌%◌, eqb, leb, ltb, length}
+use Rattle.std.specs.Prelude.{Option, Some, None, Result, Ok, Err, Bool, false, cond, not, ◌&&◌, ◌≡◌, ℕ, ◌+◌, ◌-◌, ◌*◌, ◌/◌, ◌%◌, eqb, leb, ltb, length}
 use Rattle.state.specs.Layout.{capability_count}
 use Rattle.state.specs.Lent.{State}
 use Rattle.state.specs.Memory.{granule_bytes}
 use Rattle.state.specs.Checks.{fail_if}
-use Rattle.reach.specs.Reach.{end, places_in, passes_in, first_of, reach_refusal, reach_number, reach_place}
+use Rattle.machine.specs.Refusals.{refusal_named}
+use Rattle.machine.specs.declared.answers.Refusal.{Refusal}
+use Rattle.reach.specs.Reach.{end, places_in, passes_in, first_of, reach_refusal, reach_number, found_place, reach_place}
 use Rattle.reach.specs.declared.Query.{Query}
-use Rattle.reach.specs.declared.ReachAnswer.{ReachAnswer}
-use Rattle.reach.specs.declared.ReachAnswer.TheVariants.{Found, Nowhere, Refused}
 
 -- ---- the granules of the range
 
@@ -25,7 +25,7 @@ is_hidden start q p = leb capability_count p && in_range start q (p - capability
 unfoldable pub passes_outside : (start : ℕ) → Query → State → (p : ℕ) → Bool
 passes_outside start q s p = not (is_hidden start q p) && passes_in q s p
 
-unfoldable pub first_outside : (start : ℕ) → Query → State → (from : ℕ) → ReachAnswer
+unfoldable pub first_outside : (start : ℕ) → Query → State → (from : ℕ) → Option ℕ
 first_outside start q s from = first_of (places_in (length s.mem) - from) (passes_outside start q s) from
 
 -- ---- the answer
@@ -40,14 +40,15 @@ outside_refusal start q from s =
     fail_if (not (eqb (reach_refusal start q from s) 0)) (reach_refusal start q from s)
     (fail_if (not (at_edges q)) 22 0)
 
-unfoldable pub outside_answer : (start : ℕ) → Query → (from : ℕ) → State → ReachAnswer
-outside_answer start q from s = cond (eqb (outside_refusal start q from s) 0) (first_outside start q s from) (Refused (outside_refusal start q from s))
+unfoldable pub outside_answer : (start : ℕ) → Query → (from : ℕ) → State → Result (Option ℕ) Refusal
+outside_answer start q from s =
+    cond (eqb (outside_refusal start q from s) 0) (Ok (first_outside start q s from)) (Err (refusal_named (outside_refusal start q from s)))
 
 -- what a search promises; nothing is lent to it for writing
-pub record OutsidePromise (start : ℕ) (q : Query) (from : ℕ) (s : State) (answer : ReachAnswer) : Type 0 where
+pub record OutsidePromise (start : ℕ) (q : Query) (from : ℕ) (s : State) (answer : Result (Option ℕ) Refusal) : Type 0 where
   pub answer_is : answer ≡ outside_answer start q from s
   pub number_is : reach_number answer ≡ outside_refusal start q from s
-  pub place_is : reach_place answer ≡ cond (eqb (outside_refusal start q from s) 0) (reach_place (first_outside start q s from)) 0
+  pub place_is : reach_place answer ≡ cond (eqb (outside_refusal start q from s) 0) (found_place (first_outside start q s from)) 0
 
 -- ---- what the search goes by
 
@@ -56,7 +57,6 @@ abbrev pub place_behind : (start : ℕ) → Query → ℕ
 place_behind start q = capability_count + (end q - start) / granule_bytes
 
 -- what was found is a granule of the range
-abbrev pub found_hidden : (start : ℕ) → Query → ReachAnswer → Bool
-found_hidden start q (Found p) = is_hidden start q p
-found_hidden start q Nowhere = false
-found_hidden start q (Refused n) = false
+abbrev pub found_hidden : (start : ℕ) → Query → Option ℕ → Bool
+found_hidden start q (Some p) = is_hidden start q p
+found_hidden start q None = false

@@ -1,19 +1,18 @@
 // The search of what stands outside a range of whole granules: the granules that lie in the range are passed over.
 ghost use Rattle.std.specs.Prelude.{◌≡◌, ◌≤◌};
 ghost use Rattle.state.specs.Lent.{state};
+ghost use Rattle.machine.specs.Refusals.{number_in};
 ghost use Rattle.reach.specs.Reach.{end, packed_reach, query_of};
 ghost use Rattle.reach.specs.Outside.{is_hidden, found_hidden, place_behind, at_edges, outside_refusal, outside_answer, OutsidePromise};
 
-use crate::{Query, ReachAnswer, first_place, pack, refusal};
+use crate::{Query, first_place, pack, refusal};
+use machine::{Refusal, refuse_unless};
 use state::{CAPABILITY_COUNT, GRANULE_BYTES};
-
-// A range that cuts a granule.
-const CUTS_A_GRANULE: u32 = 22;
 
 // ---- the granules of the range
 
 // The range's end, a whole number.
-fn range_end(q: Query) -> u64
+pub(crate) fn range_end(q: Query) -> u64
     ensures { result ≡ end q }
 {
     q.low as u64 + q.length as u64
@@ -28,18 +27,14 @@ fn is_hidden(start: u32, q: Query, place: u32) -> bool
     }
     let granule = place - CAPABILITY_COUNT as u32;
     let address = start as u64 + granule as u64 * GRANULE_BYTES as u64;
-    choices::both(q.low as u64 <= address, address < range_end(q))
+    q.low as u64 <= address && address < range_end(q)
 }
 
 // Whether what was found is one.
-fn is_found_hidden(start: u32, q: Query, found: ReachAnswer) -> bool
+fn is_found_hidden(start: u32, q: Query, found: Option<u32>) -> bool
     ensures { result ≡ found_hidden start q found }
 {
-    match found {
-        ReachAnswer::Found(place) => is_hidden(start, q, place),
-        ReachAnswer::Nowhere => false,
-        ReachAnswer::Refused(_) => false,
-    }
+    found.is_some_and(|place| is_hidden(start, q, place))
 }
 
 // The place behind them.
@@ -56,24 +51,23 @@ fn place_behind(start: u32, q: Query) -> u32
 fn is_at_edges(q: Query) -> bool
     ensures { result ≡ at_edges q }
 {
-    choices::both(
-        q.low % GRANULE_BYTES == 0,
-        range_end(q) % GRANULE_BYTES as u64 == 0,
-    )
+    q.low % GRANULE_BYTES == 0 && range_end(q) % GRANULE_BYTES as u64 == 0
 }
 
-// The number of the first refusal that applies, or 0: those of `reach`, then a range that cuts a granule.
-fn outside_refusal(regs: &[u32], start: u32, mem: &[u8], tags: &[u8], q: Query, from: u32) -> u32
-    ensures { result ≡ outside_refusal start q from (state regs.now mem.now tags.now) }
+// The first refusal that applies: those of `reach`, then a range that cuts a granule.
+#[tactic(auto, using(machine::proofs::Laws::test_passed, machine::proofs::Laws::test_failed, crate::proofs::Passing::refused_as_reach, crate::proofs::Passing::refused_by_edges))]
+fn outside_refusal(
+    regs: &[u32],
+    start: u32,
+    mem: &[u8],
+    tags: &[u8],
+    q: Query,
+    from: u32,
+) -> Result<(), Refusal>
+    ensures { number_in result ≡ outside_refusal start q from (state regs.now mem.now tags.now) }
 {
-    let no = refusal(regs, start, mem, tags, q, from);
-    if no != 0 {
-        return no;
-    }
-    if !is_at_edges(q) {
-        return CUTS_A_GRANULE;
-    }
-    0
+    refusal(regs, start, mem, tags, q, from)?;
+    refuse_unless(is_at_edges(q), Refusal::Range)
 }
 
 // The first place from one on whose capability counts and that is no granule of the range. Those are one row of places: where the first find is one
@@ -85,18 +79,15 @@ pub fn reach_outside(
     tags: &[u8],
     q: Query,
     from: u32,
-) -> ReachAnswer
+) -> Result<Option<u32>, Refusal>
     ensures { OutsidePromise start q from (state regs.now mem.now tags.now) result }
 {
-    let no = outside_refusal(regs, start, mem, tags, q, from);
-    if no != 0 {
-        return ReachAnswer::Refused(no);
-    }
+    outside_refusal(regs, start, mem, tags, q, from)?;
     let found = first_place(regs, mem, tags, q, from);
     if !is_found_hidden(start, q, found) {
-        return found;
+        return Ok(found);
     }
-    first_place(regs, mem, tags, q, place_behind(start, q))
+    Ok(first_place(regs, mem, tags, q, place_behind(start, q)))
 }
 
 // ---- for C

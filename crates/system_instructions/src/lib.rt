@@ -10,6 +10,7 @@ use instructions::{Csr, CsrKind, Scr, SystemInstruction};
 use state::{BREAKPOINT, ENVIRONMENT_CALL, Effect, GENERAL_COUNT, PCC_REGISTER};
 
 // What a CSR instruction asks to write.
+#[tactic(auto, unfolding(crate::specs::System::csr_asked))]
 fn csr_asked(kind: CsrKind, old: u32, operand: u32) -> u32
     ensures { result ≡ csr_asked kind old operand }
 {
@@ -21,6 +22,7 @@ fn csr_asked(kind: CsrKind, old: u32, operand: u32) -> u32
 }
 
 // What is written of it.
+#[tactic(auto, unfolding(crate::specs::System::csr_written))]
 fn csr_written(csr: Csr, old: u32, asked: u32) -> u32
     ensures { result ≡ csr_written csr old asked }
 {
@@ -34,6 +36,7 @@ fn csr_written(csr: Csr, old: u32, asked: u32) -> u32
 }
 
 // Whether there is a write at all, by the register or the immediate that is named.
+#[tactic(auto, unfolding(crate::specs::System::csr_writes))]
 fn csr_writes(kind: CsrKind, named: u32) -> bool
     ensures { result ≡ csr_writes kind named }
 {
@@ -45,6 +48,7 @@ fn csr_writes(kind: CsrKind, named: u32) -> bool
 }
 
 // The read, and the write where there is one.
+#[tactic(auto, unfolding(crate::specs::System::csr_write))]
 fn csr_write(writes: bool, csr: Csr, rd: u32, old: u32, value: u32) -> Effect
     ensures { result ≡ csr_write writes csr rd old value }
 {
@@ -63,6 +67,7 @@ fn csr_write(writes: bool, csr: Csr, rd: u32, old: u32, value: u32) -> Effect
     }
 }
 
+#[tactic(auto, unfolding(crate::specs::System::csr_effect))]
 fn csr_effect(kind: CsrKind, csr: Csr, rd: u32, named: u32, operand: u32, regs: &[u32]) -> Effect
     ensures { result ≡ csr_effect kind csr rd named operand regs.now }
 {
@@ -77,6 +82,7 @@ fn csr_effect(kind: CsrKind, csr: Csr, rd: u32, named: u32, operand: u32, regs: 
 }
 
 // A special register as it is read or written.
+#[tactic(auto, unfolding(crate::specs::System::scr_value))]
 fn scr_value(scr: Scr, c: Capability) -> Capability
     ensures { result ≡ scr_value scr c }
 {
@@ -89,6 +95,7 @@ fn scr_value(scr: Scr, c: Capability) -> Capability
 }
 
 // The read, and the write where cs1 is not c0.
+#[tactic(auto, unfolding(crate::specs::System::special_write))]
 fn special_write(scr: Scr, rd: u32, rs1: u32, old: Capability, value: Capability) -> Effect
     ensures { result ≡ special_write scr rd rs1 old value }
 {
@@ -105,6 +112,7 @@ fn special_write(scr: Scr, rd: u32, rs1: u32, old: Capability, value: Capability
 }
 
 // CSpecialRW.
+#[tactic(auto, unfolding(crate::specs::System::special_effect))]
 fn special(scr: Scr, rd: u32, rs1: u32, regs: &[u32]) -> Effect
     ensures { result ≡ special_effect scr rd rs1 regs.now }
 {
@@ -118,6 +126,7 @@ fn special(scr: Scr, rd: u32, rs1: u32, regs: &[u32]) -> Effect
     )
 }
 
+#[tactic(auto, unfolding(crate::specs::System::system_effect))]
 pub fn system_effect(i: SystemInstruction, regs: &[u32]) -> Effect
     ensures { result ≡ system_effect i regs.now }
 {
