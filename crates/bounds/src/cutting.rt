@@ -19,13 +19,18 @@ fn fits_at(base: u64, end: u64, e: Exponent) -> bool
     e.round_up(end) <= e.block(base) + e.scaled(MOST_UNITS)
 }
 
-// The exponent that the length's leading zeros propose: in units of any lesser one the length alone is more than 511.
+// The exponent that the length's leading zeros propose: in units of any lesser one the length alone is more than 511. Every cut takes this
+// difference, and by a test it is built shorter than by `saturating_sub`.
 fn suggestion(length: u32) -> Exponent
     ensures { result.value ≡ suggestion length }
 {
-    Exponent {
-        value: SPARE_BITS.saturating_sub(length.leading_zeros()),
-    }
+    let zeros = length.leading_zeros();
+    let value = if zeros < SPARE_BITS {
+        SPARE_BITS - zeros
+    } else {
+        0
+    };
+    Exponent { value }
 }
 
 // The least exponent that fits: the one that is proposed, or the next.
