@@ -5,7 +5,7 @@ ghost use Rattle.sheets.specs.Scanning.{Lined, advanced, in_name, in_rights, in_
 
 use crate::names::{NAME_BYTES, is_letter};
 use crate::{Field, Line, Region, Scan};
-use text::{HEX, digit_of};
+use text::digit_of;
 
 // The word that begins a line.
 const WORD: [u8; 6] = [b'r', b'e', b'g', b'i', b'o', b'n'];
@@ -92,21 +92,18 @@ fn in_number(s: Scan, b: u8) -> Scan
     let first = s.field == Field::Start;
     let n = s.count;
     if n < DIGITS {
-        let d = digit_of(b);
-        if HEX <= d {
-            begin(Field::Spoiled)
-        } else if first {
-            Scan {
+        match digit_of(b) {
+            Some(d) if first => Scan {
                 count: n + 1,
                 start: with_digit(s.start, d),
                 ..s
-            }
-        } else {
-            Scan {
+            },
+            Some(d) => Scan {
                 count: n + 1,
                 size: with_digit(s.size, d),
                 ..s
-            }
+            },
+            None => begin(Field::Spoiled),
         }
     } else if b == b'\t' {
         Scan {
