@@ -1,11 +1,12 @@
 -- The cut of a request [base, end): document 01, "Cutting bounds". The answer to a request of two words: document 01, "Answers", numbers 0 and 6.
 -- Assumes nothing.
-use Rattle.std.specs.Prelude.{◌≡◌, ℕ, zero, suc, ◌+◌, ◌-◌, ◌*◌, ◌/◌, ◌%◌, ◌^◌, Bool, cond, ◌&&◌, ◌==◌, nat_le, nat_lt}
+use Rattle.std.specs.Prelude.{◌≡◌, ℕ, zero, suc, ◌+◌, ◌-◌, ◌*◌, ◌/◌, ◌%◌, ◌^◌, Bool, cond, ◌&&◌, ◌==◌, nat_le, nat_lt, Result, Ok, Err}
 use Rattle.std.specs.Int.Count.{count_leading_zeros}
 use Rattle.metadata.specs.Word.{with_bounds}
 use Rattle.bounds.specs.Bounds.{low_at, high_at}
-use Rattle.bounds.specs.declared.CutAnswer.{CutAnswer}
-use Rattle.bounds.specs.declared.CutAnswer.TheVariants.{Cut, PastEnd}
+use Rattle.bounds.specs.declared.CutRegion.{CutRegion}
+use Rattle.bounds.specs.declared.CutError.{CutError}
+use Rattle.bounds.specs.declared.CutError.TheVariants.{PastEnd}
 
 -- x over 2^e, rounded down and rounded up
 unfoldable pub floor_at : (e x : ℕ) → ℕ
@@ -69,32 +70,32 @@ abbrev pub past_end : (base length : ℕ) → Bool
 past_end base length = nat_lt (2 ^ 32) (base + length)
 
 -- the region of a cut, and whether it is exact
-abbrev pub region_answer : (base end : ℕ) → CutAnswer
-region_answer base end = Cut (record { low = cut_low base end; high = cut_high base end }) (cut_exact base end)
+abbrev pub region_answer : (base end : ℕ) → CutRegion
+region_answer base end = record { region = record { low = cut_low base end; high = cut_high base end }; exact = cut_exact base end }
 
 -- the answer to a cut asked by plain numbers: a refusal, or the region
-unfoldable pub cut_of : (base length : ℕ) → CutAnswer
-cut_of base length = cond (past_end base length) PastEnd (region_answer base (base + length))
+unfoldable pub cut_of : (base length : ℕ) → Result CutRegion CutError
+cut_of base length = cond (past_end base length) (Err PastEnd) (Ok (region_answer base (base + length)))
 
 -- the paper's number of an answer, and its values; where refused there is no region, and each value is 0
-abbrev pub answer_number : CutAnswer → ℕ
-answer_number (Cut r exact) = 0
-answer_number PastEnd = 6
+abbrev pub answer_number : Result CutRegion CutError → ℕ
+answer_number (Ok c) = 0
+answer_number (Err PastEnd) = 6
 
-abbrev pub answer_low : CutAnswer → ℕ
-answer_low (Cut r exact) = r.low
-answer_low PastEnd = 0
+abbrev pub answer_low : Result CutRegion CutError → ℕ
+answer_low (Ok c) = c.region.low
+answer_low (Err e) = 0
 
-abbrev pub answer_high : CutAnswer → ℕ
-answer_high (Cut r exact) = r.high
-answer_high PastEnd = 0
+abbrev pub answer_high : Result CutRegion CutError → ℕ
+answer_high (Ok c) = c.region.high
+answer_high (Err e) = 0
 
-abbrev pub answer_exact : CutAnswer → ℕ
-answer_exact (Cut r exact) = cond exact 1 0
-answer_exact PastEnd = 0
+abbrev pub answer_exact : Result CutRegion CutError → ℕ
+answer_exact (Ok c) = cond c.exact 1 0
+answer_exact (Err e) = 0
 
 -- what is promised of the answer: which it is, and the paper's number and values of it
-pub record CutPromise (base length : ℕ) (answer : CutAnswer) : Type 0 where
+pub record CutPromise (base length : ℕ) (answer : Result CutRegion CutError) : Type 0 where
   pub answer_is : answer ≡ cut_of base length
   pub number_is : answer_number answer ≡ cond (past_end base length) 6 0
   pub low_is : answer_low answer ≡ cond (past_end base length) 0 (cut_low base (base + length))

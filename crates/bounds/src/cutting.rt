@@ -5,7 +5,7 @@ ghost use Rattle.bounds.specs.Cutting.{suggestion};
 
 use crate::decoding::bounds;
 use crate::shifts::{block, field_of, ones, round_up, scaled};
-use crate::{CutAnswer, MOST_STORED, MOST_UNITS, SPACE, WIDEST, WIDEST_FIELD};
+use crate::{CutError, CutRegion, MOST_STORED, MOST_UNITS, SPACE, WIDEST, WIDEST_FIELD};
 use choices::both;
 
 // The bits of a length above the nine of a field.
@@ -74,22 +74,21 @@ pub fn is_unrounded(base: u32, length: u32) -> bool
 }
 
 // The cut of a request that ends by 2^32.
-fn cut_within(base: u32, length: u32) -> CutAnswer
+fn cut_within(base: u32, length: u32) -> CutRegion
     ensures { result ≡ region_answer base (base + length) }
 {
     let region = bounds(base, with_cut(0, base, length));
     let end = base as u64 + length as u64;
     let exact = both(region.low == base, region.high == end);
-    CutAnswer::Cut { region, exact }
+    CutRegion { region, exact }
 }
 
 // The answer to a cut asked by plain numbers.
-pub fn cut(base: u32, length: u32) -> CutAnswer
+pub fn cut(base: u32, length: u32) -> Result<CutRegion, CutError>
     ensures { CutPromise base length result }
 {
     if SPACE < base as u64 + length as u64 {
-        CutAnswer::PastEnd
-    } else {
-        cut_within(base, length)
+        return Err(CutError::PastEnd);
     }
+    Ok(cut_within(base, length))
 }

@@ -1,6 +1,9 @@
 // The bounds of a metadata word at an address, and the cut of a request.
 #![tactic(auto)]
 
+ghost use Rattle.std.specs.Prelude.{◌≡◌};
+ghost use Rattle.bounds.specs.Cutting.{answer_number};
+
 mod cutting;
 mod decoding;
 mod lengths;
@@ -30,16 +33,36 @@ pub(crate) const WIDEST_FIELD: u32 = 15;
 
 pub(crate) const WIDEST: u32 = 24;
 
+// Document 01's number of a request that ends past 2^32.
+const PAST_END: u32 = 6;
+
 // The bounds [low, high).
-#[derive(Clone, Copy)]
+#[derive(Clone, Copy, Debug, PartialEq, Eq)]
 pub struct Region {
     pub low: u32,
     pub high: u64,
 }
 
-// The answer to a cut asked by plain numbers.
-#[derive(Clone, Copy)]
-pub enum CutAnswer {
-    Cut { region: Region, exact: bool },
+// A cut's region, and whether it is the request.
+#[derive(Clone, Copy, Debug, PartialEq, Eq)]
+pub struct CutRegion {
+    pub region: Region,
+    pub exact: bool,
+}
+
+// Why a cut asked by plain numbers is refused: the request ends past 2^32.
+#[derive(Clone, Copy, Debug, PartialEq, Eq)]
+pub enum CutError {
     PastEnd,
+}
+
+impl CutError {
+    // Document 01's number of the refusal.
+    pub fn number(self) -> u32
+        ensures { result ≡ answer_number (Err self) }
+    {
+        match self {
+            CutError::PastEnd => PAST_END,
+        }
+    }
 }

@@ -8,7 +8,9 @@ use native.Mathlib.Omega.{arith}
 use borrow.Author.Tests.{ltb-true, ltb-false, le-ltb}
 use Rattle.bounds.specs.Bounds.{Expressible, Contains}
 use Rattle.bounds.specs.Cutting.{past_end, cut_low, cut_high, cut_exact, answer_number, answer_low, answer_high, answer_exact, CutPromise}
-use Rattle.bounds.specs.declared.CutAnswer.{CutAnswer}
+use Rattle.std.specs.Prelude.{Result}
+use Rattle.bounds.specs.declared.CutRegion.{CutRegion}
+use Rattle.bounds.specs.declared.CutError.{CutError}
 use Rattle.capability.specs.Capability.{low, high}
 use Rattle.capability.specs.declared.Capability.{Capability}
 use Rattle.capability_laws.specs.Authority.{Authority}
@@ -26,7 +28,7 @@ flag_clear : (t : Bool) → (◌≡◌ {A = ℕ} (cond t 1 0) 0) ↔ (t ≡ true
 flag_clear true = (λ h. absurd (omega (arith, h)), λ h. absurd (h refl))
 flag_clear false = (λ h. λ e. let z : ◌≡◌ {A = ℕ} 0 1 = cc in omega arith, λ h. refl)
 
-module _ (base length : ℕ) (word : base < 2 ^ 32) (answer : CutAnswer) (promised : CutPromise base length answer) where
+module _ (base length : ℕ) (word : base < 2 ^ 32) (answer : Result CutRegion CutError) (promised : CutPromise base length answer) where
   -- ---- refused or not
 
   number : (t : Bool) → past_end base length ≡ t → answer_number answer ≡ cond t 6 0

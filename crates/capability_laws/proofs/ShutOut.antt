@@ -8,19 +8,21 @@ use lib.Dec.{T, eqb→eq}
 use Rattle.choices.proofs.Every.{and_left, and_right}
 use Rattle.bounds.specs.Bounds.{Expressible, Contains}
 use Rattle.bounds.specs.Cutting.{cut_of, answer_number, answer_low, answer_high, CutPromise}
-use Rattle.bounds.specs.declared.CutAnswer.{CutAnswer}
-use Rattle.bounds.specs.declared.CutAnswer.TheVariants.{PastEnd}
+use Rattle.std.specs.Prelude.{Result, Err}
+use Rattle.bounds.specs.declared.CutRegion.{CutRegion}
+use Rattle.bounds.specs.declared.CutError.{CutError}
+use Rattle.bounds.specs.declared.CutError.TheVariants.{PastEnd}
 use Rattle.capability_laws.specs.Cases.{Case, bounds, rights, narrowed, cut, holds, all, cases}
 use Rattle.capability_laws.proofs.Cases.{cases_hold}
 use Rattle.capability_laws.proofs.Answers.{cut_claim}
 
 -- the answer is [0, 2^32)
-abbrev pub WholeSpace : CutAnswer → Type 0
+abbrev pub WholeSpace : Result CutRegion CutError → Type 0
 WholeSpace a = (answer_low a ≡ 0) × (answer_high a ≡ 2 ^ 32)
 
 -- ---- of every request that ends by 2^32
 
-module _ (base n : ℕ) (word : base < 2 ^ 32) (sane : base + n ≤ 2 ^ 32) (a : CutAnswer) (promised : CutPromise base n a) where
+module _ (base n : ℕ) (word : base < 2 ^ 32) (sane : base + n ≤ 2 ^ 32) (a : Result CutRegion CutError) (promised : CutPromise base n a) where
   -- an empty region is answered only to an empty request
   pub empty_only : answer_high a ≤ answer_low a → n ≡ 0
   empty_only h = omega (arith, h, ((cut_claim base n word a promised).region sane).contains)
@@ -78,7 +80,7 @@ row_512 = row_at cases 7 cases_hold
 
 -- ---- what no cutter that keeps the promise does
 
-module _ (a b : CutAnswer) (asked-511 : CutPromise 0x20000001 511 a) (asked-512 : CutPromise 0x20000001 512 b) where
+module _ (a b : Result CutRegion CutError) (asked-511 : CutPromise 0x20000001 511 a) (asked-512 : CutPromise 0x20000001 512 b) where
   low_511 : answer_low a ≡ 0x20000001
   low_511 = ap answer_low asked-511.answer_is ∙ row_511.low_at_lem
 
@@ -104,7 +106,7 @@ module _ (a b : CutAnswer) (asked-511 : CutPromise 0x20000001 511 a) (asked-512 
   one_region_shut_out = (λ h. omega (arith, h, low_511, low_512), λ h. omega (arith, h, high_511, high_512))
 
   -- nor a refusal
-  pub refusing_cut_shut_out : (a ≡ PastEnd → ⊥) × (b ≡ PastEnd → ⊥)
+  pub refusing_cut_shut_out : (a ≡ Err PastEnd → ⊥) × (b ≡ Err PastEnd → ⊥)
   refusing_cut_shut_out = (
     λ h. omega (arith, ap answer_number h, ap answer_number asked-511.answer_is, row_511.number_is),
     λ h. omega (arith, ap answer_number h, ap answer_number asked-512.answer_is, row_512.number_is),

@@ -1,106 +1,111 @@
 -- A block taken in pieces leads to the state of all its bytes, and the answers of the reads and writes decide what a turn comes to.
 -- Assumes nothing.
-use Rattle.std.proofs.Common.{◌≡◌, ℕ, zero, suc, ◌+◌, ◌≤◌, min, true, false, List, [], ◌++◌, length, take, drop, refl, sym, ap, ◌∙◌, ◌⊎◌, inl, inr, arith}
-use Rattle.std.proofs.Common.{Result, Ok, Err, OnOk, is_ok, is_err, zero-add, length-append}
+use Rattle.std.proofs.Common.{◌≡◌, ℕ, zero, suc, ◌+◌, ◌-◌, ◌<◌, ◌≤◌, min, List, [], ◌++◌, length, take, drop, refl, sym, ap, ◌∙◌, inl, inr, arith}
+use Rattle.std.proofs.Common.{true, Option, Some, Result, Ok, Err, zero-add, length-append, length-drop}
 use borrow.Author.Tests.{le-leb}
-use lib.Seq.{take-add, take_all, take-append_seam}
+use lib.Seq.{take-add, take_all, take-append_seam, drop-drop}
 use Rattle.std.specs.declared.io.Error.{Error}
-use Rattle.cut_lines.specs.Scanning.{start_of, scanned, last_text, Processed}
+use Rattle.std.specs.Io.KnownBytes.{Appends}
+use Rattle.std.proofs.KnownBytes.{Appends-nil, Appends-trans}
+use Rattle.cut_lines.specs.Scanning.{start_of, scanned, scan_text, Processed}
 use Rattle.text.specs.Writing.{put}
-use Rattle.cut_lines.specs.Writing.{longest, has_room, written_end, Writes}
+use Rattle.text.proofs.Putting.{placed_take}
+use Rattle.cut_lines.specs.Writing.{longest, has_room, Writes}
+use Rattle.cut_lines.specs.declared.NoRoom.{NoRoom}
 use Rattle.cut_lines.specs.declared.Scan.{Scan}
 use Rattle.cut_lines.specs.declared.Progress.{Progress}
-use Rattle.cut_lines.specs.declared.Written.{Written}
-use Rattle.cut_lines.proofs.Blocks.{scanned_none}
-use Rattle.cut_lines.proofs.Texts.{scanned_append}
-use Rattle.cut.specs.declared.Answer.{Answer}
-use Rattle.cut.specs.declared.Answer.TheVariants.{Read, Write}
-use Rattle.cut.specs.declared.Turn.{Turn}
-use Rattle.cut.specs.declared.Outcome.{Outcome}
-use Rattle.cut.specs.Turns.{has_failed, count, Stopped, Taken, AfterCount, AfterRead, Turned, Starts, LastWritten, FailedAt, Ends}
+use Rattle.cut_lines.proofs.Blocks.{scanned_none, read_le, read_some}
+use Rattle.cut_lines.proofs.Texts.{scanned_append, text_append}
+use Rattle.cut.specs.declared.Failure.{Failure}
+use Rattle.cut.specs.declared.Failure.TheVariants.{Read}
+use Rattle.cut.specs.Turns.{Stopped, AfterCount, AfterRead, Turned, Starts, LastWritten, FailedAt, Ends}
 
 -- ---- a block
 
--- no byte of the block is taken
-pub block_start : (s : Scan) (block : List ℕ) → s ≡ scanned s (take 0 block)
-block_start s block = sym (scanned_none s)
+-- Within a block, of which `rest` is left: the state and what was written are those of the bytes before.
+pub record Part (s₀ : Scan) (block : List ℕ) (held : Option (List ℕ)) (s : Scan) (rest : List ℕ) (holds : Option (List ℕ)) : Type 0 where
+  pub from : ℕ
+  pub rest_is : rest ≡ drop from block
+  pub scan_is : s ≡ scanned s₀ (take from block)
+  pub written : Appends held holds (scan_text s₀ (take from block))
 
--- a piece of it, by another name
-pub same_piece : {s t : Scan} {a b before after : List ℕ} {p : Progress} → s ≡ t → a ≡ b → Processed s a before after p → Processed t b before after p
-same_piece e f q = rw (← e, ← f) q
+pub part_start : (s : Scan) (block : List ℕ) (held : Option (List ℕ)) → Part s block held s block held
+unfolding scan_text
+part_start s block held = record { from = 0; rest_is = refl; scan_is = sym (scanned_none s); written = Appends-nil held }
 
--- the next piece of it
-pub block_turn : (s : Scan) (block : List ℕ) (from : ℕ) {before after : List ℕ} {p : Progress}
-    → Processed (scanned s (take from block)) (drop from block) before after p → p.scan ≡ scanned s (take (from + p.read) block)
-block_turn s block from {before} {after} {p} q = rw (take-add, scanned_append s (take from block) (take p.read (drop from block))) q.scan_is
+-- what is left of a slice after a piece, as it is sliced
+left_after : (rest : List ℕ) (n : ℕ) → take (length rest - n) (drop n rest) ≡ drop n rest
+left_after rest n = let k = length-drop n rest in take_all (length rest - n) (drop n rest) (omega arith)
 
--- a piece of it whose write failed
-pub write_failed : (s : Scan) (block after : List ℕ) (e : Error) (r : Turn) → r ≡ Turn.Failed (Write (Err e)) → Stopped s block after → Taken s block after r
-write_failed s block after e r q h = rw q ((e, refl), h)
+pub left_smaller : {s : Scan} {rest before after : List ℕ} {p : Progress} → Processed s rest before after p → longest ≤ length before → 0 < length rest
+    → length (take (length rest - p.read) (drop p.read rest)) < length rest
+left_smaller {s} {rest} {before} {after} {p} q room some =
+    let k = length-drop p.read rest in
+    rw (left_after rest p.read) (omega (arith, read_some q room some, read_le q))
 
--- all of it
-pub block_end : (s t : Scan) (block : List ℕ) (from : ℕ) → t ≡ scanned s (take from block) → length block ≤ from → t ≡ scanned s block
-block_end s t block from h l = rw (take_all from block l) at h
+module _ {s₀ s : Scan} {block rest : List ℕ} {held mid : Option (List ℕ)} (h : Part s₀ block held s rest mid) where
+  -- the rest, by the block's bytes
+  of_block : {before after : List ℕ} {p : Progress} → Processed s rest before after p
+      → Processed (scanned s₀ (take h.from block)) (drop h.from block) before after p
+  of_block q = rw (← h.scan_is, ← h.rest_is) q
 
--- ---- a turn, by what the read answered
+  -- the next piece of it
+  pub part_next : {before after : List ℕ} {p : Progress} (holds : Option (List ℕ)) → Processed s rest before after p
+      → Appends mid holds (take p.written after) → Part s₀ block held p.scan (take (length rest - p.read) (drop p.read rest)) holds
+  part_next {before} {after} {p} holds q w =
+      let b = of_block q in
+      let more : take p.written after ≡ scan_text (scanned s₀ (take h.from block)) (take p.read (drop h.from block)) = placed_take b.text_is in
+      record {
+        from = h.from + p.read;
+        rest_is = left_after rest p.read ∙ ap (drop p.read) h.rest_is ∙ drop-drop p.read h.from block;
+        scan_is = rw (take-add, scanned_append s₀ (take h.from block) (take p.read (drop h.from block))) b.scan_is;
+        written = rw (take-add, text_append s₀ (take h.from block) (take p.read (drop h.from block)))
+            (Appends-trans held mid holds _ _ h.written (rw more at w));
+      }
 
-module _ (s : Scan) (input after : List ℕ) where
-  pub read_failed : (got : Result ℕ Error) (r : Turn) → has_failed got ≡ true → r ≡ Turn.Failed (Read got) → AfterRead got s input after r
-  read_failed (Ok k) r h e = let z : ◌≡◌ {A = ℕ} 0 1 = cc in absurd (omega arith)
-  read_failed (Err x) r h e = e
+  -- a piece of it whose write failed
+  pub part_stopped : {before after : List ℕ} {p : Progress} → 0 < length rest → Processed s rest before after p → Stopped s₀ block after
+  part_stopped {before} {after} {p} some q =
+      let n = ap length h.rest_is ∙ length-drop h.from block in
+      record { from = h.from; before = before; progress = p; left = omega arith; processed = of_block q }
 
-  pub read_ended : (got : Result ℕ Error) → has_failed got ≡ false → count got (length input) ≡ 0 → AfterRead got s input after Turn.Ended
-  read_ended (Ok k) h e = rw e refl
-  read_ended (Err x) h e = let z : ◌≡◌ {A = ℕ} 0 1 = cc in absurd (omega arith)
+  -- all of it
+  all_taken : rest ≡ [] → take h.from block ≡ block
+  all_taken e =
+      let n = sym (ap length e) ∙ ap length h.rest_is ∙ length-drop h.from block in
+      take_all h.from block (omega arith)
 
-  count_taken : (n : ℕ) (r : Turn) → (n ≡ 0 → ⊥) → Taken s (take n input) after r → AfterCount n s input after r
-  count_taken zero r h t = absurd (h refl)
-  count_taken (suc k) r h t = t
+  pub part_scan : rest ≡ [] → s ≡ scanned s₀ block
+  part_scan e = h.scan_is ∙ ap (scanned s₀) (all_taken e)
 
-  pub read_taken : (got : Result ℕ Error) (n : ℕ) (r : Turn) → has_failed got ≡ false → n ≡ count got (length input) → (n ≡ 0 → ⊥)
-      → Taken s (take n input) after r → AfterRead got s input after r
-  read_taken (Ok k) n r h e p t = rw (← e) (count_taken n r p t)
-  read_taken (Err x) n r h e p t = let z : ◌≡◌ {A = ℕ} 0 1 = cc in absurd (omega arith)
+  pub part_text : rest ≡ [] → Appends held mid (scan_text s₀ block)
+  part_text e = rw (all_taken e) at h.written
 
--- ---- a writer that has room: where its text ends, and what the buffer starts with
+-- ---- a writer that has room: its text, and what the buffer starts with
 
-module _ {before text after : List ℕ} {answer : Written} (room : longest ≤ length before) (w : Writes before 0 text after answer) where
+module _ {before text after : List ℕ} {answer : Result ℕ NoRoom} (room : longest ≤ length before) (w : Writes before 0 text after answer) where
   has_room_lem : has_room before 0 ≡ true
   has_room_lem = le-leb (0 + longest) (length before) (omega arith)
 
   left : after ≡ put before 0 text
   left = rw has_room_lem at w.after_is
 
-  pub writer_end : written_end answer ≡ length text
-  writer_end = rw (has_room_lem, zero-add) at w.end_is
-
   pub writer_starts : Starts after text
   unfolding put
   writer_starts = rw (left, zero-add) (take-append_seam text (drop (length text) before))
 
-  pub writer_text : {n : ℕ} → n ≡ written_end answer → take n after ≡ text
-  writer_text e = rw (e, writer_end) writer_starts
+  pub writer_end : {n : ℕ} → answer ≡ Ok n → n ≡ length text
+  writer_end {n} e =
+      let a : Ok n ≡ Ok (0 + length text) = sym e ∙ (rw has_room_lem at w.answer_is) in
+      let m : n ≡ 0 + length text = cc in
+      omega arith
 
-  pub writer_fits : written_end answer ≤ length after
+  pub writer_text : {n : ℕ} → answer ≡ Ok n → take n after ≡ text
+  writer_text e = rw (writer_end e) writer_starts
+
+  pub writer_fits : {n : ℕ} → answer ≡ Ok n → n ≤ length after
   unfolding put
-  writer_fits = rw (writer_end, left, length-append) (omega arith)
-
--- the answer of a call, where it succeeded and where it failed
-pub if_ok : {A P : Type 0} (r : Result A Error) → is_ok r ≡ true → OnOk r P → P
-if_ok (Ok x) h p = p
-if_ok (Err e) h p = let z : ◌≡◌ {A = ℕ} 0 1 = cc in absurd (omega arith)
-
-pub if_not_err : {A P : Type 0} (r : Result A Error) → is_err r ≡ false → OnOk r P → P
-if_not_err (Ok x) h p = p
-if_not_err (Err e) h p = let z : ◌≡◌ {A = ℕ} 0 1 = cc in absurd (omega arith)
-
-pub if_not_ok : {A : Type 0} (r : Result A Error) → is_ok r ≡ false → (e : Error) × (r ≡ Err e)
-if_not_ok (Ok x) h = let z : ◌≡◌ {A = ℕ} 0 1 = cc in absurd (omega arith)
-if_not_ok (Err e) h = (e, refl)
-
-pub if_err : {A : Type 0} (r : Result A Error) → is_err r ≡ true → (e : Error) × (r ≡ Err e)
-if_err (Ok x) h = let z : ◌≡◌ {A = ℕ} 0 1 = cc in absurd (omega arith)
-if_err (Err e) h = (e, refl)
+  writer_fits e = rw (writer_end e, left, length-append) (omega arith)
 
 -- ---- a run: the state is that of the bytes taken so far
 
@@ -111,41 +116,35 @@ pub run_start : (s : Scan) → s ≡ start_of 1 → Reached s
 run_start s h = ([], h ∙ sym (scanned_none (start_of 1)))
 
 -- where a call failed
-abbrev FailedRun : (input after : List ℕ) → Answer → Type 0
-FailedRun input after a = (bytes : List ℕ) × FailedAt (scanned (start_of 1) bytes) input after a
+abbrev FailedRun : (input after : List ℕ) → Failure → Type 0
+FailedRun input after f = (bytes : List ℕ) × FailedAt (scanned (start_of 1) bytes) input after f
 
 module _ (s : Scan) (input after : List ℕ) where
-  count_on : (n : ℕ) (t : Scan) → AfterCount n s input after (Turn.On t) → Reached s → Reached t
-  count_on zero t h r = let z : ◌≡◌ {A = ℕ} 0 1 = cc in absurd (omega arith)
+  count_on : (n : ℕ) (t : Scan) → AfterCount n s input after (Ok (Some t)) → Reached s → Reached t
+  count_on zero t h r = absurd cc
   count_on (suc k) t h (bytes, e) =
       let more : List ℕ = take (suc k) input in
       (bytes ++ more, h ∙ ap (λ x. scanned x more) e ∙ sym (scanned_append (start_of 1) bytes more))
 
-  read_on : (got : Result ℕ Error) (t : Scan) → AfterRead got s input after (Turn.On t) → Reached s → Reached t
+  read_on : (got : Result ℕ Error) (t : Scan) → AfterRead got s input after (Ok (Some t)) → Reached s → Reached t
   read_on (Ok k) t h r = count_on (min k (length input)) t h r
-  read_on (Err x) t h r = let z : ◌≡◌ {A = ℕ} 0 1 = cc in absurd (omega arith)
+  read_on (Err x) t h r = absurd cc
 
-  pub turn_on : (r : Turn) (t : Scan) → Turned s input after r → r ≡ Turn.On t → Reached s → Reached t
-  turn_on r t h q e = read_on h.got t (rw q at h.turn_is) e
+  pub turn_on : (t : Scan) → Turned s input after (Ok (Some t)) → Reached s → Reached t
+  turn_on t h e = read_on h.got t h.turn_is e
 
-  count_failed : (n : ℕ) (a : Answer) → AfterCount n s input after (Turn.Failed a) → Reached s → FailedRun input after a
-  count_failed zero a h r = let z : ◌≡◌ {A = ℕ} 0 1 = cc in absurd (omega arith)
-  count_failed (suc k) a ((x, q), stopped) (bytes, e) = (bytes, rw (q, ← e) ((x, refl), inr (suc k, stopped)))
+  count_failed : (n : ℕ) (f : Failure) → AfterCount n s input after (Err f) → Reached s → FailedRun input after f
+  count_failed zero f h r = absurd cc
+  count_failed (suc k) f ((x, q), stopped) (bytes, e) = (bytes, rw (q, ← e) (inr (suc k, stopped)))
 
-  read_stopped : (got : Result ℕ Error) (a : Answer) → AfterRead got s input after (Turn.Failed a) → Reached s → FailedRun input after a
-  read_stopped (Ok k) a h r = count_failed (min k (length input)) a h r
-  read_stopped (Err x) a h (bytes, e) = let q : a ≡ Read (Err x) = cc in (bytes, rw q refl)
+  read_stopped : (got : Result ℕ Error) (f : Failure) → AfterRead got s input after (Err f) → Reached s → FailedRun input after f
+  read_stopped (Ok k) f h r = count_failed (min k (length input)) f h r
+  read_stopped (Err x) f h (bytes, e) = let q : f ≡ Read x = cc in (bytes, rw q tt)
 
-  pub turn_failed : (r : Turn) (a : Answer) → Turned s input after r → r ≡ Turn.Failed a → Reached s → FailedRun input after a
-  turn_failed r a h q e = read_stopped h.got a (rw q at h.turn_is) e
+  pub turn_failed : (f : Failure) → Turned s input after (Err f) → Reached s → FailedRun input after f
+  turn_failed f h e = read_stopped h.got f h.turn_is e
 
 -- at the end
-pub last_ends : {s : Scan} {after : List ℕ} (input : List ℕ) (r : Outcome) → LastWritten s after r → Reached s → Ends input after r
-last_ends {s} {after} input r h (bytes, e) = go h.outcome_is
-  where
-    starts : Starts after (last_text (scanned (start_of 1) bytes))
-    starts = rw (← e) h.text_is
-
-    go : (r ≡ Outcome.Done) ⊎ ((x : Error) × (r ≡ Outcome.Failed (Write (Err x)))) → Ends input after r
-    go (inl q) = rw q (bytes, starts)
-    go (inr (x, q)) = rw q (bytes, ((x, refl), inl starts))
+pub last_ends : {s : Scan} {after : List ℕ} (input : List ℕ) (r : Result (Unit {0}) Failure) → LastWritten s after r → Reached s → Ends input after r
+last_ends input (Ok done) h (bytes, e) = (bytes, rw (← e) h.text_is)
+last_ends input (Err f) h (bytes, e) = let (x, q) = h.outcome_is in (bytes, rw (q, ← e) (inl h.text_is))

@@ -1,13 +1,15 @@
 -- A line read byte by byte: the state after its bytes tells what is written for it.
 -- Assumes nothing.
 use Rattle.std.proofs.Common.{◌≡◌, ℕ, zero, suc, ◌+◌, ◌*◌, ◌/◌, ◌%◌, ◌^◌, ◌<◌, ◌≤◌, Bool, true, false, cond, ◌&&◌, eqb, ltb, List, [], ◌∷◌, length, get_or}
-use Rattle.std.proofs.Common.{take, drop, sym, refl, ap, ◌∙◌, add-zero, zero-add, add-one, arith, length-drop, drop_of_length-le, length-take-le, drop-cons}
+use Rattle.std.proofs.Common.{take, drop, refl, ap, ◌∙◌, add-zero, zero-add, arith, length-drop, length-take-le}
 use Rattle.std.proofs.Common.{ltb-false, ltb-true, lt-ltb, eq-eqb, ne_eqb, eqb-true}
 use mathlib.Core.Bool.{and-true, and-false, and_assoc, and-eq-true_iff}
+use Rattle.std.specs.Prelude.{Option, Some, None, option_and_then}
 use Rattle.text.specs.Digits.{digit_of, is_digit, all_digits, number_from, number_of}
 use Rattle.text.specs.Writing.{tab}
-use Rattle.cut_lines.specs.Lines.{well_formed, requested, line_text}
-use Rattle.cut_lines.specs.Scanning.{start_of, expected, value_with, accepted, spoiled, advanced, read_line, outcome, answered}
+use Rattle.cut_lines.specs.Lines.{well_formed, requested, cut_text, bad_text, line_text}
+use Rattle.cut_lines.specs.Scanning.{start_of, expected, value_with, accepted, spoiled, longer, advanced, has_begun, is_whole, read_line, outcome, answered}
+use Rattle.cut_lines.specs.declared.Fields.{Fields}
 use Rattle.cut_lines.specs.declared.Scan.{Scan}
 use Rattle.text.proofs.Numbers.{number_word, number_after, digit_lt}
 
@@ -29,57 +31,57 @@ pub expected_digit : (p b : ℕ) → eqb p 8 ≡ false → expected p b ≡ true
 unfolding expected
 expected_digit p b e h = digit_lt b ((and-eq-true_iff (is_digit b) (ltb p 17)).0 (rw e at h)).0
 
--- a line's bytes from index i on
-pub read_turn : (t : Scan) (l : List ℕ) (i : ℕ) → i < length l → read_line t (drop i l) ≡ read_line (advanced t (get_or l i 0)) (drop (i + 1) l)
-unfolding read_line
-read_turn t l i h = rw (add-one, drop-cons l i 0 h)
+-- what was read after the bytes of a line; the number stays
+read_fields : Option Fields → List ℕ → Option Fields
+read_fields o [] = o
+read_fields o (b ∷ l) = read_fields (option_and_then (λ f. longer f b) o) l
 
-pub read_end : (t : Scan) (l : List ℕ) (i : ℕ) → length l ≤ i → read_line t (drop i l) ≡ t
-unfolding read_line
-read_end t l i h = rw (drop_of_length-le l h)
-
--- what holds after a byte, taken or not, and after all bytes of a line
-after_byte : (P : Scan → Type 0) (s : Scan) (b : ℕ) → P (accepted s b) → P (spoiled s) → P (advanced s b)
-unfolding advanced
-after_byte P s b x y = go (expected s.place b)
-  where
-    go : (t : Bool) → P (cond t (accepted s b) (spoiled s))
-    go true = x
-    go false = y
-
-keeps : (P : Scan → Type 0) → ((t : Scan) (b : ℕ) → P t → P (advanced t b)) → (s : Scan) (l : List ℕ) → P s → P (read_line s l)
-unfolding read_line
-keeps P k s [] h = h
-keeps P k s (b ∷ l) h = keeps P k (advanced s b) l (k s b h)
+line_read : (s : Scan) (l : List ℕ) → read_line s l ≡ record { number = s.number; fields = read_fields s.fields l }
+unfolding advanced read_fields
+line_read s [] = refl
+line_read s (b ∷ l) = line_read (advanced s b) l
 
 pub number_read : (s : Scan) (l : List ℕ) → (read_line s l).number ≡ s.number
-number_read s l = keeps (λ (t : Scan). t.number ≡ s.number) (λ t b h. after_byte (λ (r : Scan). r.number ≡ s.number) t b h h) s l refl
+number_read s l = ap (λ (t : Scan). t.number) (line_read s l)
 
--- a line that has begun, and one that is ill-formed, stay so
-begun_advanced : (s : Scan) (b : ℕ) → 0 < (advanced s b).place
-begun_advanced s b = after_byte (λ (r : Scan). 0 < r.place) s b (omega arith) (omega arith)
+-- a line that is ill-formed, and one that has begun, stay so
+none_read : (l : List ℕ) → read_fields None l ≡ None
+unfolding read_fields
+none_read [] = refl
+none_read (b ∷ l) = none_read l
 
-pub begun_read : (s : Scan) (b : ℕ) (l : List ℕ) → 0 < (read_line s (b ∷ l)).place
-unfolding read_line
-begun_read s b l = keeps (λ (t : Scan). 0 < t.place) (λ t c h. begun_advanced t c) (advanced s b) l (begun_advanced s b)
+begun_longer : (o : Option Fields) (b : ℕ) → has_begun (option_and_then (λ f. longer f b) o) ≡ true
+unfolding longer
+begun_longer None b = refl
+begun_longer (Some f) b = go (expected f.place b)
+  where
+    go : (t : Bool) → has_begun (cond t (Some (accepted f b)) spoiled) ≡ true
+    go true = lt-ltb 0 (f.place + 1) (omega arith)
+    go false = refl
 
-past_read : (s : Scan) (l : List ℕ) → 17 < s.place → 17 < (read_line s l).place
-past_read s l = keeps (λ (t : Scan). 17 < t.place) (λ t b h. after_byte (λ (r : Scan). 17 < r.place) t b (omega arith) (omega arith)) s l
+begun_fields : (o : Option Fields) (l : List ℕ) → has_begun o ≡ true → has_begun (read_fields o l) ≡ true
+unfolding read_fields
+begun_fields o [] h = h
+begun_fields o (b ∷ l) h = begun_fields (option_and_then (λ f. longer f b) o) l (begun_longer o b)
+
+pub begun_read : (s : Scan) (b : ℕ) (l : List ℕ) → has_begun (read_line s (b ∷ l)).fields ≡ true
+unfolding read_fields
+begun_read s b l = rw (line_read s (b ∷ l)) (begun_fields (option_and_then (λ f. longer f b) s.fields) l (begun_longer s.fields b))
 
 -- the bytes from a place on are as they should be
 shape : (place : ℕ) → List ℕ → Bool
 shape p [] = eqb p 17
 shape p (b ∷ l) = expected p b && shape (p + 1) l
 
-shape_read : (s : Scan) (l : List ℕ) → eqb (read_line s l).place 17 ≡ shape s.place l
-unfolding read_line shape advanced
-shape_read s [] = refl
-shape_read s (b ∷ l) = go (expected s.place b) (shape_read (accepted s b) l)
+shape_read : (f : Fields) (l : List ℕ) → is_whole (read_fields (Some f) l) ≡ shape f.place l
+unfolding read_fields shape longer
+shape_read f [] = refl
+shape_read f (b ∷ l) = go (expected f.place b) (shape_read (accepted f b) l)
   where
-    go : (t : Bool) → eqb (read_line (accepted s b) l).place 17 ≡ shape (s.place + 1) l
-        → eqb (read_line (cond t (accepted s b) (spoiled s)) l).place 17 ≡ (t && shape (s.place + 1) l)
+    go : (t : Bool) → is_whole (read_fields (Some (accepted f b)) l) ≡ shape (f.place + 1) l
+        → is_whole (read_fields (cond t (Some (accepted f b)) spoiled) l) ≡ (t && shape (f.place + 1) l)
     go true r = r
-    go false r = let h = past_read (spoiled s) l (omega arith) in ne_eqb (read_line (spoiled s) l).place 17 (omega arith)
+    go false r = ap is_whole (none_read l)
 
 -- the number that the digits from a place on write after v
 value_from : (place v : ℕ) → List ℕ → ℕ
@@ -98,17 +100,17 @@ value_with_lem p v x b h e = go (eqb p 8) h
     go true k = e
     go false k = digit_mod v x (digit_of b) (digit_lt b ((and-eq-true_iff (is_digit b) (ltb p 17)).0 k).0) e
 
-advanced_good : (s : Scan) (b : ℕ) → expected s.place b ≡ true → advanced s b ≡ accepted s b
-unfolding advanced
-advanced_good s b h = rw h
+read_as : (f : Fields) (p v : ℕ) → f.place ≡ p → f.value ≡ v → f ≡ record { place = p; value = v }
+read_as f p v e h = rw (← e, ← h) refl
 
-value_read : (s : Scan) (l : List ℕ) (v : ℕ) → shape s.place l ≡ true → s.value ≡ v % 2 ^ 64 → (read_line s l).value ≡ value_from s.place v l % 2 ^ 64
-unfolding read_line shape value_from
-value_read s [] v h e = e
-value_read s (b ∷ l) v h e =
-    let t = (and-eq-true_iff (expected s.place b) (shape (s.place + 1) l)).0 h in
-    ap (λ (r : Scan). (read_line r l).value) (advanced_good s b t.0)
-    ∙ value_read (accepted s b) l (cond (eqb s.place 8) v (v * 16 + digit_of b)) t.1 (value_with_lem s.place v s.value b t.0 e)
+value_read : (f : Fields) (l : List ℕ) (v : ℕ) → shape f.place l ≡ true → f.value ≡ v % 2 ^ 64
+    → read_fields (Some f) l ≡ Some (record { place = 17; value = value_from f.place v l % 2 ^ 64 })
+unfolding read_fields shape value_from longer
+value_read f [] v h e = ap Some (read_as f 17 (v % 2 ^ 64) (eqb-true f.place 17 h) e)
+value_read f (b ∷ l) v h e =
+    let t = (and-eq-true_iff (expected f.place b) (shape (f.place + 1) l)).0 h in
+    rw t.0
+    (value_read (accepted f b) l (cond (eqb f.place 8) v (v * 16 + digit_of b)) t.1 (value_with_lem f.place v f.value b t.0 e))
 
 -- the second field: the places after the tab
 shape_second : (p : ℕ) (l : List ℕ) → 8 < p → p ≤ 17 → shape p l ≡ (eqb (p + length l) 17 && all_digits l)
@@ -154,36 +156,45 @@ shape_first (suc k) p (b ∷ l) e =
     rw (ne_eqb p 8 (omega arith), lt-ltb p 17 (omega arith), and-true, shape_first k (p + 1) l (omega arith), q, again)
     (swap (is_digit b) (eqb (p + suc (length l)) 17) (all_digits (take k l) && rest))
 
-pub well_read : (n : ℕ) (line : List ℕ) → eqb (read_line (start_of n) line).place 17 ≡ well_formed line
-unfolding well_formed
-well_read n line = shape_read (start_of n) line ∙ rw zero-add at (shape_first 8 0 line refl)
+-- at the start of a line
+nothing_read : Fields
+nothing_read = record { place = 0; value = 0 }
+
+pub well_read : (n : ℕ) (line : List ℕ) → is_whole (read_line (start_of n) line).fields ≡ well_formed line
+unfolding well_formed nothing_read
+well_read n line = rw (line_read (start_of n) line) (shape_read nothing_read line ∙ rw zero-add at (shape_first 8 0 line refl))
 
 apart : (x v a b : ℕ) → x ≡ v % 2 ^ 64 → v ≡ a * 2 ^ 32 + b → a < 2 ^ 32 → b < 2 ^ 32 → (x / 2 ^ 32 ≡ a) × (x % 2 ^ 32 ≡ b)
 apart x v a b h e f g = omega arith
 
 -- both fields of a well-formed line out of the value
-pub fields_read : (n : ℕ) (line : List ℕ) → well_formed line ≡ true
-    → ((read_line (start_of n) line).value / 2 ^ 32 ≡ number_of (take 8 line)) × ((read_line (start_of n) line).value % 2 ^ 32 ≡ number_of (drop 9 line))
-unfolding well_formed
+fields_read : (n : ℕ) (line : List ℕ) → well_formed line ≡ true → outcome (read_line (start_of n) line).fields ≡ cut_text (requested line)
+unfolding well_formed nothing_read outcome requested
 fields_read n line h =
     let t = (and-eq-true_iff (eqb (length line) 17) (all_digits (take 8 line) && (eqb (get_or line 8 0) tab && all_digits (drop 9 line)))).0 h in
     let u = (and-eq-true_iff (all_digits (take 8 line)) (eqb (get_or line 8 0) tab && all_digits (drop 9 line))).0 t.1 in
     let w = (and-eq-true_iff (eqb (get_or line 8 0) tab) (all_digits (drop 9 line))).0 u.1 in
     let long : length line ≡ 17 = eqb-true (length line) 17 t.0 in
     let eight : length (drop 9 line) ≡ 8 = length-drop 9 line ∙ omega arith in
-    apart (read_line (start_of n) line).value (number_from (number_of (take 8 line)) (drop 9 line)) (number_of (take 8 line)) (number_of (drop 9 line))
-    (value_read (start_of n) line 0 (sym (shape_read (start_of n) line) ∙ well_read n line ∙ h) refl ∙ ap (λ (v : ℕ). v % 2 ^ 64) (value_first 8 0 0 line refl))
+    let whole : shape 0 line ≡ true = rw zero-add at (shape_first 8 0 line refl) ∙ h in
+    let value = value_read nothing_read line 0 whole refl in
+    let a = apart (value_from 0 0 line % 2 ^ 64) (number_from (number_of (take 8 line)) (drop 9 line)) (number_of (take 8 line)) (number_of (drop 9 line))
+    (ap (λ (v : ℕ). v % 2 ^ 64) (value_first 8 0 0 line refl))
     (number_after (number_of (take 8 line)) (drop 9 line) eight)
     (number_word (take 8 line) (length-take-le 8 line (omega arith)) u.0)
-    (number_word (drop 9 line) eight w.1)
+    (number_word (drop 9 line) eight w.1) in
+    rw (line_read (start_of n) line, value, a.0, a.1) refl
+
+bad_read : (o : Option Fields) → is_whole o ≡ false → outcome o ≡ bad_text
+unfolding outcome
+bad_read None h = refl
+bad_read (Some f) h = rw h refl
 
 -- what is written for a line that was read byte by byte is what the line's own text says
 pub answered_line : (n : ℕ) (line : List ℕ) → answered (read_line (start_of n) line) ≡ line_text n line
-unfolding answered outcome line_text requested
+unfolding answered line_text
 answered_line n line = go (well_formed line) refl
   where
     go : (t : Bool) → well_formed line ≡ t → answered (read_line (start_of n) line) ≡ line_text n line
-    go true e =
-        let f = fields_read n line e in
-        rw (number_read (start_of n) line, well_read n line, e, f.0, f.1)
-    go false e = rw (number_read (start_of n) line, well_read n line, e)
+    go true e = rw (number_read (start_of n) line, fields_read n line e, e)
+    go false e = rw (number_read (start_of n) line, bad_read (read_line (start_of n) line).fields (well_read n line ∙ e), e)

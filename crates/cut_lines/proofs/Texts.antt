@@ -1,10 +1,12 @@
 -- An input in blocks: what is written is the text of the whole input, wherever the blocks were cut.
 -- Assumes nothing.
 use Rattle.std.proofs.Common.{◌≡◌, ℕ, suc, ◌+◌, ◌%◌, ◌^◌, ◌<◌, Bool, true, false, eqb, List, [], ◌∷◌, ◌++◌, length, take, sym, refl, ap, ◌∙◌, append_assoc}
-use Rattle.std.proofs.Common.{append-nil, arith, ne_eqb}
+use Rattle.std.proofs.Common.{append-nil, arith}
+use Rattle.std.proofs.lemmas.List.Sums.{fold-append}
 use Rattle.text.specs.Writing.{newline}
 use Rattle.cut_lines.specs.Lines.{header_text, line_text, start_line, lines_of, lines_text, text_of}
-use Rattle.cut_lines.specs.Scanning.{start_of, advanced, answered, stepped, step_text, read_line, scanned, scan_text, last_text, Session, ended, block}
+use Rattle.cut_lines.specs.Scanning.{start_of, advanced, has_begun, answered, stepped, step_text, read_line, scanned, scan_text, last_text}
+use Rattle.cut_lines.specs.Scanning.{Session, ended, block}
 use Rattle.cut_lines.specs.declared.Scan.{Scan}
 use Rattle.text.proofs.Putting.{placed_take}
 use Rattle.cut_lines.proofs.Reading.{number_read, begun_read, answered_line}
@@ -13,8 +15,7 @@ use Rattle.cut_lines.proofs.Reading.{number_read, begun_read, answered_line}
 
 pub scanned_append : (s : Scan) (a b : List ℕ) → scanned s (a ++ b) ≡ scanned (scanned s a) b
 unfolding scanned
-scanned_append s [] b = refl
-scanned_append s (x ∷ a) b = scanned_append (stepped s x) a b
+scanned_append s a b = fold-append stepped s a b
 
 pub text_append : (s : Scan) (a b : List ℕ) → scan_text s (a ++ b) ≡ scan_text s a ++ scan_text (scanned s a) b
 unfolding scanned scan_text
@@ -35,7 +36,6 @@ session_whole (block {s} {bytes} {before} {after} {rest} {text} {p} q r) =
 -- ---- lines
 
 read_more : (s : Scan) (p : List ℕ) (b : ℕ) → read_line s (p ++ (b ∷ [])) ≡ advanced (read_line s p) b
-unfolding read_line
 read_more s [] b = refl
 read_more s (x ∷ p) b = read_more (advanced s x) p b
 
@@ -59,12 +59,12 @@ unfolding front start_line
 front_end b [] = refl
 front_end b (x ∷ p) = rw (front_end x p)
 
-last_begun : (s : Scan) → 0 < s.place → last_text s ≡ answered s
+last_begun : (s : Scan) → has_begun s.fields ≡ true → last_text s ≡ answered s
 unfolding last_text
-last_begun s h = rw (ne_eqb s.place 0 (omega arith))
+last_begun s h = rw h refl
 
 last_line : (n : ℕ) (p : List ℕ) → last_text (read_line (start_of n) p) ≡ lines_text n (front p [])
-unfolding last_text read_line lines_text front
+unfolding last_text lines_text front
 last_line n [] = refl
 last_line n (b ∷ p) =
     last_begun (read_line (start_of n) (b ∷ p)) (begun_read (start_of n) b p)
@@ -86,7 +86,7 @@ in_line s b e = (rw e, rw e)
 -- from a place within line n on, of which p was read
 whole : (input p : List ℕ) (n : ℕ) → n + length input < 2 ^ 64
     → scan_text (read_line (start_of n) p) input ++ last_text (scanned (read_line (start_of n) p) input) ≡ lines_text n (front p (lines_of input))
-unfolding scan_text scanned lines_of read_line front lines_text
+unfolding scan_text scanned lines_of front lines_text
 whole [] p n h = last_line n p
 whole (b ∷ l) p n h = go (eqb b newline) refl (whole l [] (suc n) (omega arith)) (whole l (p ++ (b ∷ [])) n (omega arith))
   where
@@ -105,7 +105,7 @@ whole (b ∷ l) p n h = go (eqb b newline) refl (whole l [] (suc n) (omega arith
 -- The header, and what is written for an input of fewer than 2 ^ 64 - 1 bytes, read from line 1 on, are the text of the input.
 pub whole_text : (input : List ℕ) → 1 + length input < 2 ^ 64
     → header_text ++ (scan_text (start_of 1) input ++ last_text (scanned (start_of 1) input)) ≡ text_of input
-unfolding text_of read_line front
+unfolding text_of front
 whole_text input h = ap (λ (t : List ℕ). header_text ++ t) (whole input [] 1 h)
 
 -- A run over any input of fewer than 2 ^ 64 - 1 bytes, in blocks of any sizes: the header and what the run wrote are the text of the input.

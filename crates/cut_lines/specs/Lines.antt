@@ -1,10 +1,10 @@
 -- The cutting program's text: what is written for a line, and for a whole input. Document 01, "Cases".
 -- Assumes nothing.
-use Rattle.std.specs.Prelude.{ℕ, suc, Bool, cond, ◌&&◌, List, [], ◌∷◌, ◌++◌, length, take, drop, ◌==◌, slice_index}
+use Rattle.std.specs.Prelude.{ℕ, suc, Bool, cond, ◌&&◌, List, [], ◌∷◌, ◌++◌, length, take, drop, ◌==◌, slice_index, Result, Ok, Err}
 use Rattle.bounds.specs.Cutting.{cut_of}
-use Rattle.bounds.specs.declared.Region.{Region}
-use Rattle.bounds.specs.declared.CutAnswer.{CutAnswer}
-use Rattle.bounds.specs.declared.CutAnswer.TheVariants.{Cut, PastEnd}
+use Rattle.bounds.specs.declared.CutRegion.{CutRegion}
+use Rattle.bounds.specs.declared.CutError.{CutError}
+use Rattle.bounds.specs.declared.CutError.TheVariants.{PastEnd}
 use Rattle.text.specs.Digits.{all_digits, number_of, digits, decimal}
 use Rattle.text.specs.Writing.{tab, newline}
 
@@ -30,16 +30,16 @@ unfoldable pub well_formed : (line : List ℕ) → Bool
 well_formed l = length l == 17 && (all_digits (take 8 l) && (slice_index l 8 == tab && all_digits (drop 9 l)))
 
 -- the cut that a well-formed line asks for
-unfoldable pub requested : (line : List ℕ) → CutAnswer
+unfoldable pub requested : (line : List ℕ) → Result CutRegion CutError
 requested l = cut_of (number_of (take 8 l)) (number_of (drop 9 l))
 
 -- a region's low in eight digits and its high in nine, and whether it is exact
-abbrev pub region_text : (r : Region) (exact : Bool) → List ℕ
-region_text r exact = digits 16 8 r.low ++ (tab ∷ digits 16 9 r.high) ++ (tab ∷ cond exact yes_text no_text)
+abbrev pub region_text : (cut : CutRegion) → List ℕ
+region_text c = digits 16 8 c.region.low ++ (tab ∷ digits 16 9 c.region.high) ++ (tab ∷ cond c.exact yes_text no_text)
 
-unfoldable pub cut_text : CutAnswer → List ℕ
-cut_text (Cut r exact) = region_text r exact
-cut_text PastEnd = refused_text
+unfoldable pub cut_text : Result CutRegion CutError → List ℕ
+cut_text (Ok c) = region_text c
+cut_text (Err PastEnd) = refused_text
 
 -- what is written for line n, well-formed or not
 unfoldable pub line_text : (n : ℕ) (line : List ℕ) → List ℕ

@@ -12,8 +12,7 @@ ghost use Rattle.cut_lines.specs.Lines.{header_text, line_text};
 ghost use Rattle.cut_lines.specs.Scanning.{start_of, last_text, Processed};
 ghost use Rattle.cut_lines.specs.Writing.{Writes};
 
-use lines::{has_room, put_line, put_step};
-use scanning::{read_line, step};
+use lines::{need_room, put_line, put_step};
 use text::put_bytes;
 
 // The bytes of the longest line that is ever written, and the room that a writer asks for.
@@ -25,34 +24,35 @@ pub(crate) const LINE: u32 = 17;
 // The tab's place in it.
 pub(crate) const TAB_PLACE: u32 = 8;
 
-// The place that stands for a line that cannot be well-formed any more.
-pub(crate) const SPOILED: u32 = 18;
-
-// The state between two bytes of the input.
-#[derive(Clone, Copy)]
-pub struct Scan {
-    // the number of the line that is being read
-    pub number: u64,
-    // how many bytes of the line were read while it may yet be well-formed, or SPOILED
+// What was read of a line that may yet be well-formed.
+#[derive(Clone, Copy, Debug, PartialEq, Eq)]
+pub struct Fields {
+    // how many bytes
     pub place: u32,
-    // the number that the digits read so far write, of both fields in a row
+    // the number that the digits so far write, of both fields in a row
     pub value: u64,
 }
 
-// What `process` did with a block.
-#[derive(Clone, Copy)]
+// The state between two bytes of the input.
+#[derive(Clone, Copy, Debug, PartialEq, Eq)]
+pub struct Scan {
+    // the number of the line that is being read
+    pub number: u64,
+    // what was read of it, or None: it cannot be well-formed any more
+    pub fields: Option<Fields>,
+}
+
+// What `process` did with a block: counts, as parts of the slices would keep them lent.
+#[derive(Clone, Copy, Debug, PartialEq, Eq)]
 pub struct Progress {
     pub scan: Scan,
     pub read: usize,
     pub written: usize,
 }
 
-// A writer's answer: the index after what it wrote, or too little room, and nothing written.
-#[derive(Clone, Copy)]
-pub enum Written {
-    End(usize),
-    NoRoom,
-}
+// Too little room for the longest line, and nothing written.
+#[derive(Clone, Copy, Debug, PartialEq, Eq)]
+pub struct NoRoom;
 
 // The state at the start of line n; an input starts with line 1.
 pub fn start(n: u64) -> Scan
@@ -60,31 +60,24 @@ pub fn start(n: u64) -> Scan
 {
     Scan {
         number: n,
-        place: 0,
-        value: 0,
+        fields: Some(Fields { place: 0, value: 0 }),
     }
 }
 
-// Writes the header line from index `at` on.
-pub fn header(output: &mut [u8], at: usize) -> Written
+// Writes the header line from index `at` on; each writer returns the index after its text.
+pub fn header(output: &mut [u8], at: usize) -> Result<usize, NoRoom>
     ensures { Writes output.old at header_text output.new result }
 {
-    if has_room(output, at) {
-        Written::End(put_bytes(output, at, b"cut\tlow\thigh\texact\n"))
-    } else {
-        Written::NoRoom
-    }
+    need_room(output, at)?;
+    Ok(put_bytes(output, at, b"cut\tlow\thigh\texact\n"))
 }
 
 // Writes what belongs to one line, given without its newline, from index `at` on.
-pub fn answer(line: &[u8], number: u64, output: &mut [u8], at: usize) -> Written
+pub fn answer(line: &[u8], number: u64, output: &mut [u8], at: usize) -> Result<usize, NoRoom>
     ensures { Writes output.old at (line_text number line.now) output.new result }
 {
-    if has_room(output, at) {
-        Written::End(put_line(output, at, read_line(start(number), line)))
-    } else {
-        Written::NoRoom
-    }
+    need_room(output, at)?;
+    Ok(put_line(output, at, start(number).read_line(line)))
 }
 
 // Takes bytes of the input while there is room for the longest line, and writes from the start of
@@ -93,31 +86,29 @@ pub fn process(scan: Scan, input: &[u8], output: &mut [u8]) -> Progress
     ensures { Processed scan input.now output.old output.new result }
 {
     let mut s = scan;
-    let mut i = 0;
     let mut at = 0;
-    while i < input.len() {
-        if !has_room(output, at) {
-            break;
+    for (i, &b) in input.iter().enumerate() {
+        if need_room(output, at).is_err() {
+            return Progress {
+                scan: s,
+                read: i,
+                written: at,
+            };
         }
-        let b = input[i];
         at = put_step(output, at, s, b);
-        s = step(s, b);
-        i += 1;
+        s = s.step(b);
     }
     Progress {
         scan: s,
-        read: i,
+        read: input.len(),
         written: at,
     }
 }
 
 // Writes what belongs to a last line without a newline, if one has begun, from index `at` on.
-pub fn finish(scan: Scan, output: &mut [u8], at: usize) -> Written
+pub fn finish(scan: Scan, output: &mut [u8], at: usize) -> Result<usize, NoRoom>
     ensures { Writes output.old at (last_text scan) output.new result }
 {
-    if has_room(output, at) {
-        Written::End(lines::put_last(output, at, scan))
-    } else {
-        Written::NoRoom
-    }
+    need_room(output, at)?;
+    Ok(lines::put_last(output, at, scan))
 }

@@ -1,13 +1,14 @@
 // What belongs to a line, written into a buffer from index `at` on, as far as the buffer reaches. Each
-// function returns the index after what it wrote.
-ghost use Rattle.std.specs.Prelude.{◌≡◌, ◌≤◌, length, if◌then◌else◌};
+// function returns the index after what it wrote. Buffer and index stay apart, as the writers of
+// `text` take them.
+ghost use Rattle.std.specs.Prelude.{◌≡◌, ◌≤◌, length, if◌then◌else◌, is_ok};
 ghost use Rattle.cut_lines.specs.Lines.{cut_text, no_text, region_text, yes_text};
 ghost use Rattle.cut_lines.specs.Scanning.{answered, last_text, outcome, step_text};
 ghost use Rattle.cut_lines.specs.Writing.{has_room, longest};
 ghost use Rattle.text.specs.Writing.{Puts};
 
-use crate::{LINE, LONGEST, Scan};
-use bounds::{CutAnswer, Region};
+use crate::{Fields, LINE, LONGEST, NoRoom, Scan};
+use bounds::{CutError, CutRegion};
 use text::{put_byte, put_bytes, put_decimal, put_hex};
 
 // The hexadecimal digits of a low bound, and of a high bound of 33 bits.
@@ -18,15 +19,14 @@ const HIGH_DIGITS: u8 = 9;
 // A line's value has the length in its lower word and the base above that.
 const WORD: u64 = 0x1_0000_0000;
 
-// Whether the buffer has room for the longest line.
-pub(crate) fn has_room(out: &[u8], at: usize) -> bool
-    ensures { result ≡ has_room out.now at }
+// Refuses where the buffer has too little room for the longest line.
+pub(crate) fn need_room(out: &[u8], at: usize) -> Result<(), NoRoom>
+    ensures { is_ok result ≡ has_room out.now at }
 {
-    if at <= out.len() {
-        out.len() - at >= LONGEST
-    } else {
-        false
+    if out.len().saturating_sub(at) < LONGEST {
+        return Err(NoRoom);
     }
+    Ok(())
 }
 
 fn put_exact(out: &mut [u8], at: usize, exact: bool) -> usize
@@ -40,35 +40,38 @@ fn put_exact(out: &mut [u8], at: usize, exact: bool) -> usize
 }
 
 // A region's bounds and whether they are exact.
-fn put_region(out: &mut [u8], at: usize, region: Region, exact: bool) -> usize
-    ensures { Puts out.old at (region_text region exact) out.new result }
+fn put_region(out: &mut [u8], at: usize, cut: CutRegion) -> usize
+    ensures { Puts out.old at (region_text cut) out.new result }
 {
-    let a = put_hex(out, at, LOW_DIGITS, region.low as u64);
+    let a = put_hex(out, at, LOW_DIGITS, u64::from(cut.region.low));
     let b = put_byte(out, a, b'\t');
-    let c = put_hex(out, b, HIGH_DIGITS, region.high);
+    let c = put_hex(out, b, HIGH_DIGITS, cut.region.high);
     let d = put_byte(out, c, b'\t');
-    put_exact(out, d, exact)
+    put_exact(out, d, cut.exact)
 }
 
-fn put_cut(out: &mut [u8], at: usize, answer: CutAnswer) -> usize
+#[tactic(auto, unfolding(crate::specs::Lines::cut_text))]
+fn put_cut(out: &mut [u8], at: usize, answer: Result<CutRegion, CutError>) -> usize
     ensures { Puts out.old at (cut_text answer) out.new result }
 {
     match answer {
-        CutAnswer::Cut { region, exact } => put_region(out, at, region, exact),
-        CutAnswer::PastEnd => put_bytes(out, at, b"bad\t6\n"),
+        Ok(cut) => put_region(out, at, cut),
+        Err(CutError::PastEnd) => put_bytes(out, at, b"bad\t6\n"),
     }
 }
 
 // The cut that the line asked for, or that it is ill-formed.
-fn put_outcome(out: &mut [u8], at: usize, s: Scan) -> usize
-    ensures { Puts out.old at (outcome s) out.new result }
+#[tactic(auto, unfolding(crate::specs::Scanning::outcome))]
+fn put_outcome(out: &mut [u8], at: usize, fields: Option<Fields>) -> usize
+    ensures { Puts out.old at (outcome fields) out.new result }
 {
-    if s.place == LINE {
-        let base = (s.value / WORD) as u32;
-        let length = (s.value % WORD) as u32;
-        put_cut(out, at, bounds::cut(base, length))
-    } else {
-        put_bytes(out, at, b"bad\tline\n")
+    match fields {
+        Some(f) if f.place == LINE => {
+            let base = (f.value / WORD) as u32;
+            let length = (f.value % WORD) as u32;
+            put_cut(out, at, bounds::cut(base, length))
+        }
+        _ => put_bytes(out, at, b"bad\tline\n"),
     }
 }
 
@@ -78,10 +81,11 @@ pub(crate) fn put_line(out: &mut [u8], at: usize, s: Scan) -> usize
 {
     let a = put_decimal(out, at, s.number);
     let b = put_byte(out, a, b'\t');
-    put_outcome(out, b, s)
+    put_outcome(out, b, s.fields)
 }
 
 // What belongs to a byte of the input: the output line where the byte ends a line, else nothing.
+#[tactic(auto, unfolding(crate::specs::Scanning::step_text))]
 pub(crate) fn put_step(out: &mut [u8], at: usize, s: Scan, b: u8) -> usize
     ensures { (length (step_text s b) ≤ longest) × Puts out.old at (step_text s b) out.new result }
 {
@@ -89,12 +93,13 @@ pub(crate) fn put_step(out: &mut [u8], at: usize, s: Scan, b: u8) -> usize
 }
 
 // What belongs to the end of the input.
+#[tactic(auto, unfolding(crate::specs::Scanning::last_text))]
 pub(crate) fn put_last(out: &mut [u8], at: usize, s: Scan) -> usize
     ensures { (length (last_text s) ≤ longest) × Puts out.old at (last_text s) out.new result }
 {
-    if s.place == 0 {
-        at
-    } else {
+    if s.has_begun() {
         put_line(out, at, s)
+    } else {
+        at
     }
 }

@@ -1,11 +1,12 @@
 -- A cut's answer as plain numbers: document 01's number of the answer, and its values.
 -- Assumes nothing.
-use Rattle.std.specs.Prelude.{◌≡◌, ℕ}
+use Rattle.std.specs.Prelude.{◌≡◌, ℕ, Result}
 use Rattle.bounds.specs.Cutting.{answer_number, answer_low, answer_high, answer_exact, cut_of}
-use Rattle.bounds.specs.declared.CutAnswer.{CutAnswer}
+use Rattle.bounds.specs.declared.CutRegion.{CutRegion}
+use Rattle.bounds.specs.declared.CutError.{CutError}
 use Rattle.label.specs.declared.Numbers.{Numbers}
 
-pub record Says (r : Numbers) (a : CutAnswer) : Type 0 where
+pub record Says (r : Numbers) (a : Result CutRegion CutError) : Type 0 where
   pub number_is : r.number ≡ answer_number a
   pub low_is : r.low ≡ answer_low a
   pub high_is : r.high ≡ answer_high a

@@ -7,14 +7,11 @@ ghost use Rattle.bounds.specs.Bounds.{bounds_of};
 ghost use Rattle.bounds.specs.Cutting.{answer_exact, answer_high, answer_low, answer_number, cut_of};
 ghost use Rattle.label.specs.Answers.{Says};
 
-use bounds::{CutAnswer, Region};
+use bounds::{CutError, CutRegion, Region};
 use choices::one_if;
 
 // Document 01's number of what is not refused.
 const ANSWERED: u32 = 0;
-
-// Document 01's number of a request that ends past 2^32.
-const PAST_END: u32 = 6;
 
 // A cut's answer as numbers.
 #[derive(Clone, Copy)]
@@ -25,29 +22,31 @@ struct Numbers {
     exact: u32,
 }
 
-fn numbers_of(answer: CutAnswer) -> Numbers
-    ensures { Says result answer }
-{
-    match answer {
-        CutAnswer::Cut { region, exact } => Numbers {
-            number: ANSWERED,
-            low: region.low,
-            high: region.high,
-            exact: one_if(exact),
-        },
-        CutAnswer::PastEnd => Numbers {
-            number: PAST_END,
-            low: 0,
-            high: 0,
-            exact: 0,
-        },
+impl From<Result<CutRegion, CutError>> for Numbers {
+    ghost from_gives = { λ answer numbers. Says numbers answer };
+
+    fn from(answer: Result<CutRegion, CutError>) -> Numbers {
+        match answer {
+            Ok(cut) => Numbers {
+                number: ANSWERED,
+                low: cut.region.low,
+                high: cut.region.high,
+                exact: one_if(cut.exact),
+            },
+            Err(e) => Numbers {
+                number: e.number(),
+                low: 0,
+                high: 0,
+                exact: 0,
+            },
+        }
     }
 }
 
 fn cut_numbers(base: u32, length: u32) -> Numbers
     ensures { Says result (cut_of base length) }
 {
-    numbers_of(bounds::cut(base, length))
+    Numbers::from(bounds::cut(base, length))
 }
 
 // 0, or 6 where the request ends past 2^32.

@@ -1,14 +1,11 @@
--- `take_block`: the loop keeps that the state is that of the block's bytes before `from`, and that what belongs to them was written. Assumes nothing.
-use Rattle.std.proofs.Common.{◌≡◌, ◌-◌, ◌≤◌, length, take}
-use Rattle.std.specs.Io.KnownBytes.{Appends}
-use Rattle.cut_lines.specs.Scanning.{scanned, scan_text}
-use Rattle.cut_lines.specs.Writing.{longest}
+-- `take_block`: of the block a rest is left; what came before led to the state, and what belongs to it was written. Assumes nothing.
+use Rattle.std.proofs.Common.{length}
+use Rattle.cut.proofs.Blocks.{Part}
 use Rattle.cut.proofs.take_block.Given as goal
 
-abbrev pub invariant-loop-from : goal.invariant-loop-from
-invariant-loop-from g l =
-    (l.from ≤ length l.input) × (length l.output ≡ length l.initial.output) × (longest ≤ length l.output) × (l.s ≡ scanned l.initial.s (take l.from l.input))
-    × Appends (g.W.Write.contents l.initial.writer) (g.W.Write.contents l.writer) (scan_text l.initial.s (take l.from l.input))
+abbrev pub invariant-loop-rest : goal.invariant-loop-rest
+invariant-loop-rest g l =
+    Part l.initial.s l.initial.rest (g.W.Write.contents l.initial.writer) l.s l.rest (g.W.Write.contents l.writer)
 
-abbrev pub decreases-loop-from : goal.decreases-loop-from
-decreases-loop-from g l = length l.input - l.from
+abbrev pub decreases-loop-rest : goal.decreases-loop-rest
+decreases-loop-rest g l = length l.rest

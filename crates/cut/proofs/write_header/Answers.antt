@@ -3,7 +3,7 @@ use Rattle.cut.proofs.Blocks.{writer_starts, writer_text}
 use Rattle.cut.proofs.write_header.Goals as goal
 
 pub returns-clause-starts : goal.returns-clause-starts
-returns-clause-starts g c = writer_starts c.requires c.header.ensures
+returns-clause-starts g c = writer_starts c.args.output.now.room c.header.ensures
 
 pub returns-clause-written : goal.returns-clause-written
-returns-clause-written g c = rw (writer_text c.requires c.header.ensures c.end_of-n.ensures) at c.write_all.ensures.bytes
+returns-clause-written g c = rw (writer_text c.args.output.now.room c.header.ensures c.unwrap-end.ensures) at c.send.ensures.written

@@ -1,10 +1,6 @@
 -- `process`: the loop keeps `Going`: the state and the text are those of the bytes taken, and what is still taken makes up the whole. Assumes nothing.
-use Rattle.std.proofs.Common.{◌≡◌, ◌-◌, length}
 use Rattle.cut_lines.proofs.Blocks.{Going}
 use Rattle.cut_lines.proofs.process.Given as goal
 
 abbrev pub invariant-loop-i : goal.invariant-loop-i
-invariant-loop-i l = (length l.output ≡ length l.initial.output) × Going l.initial.s l.input l.initial.output l.output l.s l.i l.at
-
-abbrev pub decreases-loop-i : goal.decreases-loop-i
-decreases-loop-i l = length l.input - l.i
+invariant-loop-i l = Going l.initial.s l.input l.initial.output l.output l.s l.i l.at

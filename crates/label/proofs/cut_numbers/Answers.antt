@@ -2,4 +2,4 @@
 use Rattle.label.proofs.cut_numbers.Goals as goal
 
 pub returns : goal.returns
-returns c = rw c.cut.ensures.answer_is at c.numbers_of.ensures
+returns c = rw c.cut.ensures.answer_is at c.from.ensures

@@ -12,8 +12,8 @@ returns-then-base-length-gt-SPACE c =
     answer_promised a.base a.length _ (rw (lt-ltb (2 ^ 32) (a.base + a.length) c.if-base-length-gt-SPACE.true))
 
 -- a region
-pub returns-else-base-length-gt-SPACE : goal.returns-else-base-length-gt-SPACE
+pub returns : goal.returns
 unfolding cut_of
-returns-else-base-length-gt-SPACE c =
+returns c =
     let a = c.args in
     answer_promised a.base a.length _ (rw (c.cut_within.ensures, le-ltb (2 ^ 32) (a.base + a.length) c.if-base-length-gt-SPACE.false))

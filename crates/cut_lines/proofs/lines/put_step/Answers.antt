@@ -1,13 +1,8 @@
 -- `put_step`: a line where the byte ends one, else nothing. Assumes nothing.
-use Rattle.std.proofs.Common.{arith, eq-eqb, ne_eqb}
+use Rattle.std.proofs.Common.{arith, ne_eqb}
 use Rattle.cut_lines.specs.Scanning.{step_text}
 use Rattle.text.proofs.Putting.{puts_none}
 use Rattle.cut_lines.proofs.lines.put_step.Goals as goal
-
-pub returns-then-b-eq10 : goal.returns-then-b-eq10
-unfolding step_text
-returns-then-b-eq10 c =
-    rw (eq-eqb c.args.b 10 c.if-b-eq10.true) c.put_line.ensures
 
 pub returns-else-b-eq10 : goal.returns-else-b-eq10
 unfolding step_text
