@@ -1,5 +1,5 @@
 // Records: each as a region, and whether it may follow those before it.
-ghost use Rattle.std.specs.Prelude.{◌++◌, ◌≡◌, ◌+◌, ◌≤◌, length};
+ghost use Rattle.std.specs.Prelude.{◌++◌, ◌≡◌};
 ghost use Rattle.sheets.specs.Records.{judged, record_at, word_bytes};
 ghost use Rattle.sheet_writer.specs.Writing.{judged_as};
 
@@ -21,17 +21,18 @@ fn name_of(a: u32, b: u32, c: u32, d: u32) -> [u8; 16]
     ]
 }
 
-// The record from an index on.
-fn record_at(words: &[u32], at: usize) -> Region
-    requires { at + 7 ≤ length words.now }
-    ensures { result ≡ record_at words.now at }
+// The region of a record's words.
+#[tactic(auto, unfolding(sheets::specs::Records::record_at))]
+fn region_of(words: &[u32; 7]) -> Region
+    ensures { result ≡ record_at words.now 0 }
 {
-    let name = name_of(words[at], words[at + 1], words[at + 2], words[at + 3]);
+    let [a, b, c, d, start, size, rights] = *words;
+    let name = name_of(a, b, c, d);
     Region {
         name,
-        start: words[at + 4],
-        size: words[at + 5],
-        rights: words[at + 6],
+        start,
+        size,
+        rights,
     }
 }
 
@@ -40,14 +41,16 @@ pub(crate) fn judge(words: &[u32]) -> Result<Sheet, BadLine>
     ensures { judged_as result ≡ judged words.now }
 {
     let mut sheet = Sheet::new();
-    let count = words.len() / RECORD_WORDS;
-    for i in 0..count {
-        if !sheet.add(record_at(words, i * RECORD_WORDS)) {
+    let (records, rest) = words.as_chunks::<RECORD_WORDS>();
+    for (i, record) in records.iter().enumerate() {
+        if !sheet.add(region_of(record)) {
             return Err(BadLine { line: i + 1 });
         }
     }
-    if words.len() % RECORD_WORDS != 0 {
-        return Err(BadLine { line: count + 1 });
+    if !rest.is_empty() {
+        return Err(BadLine {
+            line: records.len() + 1,
+        });
     }
     sheet.ended()
 }

@@ -3,4 +3,4 @@ use Rattle.sheet_writer.proofs.Verdicts.{Going}
 use Rattle.sheet_writer.proofs.judging.judge.Given as goal
 
 abbrev pub invariant-loop-i : goal.invariant-loop-i
-invariant-loop-i l = Going l.words l.sheet l.i
+invariant-loop-i l = Going l.fn.words l.sheet l.i
