@@ -13,7 +13,7 @@ pub(crate) struct Exponent {
 }
 
 impl Exponent {
-    // b units, for a field b of nine bits.
+    // b units, for a field b of nine bits: a number with its limit, as the readers of metadata promise it.
     pub(crate) fn scaled(self, b: u64) -> u64
         requires { b < 512 }
         ensures { (result ≡ b * 2 ^ self.value) × (result < 2 ^ 33) }

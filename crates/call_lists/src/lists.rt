@@ -49,7 +49,7 @@ fn write_calls(c: Capability, kinds: &[u32], values: &[u32], out: &mut [u32]) ->
     s
 }
 
-// A list from a capability: each call has a kind, and a length, an address or a mask.
+// A list from a capability: each call has a kind, and a length, an address or a mask. The two lie side by side, as C lends them.
 pub fn run_calls(
     c: Capability,
     kinds: &[u32],

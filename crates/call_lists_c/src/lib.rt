@@ -1,4 +1,4 @@
-// The list of calls for C: what crate call_lists promises, under the name of `include/oddersnow.h`.
+// The list of calls for C: what crate call_lists promises, under the name of `include/oddersnow.h`: a static library exports its own functions alone.
 #![tactic(auto)]
 
 ghost use Rattle.capability.specs.Capability.{capability};

@@ -13,7 +13,7 @@ pub use reading::{
 };
 pub use sealing::{is_sentry, object_type, seal, unseal, with_object_type};
 
-// The types: none, and those of sentries, which leave, disable and enable interrupts.
+// The types: none, and those of sentries, which leave, disable and enable interrupts. Numbers and no enum, since a word may hold any of its eight.
 pub const UNSEALED: u32 = 0;
 
 pub const SENTRY: u32 = 1;
@@ -22,7 +22,7 @@ pub const SENTRY_DISABLING: u32 = 2;
 
 pub const SENTRY_ENABLING: u32 = 3;
 
-// Address, metadata word, and tag, 0 or 1.
+// Address, metadata word, and tag, 0 or 1: three words, as they are lent to C and as `Good` (specs/Capability) speaks of them.
 #[derive(Clone, Copy)]
 pub struct Capability {
     pub address: u32,

@@ -13,7 +13,7 @@ use choices::one_if;
 // Document 01's number of what is not refused.
 const ANSWERED: u32 = 0;
 
-// A cut's answer as numbers.
+// A cut's answer as numbers: a function for C gives one of them.
 #[derive(Clone, Copy)]
 struct Numbers {
     number: u32,

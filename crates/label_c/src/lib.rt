@@ -1,4 +1,4 @@
-// The cutter and the bounds lookup for C: what crate label promises, under the names of `include/oddersnow.h`.
+// The cutter and the bounds lookup for C: what crate label promises, under the names of `include/oddersnow.h`: a static library exports its own functions alone.
 #![tactic(auto)]
 
 ghost use Rattle.std.specs.Prelude.{◌≡◌};

@@ -11,7 +11,7 @@ pub use word::{
     base_of, join, otype, permissions, scale_of, split, top_of, with_bounds, with_type,
 };
 
-// The numbers of the twelve rights.
+// The numbers of the twelve rights: numbers and no enum, since a right is a bit of the masks that programs and C hand over.
 pub const GL: u32 = 0;
 
 pub const LG: u32 = 1;

@@ -52,7 +52,7 @@ pub fn join(f: Fields) -> u32
         + f.base % ENDS
 }
 
-// The permission code.
+// The permission code. Each field is one quotient and one remainder: shared by the five, they would be named no shorter.
 pub fn permissions(metadata: u32) -> u32
     ensures { (result ≡ permissions_of metadata) × (result < 64) }
 {
