@@ -54,7 +54,7 @@ pub enum Format {
 #[derive(Clone, Copy)]
 pub struct Row(pub &'static str, pub u64, pub u32, pub Format);
 
-// The row of a name, and as many operands as count says; the last one is c.
+// The row of a name, and as many operands as count says; the last one is c. No Options: an operand that is missing is 0 where a format places it.
 #[derive(Clone, Copy)]
 pub struct Shape {
     pub row: u32,
@@ -65,6 +65,7 @@ pub struct Shape {
 }
 
 // What is listed of a word; a number that is no long word is taken as a half.
+#[tactic(auto, unfolding(crate::specs::ShortShapes::shape_of))]
 pub fn shape_of(w: u32) -> Shape
     ensures { result ≡ shape_of w }
 {

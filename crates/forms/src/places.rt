@@ -1,4 +1,5 @@
 // Operands of long words in their places, a function a format, and of any word by its format. Of each field its low bits.
+// Some differ only in how many bits of a field they take: each stands as the standard draws it.
 ghost use Rattle.std.specs.Prelude.{◌≡◌};
 ghost use Rattle.forms.specs.Encoding.{place_r, place_i, place_s, place_b, place_u, place_j, place_f, place_of};
 

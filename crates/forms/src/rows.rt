@@ -17,20 +17,21 @@ use instructions::{
 // The row of an illegal word, which has none. No Option: one test, whether the row is within the table, then says both that there is a name and where.
 pub(crate) const UNLISTED: u32 = 255;
 
+// The row of each kind, a number a line as the definition has them: a row of one kind is at no fixed distance from that of another.
 fn alu_row(x: Alu) -> u32
     ensures { result ≡ alu_row x }
 {
     match x {
-        Alu::Add => return 31,
-        Alu::Sub => return 32,
-        Alu::Sll => return 33,
-        Alu::Slt => return 34,
-        Alu::Sltu => return 35,
-        Alu::Xor => return 36,
-        Alu::Srl => return 37,
-        Alu::Sra => return 38,
-        Alu::Or => return 39,
-        Alu::And => return 40,
+        Alu::Add => 31,
+        Alu::Sub => 32,
+        Alu::Sll => 33,
+        Alu::Slt => 34,
+        Alu::Sltu => 35,
+        Alu::Xor => 36,
+        Alu::Srl => 37,
+        Alu::Sra => 38,
+        Alu::Or => 39,
+        Alu::And => 40,
     }
 }
 
@@ -38,16 +39,16 @@ fn alu_immediate_row(x: Alu) -> u32
     ensures { result ≡ alu_immediate_row x }
 {
     match x {
-        Alu::Add => return 22,
-        Alu::Sub => return 32,
-        Alu::Sll => return 23,
-        Alu::Slt => return 24,
-        Alu::Sltu => return 25,
-        Alu::Xor => return 26,
-        Alu::Srl => return 27,
-        Alu::Sra => return 28,
-        Alu::Or => return 29,
-        Alu::And => return 30,
+        Alu::Add => 22,
+        Alu::Sub => 32,
+        Alu::Sll => 23,
+        Alu::Slt => 24,
+        Alu::Sltu => 25,
+        Alu::Xor => 26,
+        Alu::Srl => 27,
+        Alu::Sra => 28,
+        Alu::Or => 29,
+        Alu::And => 30,
     }
 }
 
@@ -55,10 +56,10 @@ fn multiply_row(x: MultiplyKind) -> u32
     ensures { result ≡ multiply_row x }
 {
     match x {
-        MultiplyKind::Mul => return 77,
-        MultiplyKind::Mulh => return 78,
-        MultiplyKind::Mulhsu => return 79,
-        MultiplyKind::Mulhu => return 80,
+        MultiplyKind::Mul => 77,
+        MultiplyKind::Mulh => 78,
+        MultiplyKind::Mulhsu => 79,
+        MultiplyKind::Mulhu => 80,
     }
 }
 
@@ -66,10 +67,10 @@ fn divide_row(x: DivideKind) -> u32
     ensures { result ≡ divide_row x }
 {
     match x {
-        DivideKind::Div => return 81,
-        DivideKind::Divu => return 82,
-        DivideKind::Rem => return 83,
-        DivideKind::Remu => return 84,
+        DivideKind::Div => 81,
+        DivideKind::Divu => 82,
+        DivideKind::Rem => 83,
+        DivideKind::Remu => 84,
     }
 }
 
@@ -77,12 +78,12 @@ fn branch_row(x: BranchKind) -> u32
     ensures { result ≡ branch_row x }
 {
     match x {
-        BranchKind::Beq => return 5,
-        BranchKind::Bne => return 6,
-        BranchKind::Blt => return 7,
-        BranchKind::Bge => return 8,
-        BranchKind::Bltu => return 9,
-        BranchKind::Bgeu => return 10,
+        BranchKind::Beq => 5,
+        BranchKind::Bne => 6,
+        BranchKind::Blt => 7,
+        BranchKind::Bge => 8,
+        BranchKind::Bltu => 9,
+        BranchKind::Bgeu => 10,
     }
 }
 
@@ -90,11 +91,11 @@ fn load_row(x: LoadKind) -> u32
     ensures { result ≡ load_row x }
 {
     match x {
-        LoadKind::Lb => return 12,
-        LoadKind::Lh => return 13,
-        LoadKind::Lw => return 14,
-        LoadKind::Lbu => return 15,
-        LoadKind::Lhu => return 16,
+        LoadKind::Lb => 12,
+        LoadKind::Lh => 13,
+        LoadKind::Lw => 14,
+        LoadKind::Lbu => 15,
+        LoadKind::Lhu => 16,
     }
 }
 
@@ -102,19 +103,20 @@ fn store_row(x: StoreKind) -> u32
     ensures { result ≡ store_row x }
 {
     match x {
-        StoreKind::Sb => return 18,
-        StoreKind::Sh => return 19,
-        StoreKind::Sw => return 20,
+        StoreKind::Sb => 18,
+        StoreKind::Sh => 19,
+        StoreKind::Sw => 20,
     }
 }
 
+// The two CSR rows are apart as those of `alu_row` and its like are, though three rows lie between them: so each number stands in one place.
 fn csr_row(x: CsrKind) -> u32
     ensures { result ≡ csr_row x }
 {
     match x {
-        CsrKind::Csrrw => return 45,
-        CsrKind::Csrrs => return 46,
-        CsrKind::Csrrc => return 47,
+        CsrKind::Csrrw => 45,
+        CsrKind::Csrrs => 46,
+        CsrKind::Csrrc => 47,
     }
 }
 
@@ -122,9 +124,9 @@ fn csr_immediate_row(x: CsrKind) -> u32
     ensures { result ≡ csr_immediate_row x }
 {
     match x {
-        CsrKind::Csrrw => return 48,
-        CsrKind::Csrrs => return 49,
-        CsrKind::Csrrc => return 50,
+        CsrKind::Csrrw => 48,
+        CsrKind::Csrrs => 49,
+        CsrKind::Csrrc => 50,
     }
 }
 
@@ -132,11 +134,11 @@ fn csr_number(x: Csr) -> u32
     ensures { result ≡ csr_number x }
 {
     match x {
-        Csr::Mstatus => return 0x300,
-        Csr::Mcause => return 0x342,
-        Csr::Mtval => return 0x343,
-        Csr::Mshwm => return 0xBC1,
-        Csr::Mshwmb => return 0xBC2,
+        Csr::Mstatus => 0x300,
+        Csr::Mcause => 0x342,
+        Csr::Mtval => 0x343,
+        Csr::Mshwm => 0xBC1,
+        Csr::Mshwmb => 0xBC2,
     }
 }
 
@@ -144,10 +146,10 @@ fn scr_number(x: Scr) -> u32
     ensures { result ≡ scr_number x }
 {
     match x {
-        Scr::Mtcc => return 28,
-        Scr::Mtdc => return 29,
-        Scr::Mscratchc => return 30,
-        Scr::Mepcc => return 31,
+        Scr::Mtcc => 28,
+        Scr::Mtdc => 29,
+        Scr::Mscratchc => 30,
+        Scr::Mepcc => 31,
     }
 }
 
@@ -155,16 +157,16 @@ fn inspection_row(x: Inspection) -> u32
     ensures { result ≡ inspection_row x }
 {
     match x {
-        Inspection::GetPerm => return 56,
-        Inspection::GetType => return 57,
-        Inspection::GetBase => return 58,
-        Inspection::GetLen => return 59,
-        Inspection::GetTag => return 60,
-        Inspection::RoundLength => return 61,
-        Inspection::AlignmentMask => return 62,
-        Inspection::GetAddr => return 63,
-        Inspection::GetHigh => return 64,
-        Inspection::GetTop => return 65,
+        Inspection::GetPerm => 56,
+        Inspection::GetType => 57,
+        Inspection::GetBase => 58,
+        Inspection::GetLen => 59,
+        Inspection::GetTag => 60,
+        Inspection::RoundLength => 61,
+        Inspection::AlignmentMask => 62,
+        Inspection::GetAddr => 63,
+        Inspection::GetHigh => 64,
+        Inspection::GetTop => 65,
     }
 }
 
@@ -172,63 +174,61 @@ fn combination_row(x: Combination) -> u32
     ensures { result ≡ combination_row x }
 {
     match x {
-        Combination::SetBounds => return 66,
-        Combination::SetBoundsExact => return 67,
-        Combination::Seal => return 68,
-        Combination::Unseal => return 69,
-        Combination::AndPerm => return 70,
-        Combination::SetAddr => return 71,
-        Combination::IncAddr => return 72,
-        Combination::SubAddr => return 73,
-        Combination::SetHigh => return 74,
-        Combination::TestSubset => return 75,
-        Combination::SetEqualExact => return 76,
+        Combination::SetBounds => 66,
+        Combination::SetBoundsExact => 67,
+        Combination::Seal => 68,
+        Combination::Unseal => 69,
+        Combination::AndPerm => 70,
+        Combination::SetAddr => 71,
+        Combination::IncAddr => 72,
+        Combination::SubAddr => 73,
+        Combination::SetHigh => 74,
+        Combination::TestSubset => 75,
+        Combination::SetEqualExact => 76,
     }
 }
 
+#[tactic(auto, unfolding(crate::specs::Rows::integer_shape))]
 fn integer_shape(w: u32, x: IntegerInstruction) -> Shape
     ensures { result ≡ integer_shape w x }
 {
     match x {
-        IntegerInstruction::Lui { rd, value: _ } => return two(0, rd, upper(w)),
-        IntegerInstruction::OpImm { op, rd, rs1, value } => return three(
+        IntegerInstruction::Lui { rd, value: _ } => two(0, rd, upper(w)),
+        IntegerInstruction::OpImm { op, rd, rs1, value } => three(
             alu_immediate_row(op),
             rd,
             rs1,
             value,
         ),
-        IntegerInstruction::Op { op, rd, rs1, rs2 } => return three(alu_row(op), rd, rs1, rs2),
-        IntegerInstruction::Multiply { kind, rd, rs1, rs2 } => return three(
+        IntegerInstruction::Op { op, rd, rs1, rs2 } => three(alu_row(op), rd, rs1, rs2),
+        IntegerInstruction::Multiply { kind, rd, rs1, rs2 } => three(
             multiply_row(kind),
             rd,
             rs1,
             rs2,
         ),
-        IntegerInstruction::Divide { kind, rd, rs1, rs2 } => return three(
-            divide_row(kind),
-            rd,
-            rs1,
-            rs2,
-        ),
+        IntegerInstruction::Divide { kind, rd, rs1, rs2 } => three(divide_row(kind), rd, rs1, rs2),
     }
 }
 
+#[tactic(auto, unfolding(crate::specs::Rows::jump_shape))]
 fn jump_shape(w: u32, x: JumpInstruction) -> Shape
     ensures { result ≡ jump_shape w x }
 {
     match x {
-        JumpInstruction::Jal { rd, offset } => return two(3, rd, offset),
-        JumpInstruction::Jalr { rd, rs1, offset } => return three(4, rd, rs1, offset),
+        JumpInstruction::Jal { rd, offset } => two(3, rd, offset),
+        JumpInstruction::Jalr { rd, rs1, offset } => three(4, rd, rs1, offset),
         JumpInstruction::Branch {
             kind,
             rs1,
             rs2,
             offset,
-        } => return three(branch_row(kind), rs1, rs2, offset),
-        JumpInstruction::Mret => return bare(11),
+        } => three(branch_row(kind), rs1, rs2, offset),
+        JumpInstruction::Mret => bare(11),
     }
 }
 
+#[tactic(auto, unfolding(crate::specs::Rows::memory_shape))]
 fn memory_shape(w: u32, x: MemoryInstruction) -> Shape
     ensures { result ≡ memory_shape w x }
 {
@@ -238,38 +238,31 @@ fn memory_shape(w: u32, x: MemoryInstruction) -> Shape
             rd,
             rs1,
             offset,
-        } => return three(load_row(kind), rd, rs1, offset),
+        } => three(load_row(kind), rd, rs1, offset),
         MemoryInstruction::Store {
             kind,
             rs1,
             rs2,
             offset,
-        } => return three(store_row(kind), rs1, rs2, offset),
-        MemoryInstruction::LoadCapability { rd, rs1, offset } => return three(17, rd, rs1, offset),
-        MemoryInstruction::StoreCapability { rs1, rs2, offset } => return three(
-            21, rs1, rs2, offset,
-        ),
+        } => three(store_row(kind), rs1, rs2, offset),
+        MemoryInstruction::LoadCapability { rd, rs1, offset } => three(17, rd, rs1, offset),
+        MemoryInstruction::StoreCapability { rs1, rs2, offset } => three(21, rs1, rs2, offset),
     }
 }
 
+#[tactic(auto, unfolding(crate::specs::Rows::capability_shape))]
 fn capability_shape(w: u32, x: CapabilityInstruction) -> Shape
     ensures { result ≡ capability_shape w x }
 {
     match x {
-        CapabilityInstruction::AuiPcc { rd, offset: _ } => return two(1, rd, upper(w)),
-        CapabilityInstruction::AuiCgp { rd, offset: _ } => return two(2, rd, upper(w)),
-        CapabilityInstruction::IncAddrImm { rd, rs1, offset } => return three(52, rd, rs1, offset),
-        CapabilityInstruction::SetBoundsImm { rd, rs1, length } => return three(
-            53, rd, rs1, length,
-        ),
-        CapabilityInstruction::Move { rd, rs1 } => return two(54, rd, rs1),
-        CapabilityInstruction::ClearTag { rd, rs1 } => return two(55, rd, rs1),
-        CapabilityInstruction::Inspect { what, rd, rs1 } => return two(
-            inspection_row(what),
-            rd,
-            rs1,
-        ),
-        CapabilityInstruction::Combine { what, rd, rs1, rs2 } => return three(
+        CapabilityInstruction::AuiPcc { rd, offset: _ } => two(1, rd, upper(w)),
+        CapabilityInstruction::AuiCgp { rd, offset: _ } => two(2, rd, upper(w)),
+        CapabilityInstruction::IncAddrImm { rd, rs1, offset } => three(52, rd, rs1, offset),
+        CapabilityInstruction::SetBoundsImm { rd, rs1, length } => three(53, rd, rs1, length),
+        CapabilityInstruction::Move { rd, rs1 } => two(54, rd, rs1),
+        CapabilityInstruction::ClearTag { rd, rs1 } => two(55, rd, rs1),
+        CapabilityInstruction::Inspect { what, rd, rs1 } => two(inspection_row(what), rd, rs1),
+        CapabilityInstruction::Combine { what, rd, rs1, rs2 } => three(
             combination_row(what),
             rd,
             rs1,
@@ -290,15 +283,16 @@ fn fence_shape(w: u32) -> Shape
     two(41, w / 0x100_0000 % 16, w / 0x10_0000 % 16)
 }
 
+#[tactic(auto, unfolding(crate::specs::Rows::system_shape))]
 fn system_shape(w: u32, x: SystemInstruction) -> Shape
     ensures { result ≡ system_shape w x }
 {
     match x {
-        SystemInstruction::Fence => return fence_shape(w),
-        SystemInstruction::Wfi => return bare(42),
-        SystemInstruction::Ecall => return bare(43),
-        SystemInstruction::Ebreak => return bare(44),
-        SystemInstruction::CsrRegister { kind, csr, rd, rs1 } => return three(
+        SystemInstruction::Fence => fence_shape(w),
+        SystemInstruction::Wfi => bare(42),
+        SystemInstruction::Ecall => bare(43),
+        SystemInstruction::Ebreak => bare(44),
+        SystemInstruction::CsrRegister { kind, csr, rd, rs1 } => three(
             csr_row(kind),
             rd,
             rs1,
@@ -309,21 +303,22 @@ fn system_shape(w: u32, x: SystemInstruction) -> Shape
             csr,
             rd,
             value,
-        } => return three(csr_immediate_row(kind), rd, csr_number(csr), value),
-        SystemInstruction::SpecialRw { scr, rd, rs1 } => return three(51, rd, rs1, scr_number(scr)),
+        } => three(csr_immediate_row(kind), rd, csr_number(csr), value),
+        SystemInstruction::SpecialRw { scr, rd, rs1 } => three(51, rd, rs1, scr_number(scr)),
     }
 }
 
+#[tactic(auto, unfolding(crate::specs::Rows::instruction_shape))]
 pub(crate) fn long_shape(w: u32) -> Shape
     ensures { result ≡ instruction_shape w (decode_of w) }
 {
     let i = instructions::decode(w);
     match i {
-        Instruction::Integer(x) => return integer_shape(w, x),
-        Instruction::Jump(x) => return jump_shape(w, x),
-        Instruction::Memory(x) => return memory_shape(w, x),
-        Instruction::Capability(x) => return capability_shape(w, x),
-        Instruction::System(x) => return system_shape(w, x),
-        Instruction::Illegal => return bare(UNLISTED),
+        Instruction::Integer(x) => integer_shape(w, x),
+        Instruction::Jump(x) => jump_shape(w, x),
+        Instruction::Memory(x) => memory_shape(w, x),
+        Instruction::Capability(x) => capability_shape(w, x),
+        Instruction::System(x) => system_shape(w, x),
+        Instruction::Illegal => bare(UNLISTED),
     }
 }

@@ -1,6 +1,6 @@
 -- Room counted down: after two texts what it is after both at once; and what is left in the end says whether there was enough.
 use Rattle.std.proofs.Common.{◌≡◌, ℕ, ◌+◌, ◌-◌, ◌≤◌, true, false, leb, refl, arith, le-leb, leb-false, leb-true}
-use Rattle.std.specs.Prelude.{Option, Some, None, SomeIff, Result, Ok, Err}
+use Rattle.std.specs.Prelude.{Option, Some, None, Ok, Err}
 use Rattle.std.specs.Option.{ok_or}
 use borrow.Author.Tests.{lt-leb}
 use Rattle.words.proofs.Word.{by_test}
@@ -26,12 +26,6 @@ pub spent_nothing : (room : Option ℕ) → spent room 0 ≡ room
 unfolding spent
 spent_nothing None = refl
 spent_nothing (Some left) = let e : left - 0 ≡ left = omega arith in rw (le-leb 0 left (omega arith), e) refl
-
--- a subtraction that is checked
-pub taken : (left n : ℕ) (r : Option ℕ) → SomeIff r (n ≤ left) (left - n) → r ≡ spent (Some left) n
-unfolding spent
-taken left n None h = rw (lt-leb n left (omega (arith, h))) refl
-taken left n (Some x) h = rw (le-leb n left h.0, h.1) refl
 
 -- room was enough for all
 pub record Enough (most total left : ℕ) : Type 0 where

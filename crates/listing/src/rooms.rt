@@ -2,6 +2,7 @@
 ghost use Rattle.std.specs.Prelude.{◌≡◌};
 ghost use Rattle.listing.specs.Rooms.{spent};
 
+#[tactic(auto, unfolding(crate::specs::Rooms::spent))]
 pub(crate) fn spend(room: Option<usize>, n: usize) -> Option<usize>
     ensures { result ≡ spent room n }
 {

@@ -1,5 +1,5 @@
 -- A refusal is the judge's, and leaves the buffer; else the code, which fits.
-use Rattle.std.proofs.Common.{◌≡◌, length, sym, ◌∙◌, arith, leb-true, ltb-false}
+use Rattle.std.proofs.Common.{length, sym, ◌∙◌, arith, leb-true, ltb-false}
 use Rattle.std.proofs.lemmas.Result.{err_from_is_err_and}
 use Rattle.text.proofs.Putting.{placed}
 use Rattle.listing.specs.Assembling.{bad_at, assembly_of, assemble_after}

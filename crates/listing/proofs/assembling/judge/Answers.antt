@@ -2,10 +2,9 @@
 -- that is left on the room that is left comes to spending the whole code on all of it.
 use Rattle.std.proofs.Common.{◌≡◌, ℕ, ◌+◌, length, sym, refl, ap, ◌∙◌, arith, length-append}
 use Rattle.std.proofs.lemmas.Result.{err_from_is_err_and}
-use Rattle.std.specs.Prelude.{Option, Some}
 use Rattle.listing.specs.declared.AssembleError.TheVariants.{TooShort}
 use Rattle.listing.specs.Rooms.{spent}
-use Rattle.listing.specs.Assembling.{line_word, line_size, line_good, read_at, bad_at, bytes_of, code_of, assembly_of}
+use Rattle.listing.specs.Assembling.{line_word, line_size, read_at, bad_at, bytes_of, code_of, assembly_of}
 use Rattle.listing.proofs.Answers.{assemble_bad, assemble_short, assemble_done, assemble_end}
 use Rattle.listing.proofs.Spending.{spent_twice, enough, too_little}
 use Rattle.listing.proofs.Texts.{line_found, line_none, text_turn, text_here, count_turn, count_stop, coded_turn, size_line, good_in}

@@ -1,5 +1,5 @@
 -- The line of the only word that it can be, in a buffer that has room for every line, compared with the text.
-use Rattle.std.proofs.Common.{◌≡◌, ◌-◌, length, take, drop, sym, refl, ap, ◌∙◌, arith}
+use Rattle.std.proofs.Common.{◌≡◌, length, drop, sym, refl, ap, ◌∙◌, arith}
 use Rattle.listing.specs.Assembling.{line_word, line_size, line_good}
 use Rattle.listing.specs.Lines.{line_of}
 use Rattle.listing.proofs.Again.{line_short}

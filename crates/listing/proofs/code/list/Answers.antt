@@ -1,5 +1,5 @@
 -- A refusal is the measure's, and leaves the buffer; else the listing, which fits.
-use Rattle.std.proofs.Common.{◌≡◌, length, sym, ◌∙◌, arith, leb-true}
+use Rattle.std.proofs.Common.{length, sym, ◌∙◌, arith, leb-true}
 use Rattle.std.proofs.lemmas.Result.{err_from_is_err_and}
 use Rattle.text.proofs.Putting.{placed}
 use Rattle.listing.specs.Code.{listing_of, list_after}

@@ -2,7 +2,6 @@
 -- comes to spending the whole listing on all of it.
 use Rattle.std.proofs.Common.{◌≡◌, ℕ, ◌+◌, length, sym, refl, ap, ◌∙◌, arith, length-append}
 use Rattle.std.proofs.lemmas.Result.{err_from_is_err_and}
-use Rattle.std.specs.Prelude.{Option, Some}
 use Rattle.listing.specs.Lines.{line_of}
 use Rattle.listing.specs.Rooms.{spent}
 use Rattle.listing.specs.Code.{size_at, whole_at, word_at, words_at, end_at, text_of, listing_of}

@@ -1,5 +1,5 @@
 -- The invariant: what is written, and then the lines of the words from here on, make the listing.
-use Rattle.std.proofs.Common.{ℕ, sym, refl, ◌∙◌, arith}
+use Rattle.std.proofs.Common.{sym, refl, ◌∙◌, arith}
 use Rattle.text.proofs.Putting.{puts_length}
 use Rattle.listing.specs.Code.{whole_at, word_at, listing_of}
 use Rattle.listing.proofs.Walking.{there, not_there, going_start, going_next, going_end}

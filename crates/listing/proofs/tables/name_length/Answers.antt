@@ -1,5 +1,5 @@
 -- The names of the table are the definition's.
-use Rattle.std.proofs.Common.{◌≡◌, ℕ, refl, length, ◌≤◌}
+use Rattle.std.proofs.Common.{refl}
 use Rattle.forms.specs.Rows.{names, name_of}
 use Rattle.forms.specs.declared.Row.{Row}
 use Rattle.forms.proofs.Entries.{field_at}
