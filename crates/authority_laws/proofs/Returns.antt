@@ -11,8 +11,7 @@ use Rattle.state.specs.Lent.{State}
 use Rattle.state.specs.Memory.{capability_in, granule_bytes}
 use Rattle.state.specs.Effects.{EachCapability}
 use Rattle.state.specs.declared.Board.{Board}
-use Rattle.fetch.specs.declared.Fetched.{Fetched}
-use Rattle.fetch.specs.declared.Fetched.TheVariants.{Long, Half, Fault}
+use Rattle.fetch.specs.declared.Fetched.TheVariants.{Long, Half}
 use Rattle.execution.specs.Step.{instruction_in, word_in, length_in, trap_or, effect_in, seen, fetched_in, step_of}
 use Rattle.machine_laws.specs.Editions.{NoJump}
 use Rattle.machine_laws.specs.Fits.{InType}
@@ -22,6 +21,8 @@ use Rattle.authority_laws.specs.Returns.{ReturnSentry, NoReturns}
 use Rattle.authority_laws.proofs.Closed.{Carried, Everywhere}
 use Rattle.authority_laws.proofs.Effects.{other_carried}
 use Rattle.authority_laws.proofs.Runs.{carried_keeps, at_granule, in_place}
+use Rattle.fetch.specs.Fetch.{Met}
+use Rattle.std.specs.Prelude.{Ok, Err}
 
 abbrev NoReturn : Capability → Type 0
 NoReturn c = ReturnSentry c → ⊥
@@ -50,11 +51,11 @@ module _ (board : Board) (revoked : List ℕ) (s : State) (good : GoodState boar
       let e = nowhere h in
       ended (step_of board revoked s) (carried_keeps NoReturn no_return_carried board revoked s good t (met (fetched_in board s) other e) e)
     where
-      met : (f : Fetched) → NoJump (instruction_in f) → Everywhere NoReturn s → EachCapability NoReturn (effect_in f s.regs (seen board revoked s))
-      met (Fault cause value) n e = tt
-      met (Long w) n e =
+      met : (f : Met) → NoJump (instruction_in f) → Everywhere NoReturn s → EachCapability NoReturn (effect_in f s.regs (seen board revoked s))
+      met (Err trap) n e = tt
+      met (Ok (Long w)) n e =
           other_carried NoReturn no_return_carried s.regs (record { words = t.registers_in; tags = good.words.tag_words }) e.registers
-          (seen board revoked s) good.memory.start_aligned e.memory (length_in (Long w)) (instruction_in (Long w)) (word_in (Long w)) n
-      met (Half w) n e =
+          (seen board revoked s) good.memory.start_aligned e.memory (length_in (Ok (Long w))) (instruction_in (Ok (Long w))) (word_in (Ok (Long w))) n
+      met (Ok (Half w)) n e =
           other_carried NoReturn no_return_carried s.regs (record { words = t.registers_in; tags = good.words.tag_words }) e.registers
-          (seen board revoked s) good.memory.start_aligned e.memory (length_in (Half w)) (instruction_in (Half w)) (word_in (Half w)) n
+          (seen board revoked s) good.memory.start_aligned e.memory (length_in (Ok (Half w))) (instruction_in (Ok (Half w))) (word_in (Ok (Half w))) n

@@ -23,10 +23,12 @@ use Rattle.state.specs.declared.Board.{Board}
 use Rattle.commit.specs.Commit.{apply_effect}
 use Rattle.commit.proofs.Views.{each_stored}
 use Rattle.execution.specs.Step.{seen, effect_at, step_of, length_in, fetched_in}
+use Rattle.std.specs.Prelude.{Result}
 use Rattle.machine.specs.Refusals.{refusal_of}
 use Rattle.machine.specs.Run.{step_refusal, step_after, Ran, ran, one_more, iterate, run_after}
 use Rattle.machine.specs.Watching.{WatchPromise}
-use Rattle.machine.specs.declared.RunAnswer.{RunAnswer}
+use Rattle.machine.specs.declared.answers.Refusal.{Refusal}
+use Rattle.machine.specs.declared.answers.Counts.{Counts}
 use Rattle.watch.specs.declared.Watch.{Watch}
 use Rattle.bench_api.specs.Watches.{WatchPacked}
 use Rattle.sweep.specs.Visits.{tags_after}
@@ -245,7 +247,7 @@ reached_gains_none s a h (by_c_visit {b} g board revoked answer r same p) =
 
 -- A run with a watch record, of the machine or for C, is one of these calls: its promise has a run's.
 module _ (s b a : State) (n : ℕ) (board : Board) (revoked : List ℕ) (reached : Reached s b) where
-  pub by_watched : (w left : Watch) (answer : RunAnswer) → WatchPromise n board revoked b a w left answer → Reached s a
+  pub by_watched : (w left : Watch) (answer : Result Counts Refusal) → WatchPromise n board revoked b a w left answer → Reached s a
   by_watched w left answer p = by_run n board revoked answer reached p.run_is
 
   pub by_c_watched : (w : Watch) (count1 count2 answer : ℕ) → WatchPacked n board revoked b a w count1 count2 answer → Reached s a

@@ -1,5 +1,5 @@
 -- What a state holds, what is derived from it, and that steps, runs and sweeps gain no authority. Document 02, 9 and 10. Assumes nothing.
-use Rattle.std.specs.Prelude.{List, ◌≡◌, ℕ, ◌*◌, ◌/◌, ◌<◌, length}
+use Rattle.std.specs.Prelude.{Option, Result, List, ◌≡◌, ℕ, ◌*◌, ◌/◌, ◌<◌, length}
 use Rattle.capability.specs.declared.Capability.{Capability}
 use Rattle.capability_laws.specs.Authority.{Inside}
 use Rattle.state.specs.Layout.{capability_count}
@@ -8,10 +8,10 @@ use Rattle.state.specs.Lent.{State}
 use Rattle.state.specs.Memory.{capability_in, granule_bytes}
 use Rattle.state.specs.declared.Board.{Board}
 use Rattle.machine.specs.Run.{step_refusal, ran_from, StepPromise, RunPromise}
-use Rattle.machine.specs.declared.StepAnswer.{StepAnswer}
-use Rattle.machine.specs.declared.RunAnswer.{RunAnswer}
+use Rattle.machine.specs.declared.answers.Refusal.{Refusal}
+use Rattle.machine.specs.declared.answers.Step.{Step}
+use Rattle.machine.specs.declared.answers.Counts.{Counts}
 use Rattle.sweep.specs.Visits.{VisitPromise}
-use Rattle.sweep.specs.declared.SweepAnswer.{SweepAnswer}
 use Rattle.machine_laws.specs.Fits.{InType}
 use Rattle.machine_laws.specs.Lent.{Sound}
 use Rattle.bench_api.specs.Packing.{StepPacked, RunPacked, VisitPacked}
@@ -67,11 +67,13 @@ pub record Unwritten (before after : State) : Type 0 where
 -- A caller's own write to registers, memory or tags is none of them: it begins a new start.
 pub data Reached (s : State) : State → Type 0 where
   at_start : Reached s s
-  by_step : {b a : State} (board : Board) (revoked : List ℕ) (answer : StepAnswer) → Reached s b → StepPromise board revoked b a answer → Reached s a
-  by_run : {b a : State} (n : ℕ) (board : Board) (revoked : List ℕ) (answer : RunAnswer) → Reached s b → RunPromise n board revoked b a answer → Reached s a
+  by_step : {b a : State} (board : Board) (revoked : List ℕ) (answer : Result Step Refusal)
+      → Reached s b → StepPromise board revoked b a answer → Reached s a
+  by_run : {b a : State} (n : ℕ) (board : Board) (revoked : List ℕ) (answer : Result Counts Refusal)
+      → Reached s b → RunPromise n board revoked b a answer → Reached s a
   by_c_step : {b a : State} (board : Board) (revoked : List ℕ) (answer : ℕ) → Reached s b → StepPacked board revoked b a answer → Reached s a
   by_c_run : {b a : State} (n : ℕ) (board : Board) (revoked : List ℕ) (answer : ℕ) → Reached s b → RunPacked n board revoked b a answer → Reached s a
-  by_visit : {b a : State} (g : ℕ) (board : Board) (revoked : List ℕ) (answer : SweepAnswer) → Reached s b → Unwritten b a
+  by_visit : {b a : State} (g : ℕ) (board : Board) (revoked : List ℕ) (answer : Result (Option ℕ) Refusal) → Reached s b → Unwritten b a
       → VisitPromise board revoked b.mem g b.tags a.tags answer → Reached s a
   by_c_visit : {b a : State} (g : ℕ) (board : Board) (revoked : List ℕ) (answer : ℕ) → Reached s b → Unwritten b a
       → VisitPacked board revoked b.mem g b.tags a.tags answer → Reached s a

@@ -1,5 +1,6 @@
 -- An answer of none is that all held is apart from what was asked. It stays so, since no authority is gained; of a range that is not empty it says that what
 -- is held is sound; and with the right to store, that each byte of the range is shut. So integrity has all its hypotheses. Assumes nothing.
+use Rattle.std.specs.Prelude.{Option, None, Ok}
 use mathlib.Core.Path.{◌≡◌, refl, sym, ◌∙◌}
 use mathlib.Core.Logic.{◌↔◌, ◌⊎◌, inl, inr}
 use mathlib.Core.Bool.{Bool, true, false, not, ◌&&◌, ◌||◌, true≢false}
@@ -27,8 +28,6 @@ use Rattle.machine.specs.Run.{step_refusal, ran_from}
 use Rattle.reach.specs.Reach.{end, grants_all, overlaps, reaches_into, places_in, capability_is, passes_in, first_reach, reach_answer, packed_reach, query_of}
 use Rattle.reach.specs.Reach.{FirstPlace, none_passes, first_passes}
 use Rattle.reach.specs.declared.Query.{Query}
-use Rattle.reach.specs.declared.ReachAnswer.{ReachAnswer}
-use Rattle.reach.specs.declared.ReachAnswer.TheVariants.{Nowhere}
 use Rattle.reach.proofs.Search.{register_is, granule_is}
 use Rattle.reach.proofs.Laws.{first_is, none_at_all, at_all_none, empty_range, nowhere_first, packed_none}
 use Rattle.machine_laws.specs.Fits.{InType}
@@ -129,24 +128,24 @@ module _ (q : Query) (c : Capability) where
 module _ (q : Query) where
   module _ (some : q.length ≡ 0 → ⊥) where
     -- none: all that is held is apart, and the other way round
-    pub nowhere_is : (s : State) → (first_reach q s 0 ≡ Nowhere) ↔ ((c : Capability) → Held s c → Apart q c)
+    pub nowhere_is : (s : State) → (first_reach q s 0 ≡ None) ↔ ((c : Capability) → Held s c → Apart q c)
     nowhere_is s = (there, back)
       where
-        there : first_reach q s 0 ≡ Nowhere → (c : Capability) → Held s c → Apart q c
+        there : first_reach q s 0 ≡ None → (c : Capability) → Held s c → Apart q c
         there e c k =
             let p = placed s c k.stands in
             apart_of q c some k.is_tagged (rw p.holds (none_at_all q s e p.place (omega arith) p.is_one))
 
-        back : ((c : Capability) → Held s c → Apart q c) → first_reach q s 0 ≡ Nowhere
+        back : ((c : Capability) → Held s c → Apart q c) → first_reach q s 0 ≡ None
         back f =
             at_all_none q s
             (λ p l u. of_apart q (capability_is s p) some (λ h. f (capability_is s p) (record { stands = stands_at s p u; is_tagged = h })))
 
     -- then the state may start
-    pub nowhere_starts : (s : State) → InType s → first_reach q s 0 ≡ Nowhere → Start s
+    pub nowhere_starts : (s : State) → InType s → first_reach q s 0 ≡ None → Start s
     nowhere_starts s t e = record { in_type = t; sound = λ c k. ((nowhere_is s).0 e c k).is_sound }
 
-    some_stays : (s a : State) → NoGain s a → first_reach q s 0 ≡ Nowhere → first_reach q a 0 ≡ Nowhere
+    some_stays : (s a : State) → NoGain s a → first_reach q s 0 ≡ None → first_reach q a 0 ≡ None
     some_stays s a g e =
         (nowhere_is a).1
         (λ c k.
@@ -159,11 +158,11 @@ module _ (q : Query) where
               apart.no_address (λ j h. inside.no_right j (all j h)) x (omega (arith, inside.region.from)) (omega (arith, inside.region.to)) y z;
         })
 
-  empty_nowhere : q.length ≡ 0 → (s : State) → first_reach q s 0 ≡ Nowhere
+  empty_nowhere : q.length ≡ 0 → (s : State) → first_reach q s 0 ≡ None
   empty_nowhere h s = at_all_none q s (λ p l u. empty_range q (capability_is s p) h)
 
   -- none stays none over any calls: the search need not be made again
-  pub nowhere_stays : (s a : State) → InType s → Reached s a → first_reach q s 0 ≡ Nowhere → first_reach q a 0 ≡ Nowhere
+  pub nowhere_stays : (s a : State) → InType s → Reached s a → first_reach q s 0 ≡ None → first_reach q a 0 ≡ None
   nowhere_stays s a t r e =
       by_test (eqb q.length 0) (λ h. empty_nowhere (eqb-true q.length 0 h) a)
       (λ h.
@@ -194,7 +193,7 @@ module _ (start : ℕ) (q : Query) (stores : q.rights ≡ 2 ^ SD) (s : State) wh
   in_some : (i : ℕ) → InRange q start i → q.length ≡ 0 → ⊥
   in_some i r z = omega (arith, r.from, r.to, z)
 
-  module _ (none : first_reach q s 0 ≡ Nowhere) where
+  module _ (none : first_reach q s 0 ≡ None) where
     -- each byte of the range is shut
     pub nowhere_shut : (i : ℕ) → InRange q start i → ByteShut s start i
     nowhere_shut i r c k w =
@@ -215,7 +214,7 @@ module _ (start : ℕ) (q : Query) (stores : q.rights ≡ 2 ^ SD) (s : State) wh
         }
 
   -- where `reach` answers none, from the first place on
-  pub reach_claim : InType s → reach_answer start q 0 s ≡ Nowhere → ReachClaim start q s
+  pub reach_claim : InType s → reach_answer start q 0 s ≡ Ok None → ReachClaim start q s
   reach_claim t e = none_claim (nowhere_first start q 0 s e) t
 
   -- and where `oddersnow_reach` answers 0
@@ -251,7 +250,7 @@ shut_or_held s h start i = go (first_reach q s 0) refl (first_is q s 0 (omega ar
           };
         }
 
-    go : (x : ReachAnswer) → first_reach q s 0 ≡ x → FirstPlace (passes_in q s) 0 (places_in (length s.mem)) x → ByteShut s start i ⊎ WriterHeld s (start + i)
+    go : (x : Option ℕ) → first_reach q s 0 ≡ x → FirstPlace (passes_in q s) 0 (places_in (length s.mem)) x → ByteShut s start i ⊎ WriterHeld s (start + i)
     go x e (none_passes f) = inl (nowhere_shut start q refl s e i (record { from = omega arith; to = omega arith }))
     go x e (first_passes p l u t f) = inr (counted (capability_is s p) (stands_at s p u) t)
 

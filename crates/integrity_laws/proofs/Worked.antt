@@ -1,4 +1,5 @@
 -- The guarded machine meets every hypothesis, stores what it may, and leaves what it may not; a machine that stores past bounds is shut out. Assumes nothing.
+use Rattle.std.specs.Prelude.{Some, None, Ok}
 use mathlib.Core.Path.{◌≡◌, refl}
 use Prim.Native.Nat.{ℕ, ◌^◌, ◌≤◌, ◌<◌}
 use native.Mathlib.Omega.{arith}
@@ -26,7 +27,6 @@ use Rattle.machine.specs.Refusals.{good_memory, good_window, good_tags, good_zer
 use Rattle.machine.specs.Refusals.{sound, sound_if_tagged, good_bounds}
 use Rattle.machine.specs.Run.{step_refusal, one_more, iterate, ran_from}
 use Rattle.reach.specs.Reach.{reaches_into, capability_is, first_of, first_reach, asked_refusal, reach_refusal, reach_answer, query_of}
-use Rattle.reach.specs.declared.ReachAnswer.TheVariants.{Found, Nowhere}
 use Rattle.authority_laws.specs.Gain.{Start}
 use Rattle.authority_laws.specs.Worked.{board, revoked}
 use Rattle.authority_laws.proofs.Tests.{if_tagged, below, tested_start}
@@ -48,21 +48,21 @@ guarded_runs = refl
 -- ---- the test, computed
 
 -- nothing may store from 0x20000020 on; c1 is the first that may from 0x2000001F on; and PCC, number 16, the first that may load there
-pub guarded_nowhere : reach_answer 0x20000000 (query_of 0x20000020 0x20 (2 ^ SD)) 0 guarded ≡ Nowhere
+pub guarded_nowhere : reach_answer 0x20000000 (query_of 0x20000020 0x20 (2 ^ SD)) 0 guarded ≡ Ok None
 unfolding guarded reach_answer reach_refusal asked_refusal first_reach capability_is reaches_into first_of good_memory good_bits good_tags good_zero good_words
     set_capability set_bytes le_bytes bit_at capability_at capability_in tagged sound low high rights low_at high_at low_of high_of exponent_of scale_of top_of
     base_of
     rights_of permissions_of
 guarded_nowhere = refl
 
-pub guarded_found : reach_answer 0x20000000 (query_of 0x2000001F 0x21 (2 ^ SD)) 0 guarded ≡ Found 1
+pub guarded_found : reach_answer 0x20000000 (query_of 0x2000001F 0x21 (2 ^ SD)) 0 guarded ≡ Ok (Some 1)
 unfolding guarded reach_answer reach_refusal asked_refusal first_reach capability_is reaches_into first_of good_memory good_bits good_tags good_zero good_words
     set_capability set_bytes le_bytes bit_at capability_at capability_in tagged sound low high rights low_at high_at low_of high_of exponent_of scale_of top_of
     base_of
     rights_of permissions_of
 guarded_found = refl
 
-pub guarded_loads : reach_answer 0x20000000 (query_of 0x20000020 0x20 (2 ^ LD)) 0 guarded ≡ Found 16
+pub guarded_loads : reach_answer 0x20000000 (query_of 0x20000020 0x20 (2 ^ LD)) 0 guarded ≡ Ok (Some 16)
 unfolding guarded reach_answer reach_refusal asked_refusal first_reach capability_is reaches_into first_of good_memory good_bits good_tags good_zero good_words
     set_capability set_bytes le_bytes bit_at capability_at capability_in tagged sound low high rights low_at high_at low_of high_of exponent_of scale_of top_of
     base_of

@@ -1,5 +1,6 @@
 -- What `reach` says by an answer of none: nothing held may do what was asked in the range; and where the right to store was asked, that the range stays as it
 -- is. Assumes nothing.
+use Rattle.std.specs.Prelude.{None}
 use Rattle.std.specs.Prelude.{List, ◌≡◌, ℕ, ◌+◌, ◌*◌, ◌≤◌, ◌<◌}
 use Rattle.metadata.specs.Rights.{Has}
 use Rattle.capability.specs.Capability.{low, high, rights}
@@ -10,7 +11,6 @@ use Rattle.state.specs.declared.Board.{Board}
 use Rattle.machine.specs.Run.{step_refusal, ran_from}
 use Rattle.reach.specs.Reach.{end, first_reach}
 use Rattle.reach.specs.declared.Query.{Query}
-use Rattle.reach.specs.declared.ReachAnswer.TheVariants.{Nowhere}
 use Rattle.machine_laws.specs.Lent.{Sound}
 use Rattle.authority_laws.specs.Gain.{Reached}
 use Rattle.integrity_laws.specs.Integrity.{Stays, SameTag, EachStart}
@@ -34,4 +34,4 @@ pub record ReachClaim (start : ℕ) (q : Query) (s : State) : Type 0 where
   pub tags_after_steps : (n : ℕ) (board : Board) (revoked : List ℕ) → board.start ≡ start → step_refusal board revoked s ≡ 0
       → (g : ℕ) → ((k : ℕ) → k < granule_bytes → InRange q start (g * granule_bytes + k)) → SameTag g s (ran_from n board revoked s).at
   pub after_calls : (a : State) (r : Reached s a) → EachStart (λ k. k ≡ start) r → (i : ℕ) → InRange q start i → Stays i s a
-  pub none_after_calls : (a : State) → Reached s a → first_reach q a 0 ≡ Nowhere
+  pub none_after_calls : (a : State) → Reached s a → first_reach q a 0 ≡ None

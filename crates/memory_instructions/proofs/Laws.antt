@@ -1,6 +1,7 @@
 -- A store of this family touches one granule of memory, and no tag other than 0 or 1 is loaded or stored. Assumes nothing.
 use Rattle.std.proofs.Common.{◌≡◌, ℕ, ◌+◌, ◌%◌, ◌≤◌, Bool, true, false, not, ◌&&◌, leb, List, length, sym, refl, true≢false, arith, eqb-true, leb-true}
 use borrow.Author.Tests.{not-false}
+use Rattle.std.proofs.lemmas.Bool.{and_parts}
 use Rattle.metadata.specs.Rights.{SD, MC, SL, GL, Has, bit}
 use Rattle.bounds.specs.Bounds.{Contains}
 use Rattle.capability.specs.Capability.{keep_tag_if, low, high, rights, grants, sealed, tagged, covers}
@@ -124,10 +125,6 @@ untagged_unrevoked board revoked v h = by (revocation_at board revoked (low v))
 
 -- ---- stores that pass their checks
 
-both : (a b : Bool) → a && b ≡ true → (a ≡ true) × (b ≡ true)
-both true b h = (refl, h)
-both false b h = absurd (true≢false (sym h))
-
 -- c is tagged, has the right to store, and has width bytes at an address in its bounds
 pub record Through (c : Capability) (address width : ℕ) : Type 0 where
   pub is_tagged : c.tag ≡ 1
@@ -143,7 +140,7 @@ module _ (c : Capability) (address : ℕ) where
   through : (width : ℕ) → not (tagged c) ≡ false → not (grants c SD) ≡ false → not (in_bounds c address width) ≡ false → Through c address width
   unfolding tagged covers
   through width t g b =
-      let r = both (leb (low c) address) (leb (address + width) (high c)) (not-false (in_bounds c address width) b) in
+      let r = and_parts (leb (low c) address) (leb (address + width) (high c)) (not-false (in_bounds c address width) b) in
       record {
         is_tagged = eqb-true c.tag 1 (not-false (tagged c) t);
         stores = eqb-true (bit (rights c) SD) 1 (not-false (grants c SD) g);

@@ -10,6 +10,7 @@ use lib.Dec.{eqb, leb, ltb}
 use lib.ListN.{length}
 use borrow.Author.Tests.{eq-eqb, ne_eqb, eqb-true, eqb-false, leb-true, ltb-true, ltb-false, le-leb, lt-ltb}
 use Rattle.words.proofs.Word.{by_test}
+use Rattle.std.proofs.lemmas.Bool.{and_parts}
 use Rattle.metadata.specs.Rights.{all_rights}
 use Rattle.state.specs.Layout.{register_words, capability_count}
 use Rattle.state.specs.Lent.{State}
@@ -26,12 +27,8 @@ use Rattle.reach.specs.declared.Query.{Query}
 use Rattle.reach.proofs.Search.{passed_over, first_unique, first_alike}
 use Rattle.reach.proofs.Laws.{first_of_is, none_of, first_is, refusal_small}
 
-both : (a b : Bool) → a && b ≡ true → (a ≡ true) × (b ≡ true)
-both true b h = (refl, h)
-both false b h = absurd (true≢false (sym h))
-
 fourth : (a b c d e : Bool) → a && (b && (c && (d && e))) ≡ true → d ≡ true
-fourth a b c d e h = (both d e (both c (d && e) (both b (c && (d && e)) (both a (b && (c && (d && e))) h).1).1).1).0
+fourth a b c d e h = (and_parts d e (and_parts c (d && e) (and_parts b (c && (d && e)) (and_parts a (b && (c && (d && e))) h).1).1).1).0
 
 -- ---- the search
 
@@ -43,8 +40,8 @@ module _ (start : ℕ) (q : Query) (s : State) where
   hidden_is : (p : ℕ) → is_hidden start q p ≡ true
       → (capability_count ≤ p) × (q.low ≤ start + (p - capability_count) * granule_bytes) × (start + (p - capability_count) * granule_bytes < end q)
   hidden_is p h =
-      let a = both (leb capability_count p) _ h in
-      let b = both (leb q.low (start + (p - capability_count) * granule_bytes)) _ a.1 in
+      let a = and_parts (leb capability_count p) _ h in
+      let b = and_parts (leb q.low (start + (p - capability_count) * granule_bytes)) _ a.1 in
       (leb-true _ _ a.0, leb-true _ _ b.0, ltb-true _ _ b.1)
 
   is_hidden_lem : (p : ℕ) → capability_count ≤ p → q.low ≤ start + (p - capability_count) * granule_bytes
@@ -193,7 +190,7 @@ module _ (start : ℕ) (q : Query) (from : ℕ) (s : State) where
       go : (b : Bool) → eqb asked 0 ≡ b → (t : Bool) → at_edges q ≡ t → fail_if (not b) asked (fail_if (not t) 22 0) ≡ 0
           → (asked ≡ 0) × (q.low % granule_bytes ≡ 0) × (end q % granule_bytes ≡ 0)
       go true e true f z =
-          let m = both (eqb (q.low % granule_bytes) 0) (eqb (end q % granule_bytes) 0) f in
+          let m = and_parts (eqb (q.low % granule_bytes) 0) (eqb (end q % granule_bytes) 0) f in
           (eqb-true asked 0 e, eqb-true (q.low % granule_bytes) 0 m.0, eqb-true (end q % granule_bytes) 0 m.1)
       go true e false f z = absurd (omega (arith, z))
       go false e t f z = absurd (eqb-false asked 0 e z)

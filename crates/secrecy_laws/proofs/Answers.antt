@@ -1,5 +1,6 @@
 -- What an answer of none outside a range says, with no hypothesis left over: what is held outside is sound and apart from what was asked. So secrecy and
 -- isolation have all that they ask. Assumes nothing.
+use Rattle.std.specs.Prelude.{Option, None, Ok}
 use mathlib.Core.Path.{◌≡◌, refl, sym, ◌∙◌}
 use mathlib.Core.Bool.{Bool, true, false, not, true≢false}
 use mathlib.Core.List.{List}
@@ -18,8 +19,6 @@ use Rattle.state.specs.Memory.{granule_bytes}
 use Rattle.reach.specs.Reach.{end, reaches_into, places_in, capability_is, passes_in, packed_reach, query_of, FirstPlace, none_passes, first_passes}
 use Rattle.reach.specs.Outside.{in_range, is_hidden, passes_outside, first_outside, outside_refusal, outside_answer}
 use Rattle.reach.specs.declared.Query.{Query}
-use Rattle.reach.specs.declared.ReachAnswer.{ReachAnswer}
-use Rattle.reach.specs.declared.ReachAnswer.TheVariants.{Nowhere}
 use Rattle.reach.proofs.Search.{register_is, granule_is}
 use Rattle.reach.proofs.Laws.{empty_range}
 use Rattle.reach.proofs.Passing.{outside_is, none_but_hidden, accepted_start, accepted_outside, nowhere_outside, packed_outside}
@@ -35,22 +34,22 @@ use Rattle.secrecy_laws.proofs.Promises.{secret_claim, no_gain_claim}
 use Rattle.secrecy_laws.proofs.Isolation.{stays_claim}
 
 -- not refused, and none found from the first place on
-abbrev None : (start : ℕ) → Query → State → Type 0
-None start q s = (outside_refusal start q 0 s ≡ 0) × (first_outside start q s 0 ≡ Nowhere)
+abbrev NoneFound : (start : ℕ) → Query → State → Type 0
+NoneFound start q s = (outside_refusal start q 0 s ≡ 0) × (first_outside start q s 0 ≡ None)
 
 -- none counts outside: none is found
 no_place : (start : ℕ) (q : Query) (s : State)
-    → ((p : ℕ) → p < places_in (length s.mem) → is_hidden start q p ≡ false → passes_in q s p ≡ false) → first_outside start q s 0 ≡ Nowhere
+    → ((p : ℕ) → p < places_in (length s.mem) → is_hidden start q p ≡ false → passes_in q s p ≡ false) → first_outside start q s 0 ≡ None
 unfolding passes_outside
 no_place start q s f = go (first_outside start q s 0) (outside_is start q s 0 (omega arith))
   where
-    go : (a : ReachAnswer) → FirstPlace (passes_outside start q s) 0 (places_in (length s.mem)) a → a ≡ Nowhere
+    go : (a : Option ℕ) → FirstPlace (passes_outside start q s) 0 (places_in (length s.mem)) a → a ≡ None
     go a (none_passes n) = refl
     go a (first_passes p l u t n) =
         let b = (both_true (not (is_hidden start q p)) (passes_in q s p)).0 t in
         absurd (true≢false (sym b.1 ∙ f p u (not-true (is_hidden start q p) b.0)))
 
-module _ (start : ℕ) (q : Query) (s : State) (answer : None start q s) where
+module _ (start : ℕ) (q : Query) (s : State) (answer : NoneFound start q s) where
   -- granules of the range are hidden
   abbrev hidden : ℕ → Bool
   hidden = in_range start q
@@ -115,7 +114,7 @@ module _ (start : ℕ) (q : Query) (s : State) (answer : None start q s) where
         in_granule (p - capability_count) (omega arith) (rw (le-leb capability_count p u) at h) (granule_is a p u))
 
     -- where no authority is gained outside, the answer stays
-    none_stays : (a : State) → NoGainOutside hidden s a → first_outside start q a 0 ≡ Nowhere
+    none_stays : (a : State) → NoGainOutside hidden s a → first_outside start q a 0 ≡ None
     none_stays a g = no_place start q a (λ p l h. of_apart q (capability_is a p) some (λ t. apart (capability_is a p) (held p l h t)))
       where
         held : (p : ℕ) → p < places_in (length a.mem) → is_hidden start q p ≡ false → (capability_is a p).tag ≡ 1 → HeldOutside hidden a (capability_is a p)
@@ -152,11 +151,11 @@ module _ (start low length : ℕ) (s : State) (t : InType s) where
   storing = query_of low length (2 ^ SD)
 
   -- none for the right to load: what is in the range makes no difference outside it
-  none_secrecy : None start loading s → (b : State) → Alike range s b → SecrecyClaim range (λ k. k ≡ start) s b
+  none_secrecy : NoneFound start loading s → (b : State) → Alike range s b → SecrecyClaim range (λ k. k ≡ start) s b
   none_secrecy answer b alike = secret_claim range (λ k. k ≡ start) s b alike (λ k e. rw e (none_secret start loading s answer t refl))
 
   -- none for the right to store too: what is in the range stays
-  module _ (loads : None start loading s) (stores : None start storing s) where
+  module _ (loads : NoneFound start loading s) (stores : NoneFound start storing s) where
     some : (i : ℕ) → InRange loading start i → length ≡ 0 → ⊥
     some i m z = omega (arith, m.from, m.to, z)
 
@@ -185,8 +184,8 @@ module _ (start low length : ℕ) (s : State) (t : InType s) where
     none_isolation = record { stays = none_changed; unknown = none_secrecy loads }
 
   -- and both answers stay, with any rights of which there is none: the search need not be made again
-  none_after : None start loading s → (r : ℕ) → None start (query_of low length r) s → (calls : List Call) → EachStart (λ k. k ≡ start) calls
-      → first_outside start (query_of low length r) (left calls s) 0 ≡ Nowhere
+  none_after : NoneFound start loading s → (r : ℕ) → NoneFound start (query_of low length r) s → (calls : List Call) → EachStart (λ k. k ≡ start) calls
+      → first_outside start (query_of low length r) (left calls s) 0 ≡ None
   none_after loads r asked calls e =
       by_test (eqb length 0)
       (λ z. no_place start (query_of low length r) (left calls s) (λ p l h. empty_range (query_of low length r) _ (eqb-true length 0 z)))
@@ -196,15 +195,15 @@ module _ (start low length : ℕ) (s : State) (t : InType s) where
       (each_start range (λ k. k ≡ start) (Unread range s) (λ k f. rw f (none_unread start loading s loads more refl)) calls e)))
 
   -- where `reach_outside` answers none, from the first place on
-  pub outside_secrecy_claim : outside_answer start loading 0 s ≡ Nowhere → (b : State) → Alike range s b → SecrecyClaim range (λ k. k ≡ start) s b
+  pub outside_secrecy_claim : outside_answer start loading 0 s ≡ Ok None → (b : State) → Alike range s b → SecrecyClaim range (λ k. k ≡ start) s b
   outside_secrecy_claim e b alike = none_secrecy (nowhere_outside start loading 0 s e) b alike
 
-  pub outside_isolation_claim : outside_answer start loading 0 s ≡ Nowhere → outside_answer start storing 0 s ≡ Nowhere
+  pub outside_isolation_claim : outside_answer start loading 0 s ≡ Ok None → outside_answer start storing 0 s ≡ Ok None
       → Isolated range (InRange loading start) (λ i k. k ≡ start) (λ k. k ≡ start) s
   outside_isolation_claim e f = none_isolation (nowhere_outside start loading 0 s e) (nowhere_outside start storing 0 s f)
 
-  pub outside_stays : outside_answer start loading 0 s ≡ Nowhere → (r : ℕ) → outside_answer start (query_of low length r) 0 s ≡ Nowhere
-      → (calls : List Call) → EachStart (λ k. k ≡ start) calls → first_outside start (query_of low length r) (left calls s) 0 ≡ Nowhere
+  pub outside_stays : outside_answer start loading 0 s ≡ Ok None → (r : ℕ) → outside_answer start (query_of low length r) 0 s ≡ Ok None
+      → (calls : List Call) → EachStart (λ k. k ≡ start) calls → first_outside start (query_of low length r) (left calls s) 0 ≡ None
   outside_stays e r f calls k = none_after (nowhere_outside start loading 0 s e) r (nowhere_outside start (query_of low length r) 0 s f) calls k
 
   -- and where `oddersnow_reach_outside` answers 0

@@ -18,10 +18,10 @@ use Rattle.state.specs.declared.Board.{Board}
 use Rattle.memory_instructions.specs.Access.{revoked_value}
 use Rattle.watch.specs.declared.Watch.{Watch}
 use Rattle.commit.specs.Commit.{retires}
-use Rattle.machine.specs.Refusals.{refusal_of}
-use Rattle.machine.specs.Run.{step_refusal, step_answer, step_after, run_answer, run_after, ran_from, one_more, iterate}
-use Rattle.machine.specs.declared.StepAnswer.TheVariants as StepAnswer
-use Rattle.machine.specs.declared.RunAnswer.TheVariants as RunAnswer
+use Rattle.machine.specs.Refusals.{refusal_named, refusal_of}
+use Rattle.machine.specs.Run.{counts, step_refusal, step_answer, step_after, run_answer, run_after, ran_from, one_more, iterate}
+use Rattle.machine.specs.declared.answers.Step.TheVariants.{Retired, Trapped}
+use Rattle.std.specs.Prelude.{Ok, Err}
 use Rattle.machine.specs.Watching.{watch_left}
 use Rattle.machine.proofs.Laws.{bits_alike}
 use Rattle.sweep.specs.Visits.{stored_in, visit_refusal, swept_tags, visit_answer, tags_after}
@@ -192,9 +192,9 @@ module _ (hidden : ℕ → Bool) where
       step_answered : step_answer board revoked a ≡ step_answer board revoked b
       unfolding step_answer iterate
       step_answered =
-          answered (step_refusal board revoked a) (step_refusal board revoked b) (refusal_alike hidden a b alike 1 board revoked) (λ n. StepAnswer.Refused n) _
+          answered (step_refusal board revoked a) (step_refusal board revoked b) (refusal_alike hidden a b alike 1 board revoked) (λ n. Err (refusal_named n)) _
           _
-          (λ z. ap (λ e. cond (retires e) StepAnswer.Retired StepAnswer.Trapped) (runs_of 1 0 z).same_next)
+          (λ z. ap (λ e. Ok (cond (retires e) Retired Trapped)) (runs_of 1 0 z).same_next)
 
       step_left : Left a b (step_after board revoked a) (step_after board revoked b)
       unfolding step_after iterate one_more
@@ -205,8 +205,8 @@ module _ (hidden : ℕ → Bool) where
       run_answered : (n : ℕ) → run_answer n board revoked a ≡ run_answer n board revoked b
       unfolding run_answer
       run_answered n =
-          answered (refusal_of n board revoked a) (refusal_of n board revoked b) (refusal_alike hidden a b alike n board revoked) (λ k. RunAnswer.Refused k) _ _
-          (λ z. let k = runs_of n n z in ap₂ (λ x y. RunAnswer.Ran x y) k.same_retired k.same_trapped)
+          answered (refusal_of n board revoked a) (refusal_of n board revoked b) (refusal_alike hidden a b alike n board revoked) (λ k. Err (refusal_named k)) _ _
+          (λ z. let k = runs_of n n z in ap₂ (λ x y. Ok (counts x y)) k.same_retired k.same_trapped)
 
       pub watch_answered : (n : ℕ) (w : Watch) → watch_left n board revoked a w ≡ watch_left n board revoked b w
       unfolding watch_left

@@ -5,18 +5,19 @@ use mathlib.Core.Bool.{Bool, true, false, cond}
 use mathlib.Core.List.{List, [], ◌∷◌, ◌++◌, map, map-append}
 use Prim.Native.Nat.{ℕ}
 use lib.Dec.{eqb}
-use borrow.Author.Tests.{eqb-true}
+use borrow.Author.Tests.{eqb-true, eqb-false}
 use Rattle.state.specs.Lent.{State}
 use Rattle.state.specs.declared.Board.{Board}
 use Rattle.commit.specs.Commit.{retires}
 use Rattle.execution.specs.Step.{effect_at}
 use Rattle.watch.specs.declared.Watch.{Watch}
-use Rattle.machine.specs.Refusals.{refusal_of}
+use Rattle.machine.specs.Refusals.{refusal_named, refusal_of}
 use Rattle.machine.specs.Watching.{watch_left}
-use Rattle.machine.specs.Run.{step_refusal, step_answer, step_number, step_retired, step_trapped}
+use Rattle.machine.specs.Run.{counts, step_refusal, step_answer, step_number, step_retired, step_trapped}
 use Rattle.machine.specs.Run.{run_answer, run_number, run_retired, run_trapped, ran_from}
-use Rattle.machine.specs.declared.StepAnswer.TheVariants as StepAnswer
-use Rattle.machine.specs.declared.RunAnswer.TheVariants as RunAnswer
+use Rattle.machine.specs.declared.answers.Step.TheVariants.{Retired, Trapped}
+use Rattle.machine.proofs.Laws.{IsNumber, refusal_number}
+use Rattle.std.specs.Prelude.{Ok, Err}
 use Rattle.bench_api.specs.Packing.{packed, packed_step, packed_run, packed_visit}
 use Rattle.machine_laws.proofs.Refusals.{good_of}
 use Rattle.authority_laws.specs.Gain.{Reached, at_start, by_step, by_run, by_c_step, by_c_run, by_visit, by_c_visit}
@@ -53,24 +54,25 @@ number (to_visit a) = packed_visit a
 module _ (board : Board) (revoked : List ℕ) (s : State) where
   step_number_lem : packed_step board revoked s ≡ number (to_step (step_answer board revoked s))
   unfolding step_answer
-  step_number_lem = go (step_refusal board revoked s) (eqb (step_refusal board revoked s) 0) refl (retires (effect_at board revoked s))
+  step_number_lem = go (step_refusal board revoked s) (refusal_number 1 board revoked s) (eqb (step_refusal board revoked s) 0) refl (retires (effect_at board revoked s))
     where
-      go : (r : ℕ) (t : Bool) → eqb r 0 ≡ t → (u : Bool)
+      go : (r : ℕ) → IsNumber r → (t : Bool) → eqb r 0 ≡ t → (u : Bool)
           → packed r (cond t (cond u 0 1) 0) (cond t (cond u 1 0) 0)
-          ≡ number (to_step (cond t (cond u StepAnswer.Retired StepAnswer.Trapped) (StepAnswer.Refused r)))
-      go r true q true = rw (eqb-true r 0 q)
-      go r true q false = rw (eqb-true r 0 q)
-      go r false q u = refl
+          ≡ number (to_step (cond t (Ok (cond u Retired Trapped)) (Err (refusal_named r))))
+      go r n true q true = rw (eqb-true r 0 q)
+      go r n true q false = rw (eqb-true r 0 q)
+      go r n false q u = rw (n (eqb-false r 0 q))
 
   run_number_lem : (n : ℕ) → packed_run n board revoked s ≡ number (to_run (run_answer n board revoked s))
   unfolding run_answer
   run_number_lem n =
-      go (refusal_of n board revoked s) (eqb (refusal_of n board revoked s) 0) refl (ran_from n board revoked s).retired (ran_from n board revoked s).trapped
+      go (refusal_of n board revoked s) (refusal_number n board revoked s) (eqb (refusal_of n board revoked s) 0) refl (ran_from n board revoked s).retired
+      (ran_from n board revoked s).trapped
     where
-      go : (r : ℕ) (t : Bool) → eqb r 0 ≡ t → (x y : ℕ)
-          → packed r (cond t y 0) (cond t x 0) ≡ number (to_run (cond t (RunAnswer.Ran x y) (RunAnswer.Refused r)))
-      go r true q x y = rw (eqb-true r 0 q)
-      go r false q x y = refl
+      go : (r : ℕ) → IsNumber r → (t : Bool) → eqb r 0 ≡ t → (x y : ℕ)
+          → packed r (cond t y 0) (cond t x 0) ≡ number (to_run (cond t (Ok (counts x y)) (Err (refusal_named r))))
+      go r n true q x y = rw (eqb-true r 0 q)
+      go r n false q x y = rw (n (eqb-false r 0 q))
 
 -- ---- what was reached
 

@@ -1,5 +1,6 @@
 -- The worked machines run alike, by the answer of the search; with a capability that may load what is hidden they do not; a compartment that has authority over
 -- itself stays; a machine that loads past bounds is shut out. Assumes nothing.
+use Rattle.std.specs.Prelude.{Some, None, Ok}
 use mathlib.Core.Path.{◌≡◌, refl, sym, ap, ◌∙◌}
 use mathlib.Core.List.{List}
 use Prim.Native.Nat.{ℕ, ◌+◌, ◌*◌, ◌/◌, ◌^◌, ◌≤◌, ◌<◌}
@@ -41,7 +42,6 @@ use Rattle.authority_laws.proofs.Tests.{if_tagged, below, tested_start}
 use Rattle.integrity_laws.specs.Integrity.{Stays}
 use Rattle.reach.specs.Reach.{reaches_into, capability_is, first_of, first_reach, asked_refusal, reach_refusal, reach_answer, query_of}
 use Rattle.reach.specs.Outside.{passes_outside, first_outside, outside_refusal, outside_answer}
-use Rattle.reach.specs.declared.ReachAnswer.TheVariants.{Found, Nowhere}
 use Rattle.secrecy_laws.specs.Outside.{Alike}
 use Rattle.secrecy_laws.specs.Secrecy.{AlikeRuns}
 use Rattle.secrecy_laws.specs.Worked.{hidden, one, other, one_open, other_open, alone}
@@ -60,14 +60,14 @@ unfolding one set_capability set_bytes refusal_of good_memory good_tags good_zer
 one_runs = refl
 
 -- what may load there stands there alone: outside the range there is nothing, in all of the state granule 4, place 25
-pub one_clear : outside_answer 0x20000000 (query_of 0x20000020 0x20 (2 ^ LD)) 0 one ≡ Nowhere
+pub one_clear : outside_answer 0x20000000 (query_of 0x20000020 0x20 (2 ^ LD)) 0 one ≡ Ok None
 unfolding one outside_answer outside_refusal reach_refusal asked_refusal first_outside passes_outside first_of capability_is reaches_into good_memory good_bits
     good_tags good_zero good_words set_capability set_bytes le_bytes bit_at capability_at capability_in tagged sound low high rights low_at high_at low_of
     high_of
     exponent_of scale_of top_of base_of rights_of permissions_of
 one_clear = refl
 
-pub one_holds : reach_answer 0x20000000 (query_of 0x20000020 0x20 (2 ^ LD)) 0 one ≡ Found 25
+pub one_holds : reach_answer 0x20000000 (query_of 0x20000020 0x20 (2 ^ LD)) 0 one ≡ Ok (Some 25)
 unfolding one reach_answer reach_refusal asked_refusal first_reach first_of capability_is reaches_into good_memory good_bits good_tags good_zero good_words
     set_capability
     set_bytes le_bytes bit_at capability_at capability_in tagged sound low high rights low_at high_at low_of high_of exponent_of scale_of top_of base_of
@@ -131,7 +131,7 @@ unfolding alone set_capability set_bytes refusal_of good_memory good_tags good_z
 alone_runs = refl
 
 -- granule 4 alone has authority over the second half: nothing outside it has, though integrity counts it
-pub alone_unread : outside_answer 0x20000000 (query_of 0x20000020 0x20 (2 ^ LD)) 0 alone ≡ Nowhere
+pub alone_unread : outside_answer 0x20000000 (query_of 0x20000020 0x20 (2 ^ LD)) 0 alone ≡ Ok None
 unfolding alone outside_answer outside_refusal reach_refusal asked_refusal first_outside passes_outside first_of capability_is reaches_into good_memory
     good_bits
     good_tags good_zero good_words set_capability set_bytes le_bytes bit_at capability_at capability_in tagged sound low high rights low_at high_at low_of
@@ -139,7 +139,7 @@ unfolding alone outside_answer outside_refusal reach_refusal asked_refusal first
     exponent_of scale_of top_of base_of rights_of permissions_of
 alone_unread = refl
 
-pub alone_unwritten : outside_answer 0x20000000 (query_of 0x20000020 0x20 (2 ^ SD)) 0 alone ≡ Nowhere
+pub alone_unwritten : outside_answer 0x20000000 (query_of 0x20000020 0x20 (2 ^ SD)) 0 alone ≡ Ok None
 unfolding alone outside_answer outside_refusal reach_refusal asked_refusal first_outside passes_outside first_of capability_is reaches_into good_memory
     good_bits
     good_tags good_zero good_words set_capability set_bytes le_bytes bit_at capability_at capability_in tagged sound low high rights low_at high_at low_of
@@ -147,7 +147,7 @@ unfolding alone outside_answer outside_refusal reach_refusal asked_refusal first
     exponent_of scale_of top_of base_of rights_of permissions_of
 alone_unwritten = refl
 
-pub alone_counted : reach_answer 0x20000000 (query_of 0x20000020 0x20 (2 ^ SD)) 0 alone ≡ Found 25
+pub alone_counted : reach_answer 0x20000000 (query_of 0x20000020 0x20 (2 ^ SD)) 0 alone ≡ Ok (Some 25)
 unfolding alone reach_answer reach_refusal asked_refusal first_reach first_of capability_is reaches_into good_memory good_bits good_tags good_zero good_words
     set_capability
     set_bytes le_bytes bit_at capability_at capability_in tagged sound low high rights low_at high_at low_of high_of exponent_of scale_of top_of base_of
@@ -185,7 +185,7 @@ unfolding one_open other_open
 open_other = changed_alike one_open
 
 -- the search finds it, and c2 tells one from the other after one step: they do not run alike
-pub open_found : outside_answer 0x20000000 (query_of 0x20000020 0x20 (2 ^ LD)) 0 one_open ≡ Found 1
+pub open_found : outside_answer 0x20000000 (query_of 0x20000020 0x20 (2 ^ LD)) 0 one_open ≡ Ok (Some 1)
 unfolding one_open outside_answer outside_refusal reach_refusal asked_refusal first_outside passes_outside first_of capability_is reaches_into good_memory
     good_bits
     good_tags good_zero good_words set_capability set_bytes le_bytes bit_at capability_at capability_in tagged sound low high rights low_at high_at low_of

@@ -1,5 +1,5 @@
 -- Calls one after another: what they answer and what they leave. Board and revocation bits may differ from call to call. Assumes nothing.
-use Rattle.std.specs.Prelude.{List, [], ◌∷◌, ◌++◌, ◌≡◌, ℕ, ◌<◌}
+use Rattle.std.specs.Prelude.{Option, Result, List, [], ◌∷◌, ◌++◌, ◌≡◌, ℕ, ◌<◌}
 use Rattle.watch.specs.declared.Watch.{Watch}
 use Rattle.state.specs.Lent.{State, state}
 use Rattle.state.specs.Effects.{Stored, stored_by}
@@ -9,10 +9,10 @@ use Rattle.machine.specs.Refusals.{refusal_of}
 use Rattle.machine.specs.Run.{step_answer, step_after, run_answer, run_after, ran_from, step_number, step_retired, step_trapped, run_number, run_retired}
 use Rattle.machine.specs.Run.{run_trapped}
 use Rattle.machine.specs.Watching.{watch_left}
-use Rattle.machine.specs.declared.StepAnswer.{StepAnswer}
-use Rattle.machine.specs.declared.RunAnswer.{RunAnswer}
+use Rattle.machine.specs.declared.answers.Refusal.{Refusal}
+use Rattle.machine.specs.declared.answers.Step.{Step}
+use Rattle.machine.specs.declared.answers.Counts.{Counts}
 use Rattle.sweep.specs.Visits.{visit_answer, tags_after}
-use Rattle.sweep.specs.declared.SweepAnswer.{SweepAnswer}
 use Rattle.bench_api.specs.Packing.{packed, packed_visit}
 use Rattle.authority_laws.specs.Gain.{Reached, at_start, by_step, by_run, by_c_step, by_c_run, by_visit, by_c_visit}
 
@@ -25,10 +25,10 @@ pub data Call : Type 0 where
 
 -- with the record as the run leaves it
 pub data Answer : Type 0 where
-  to_step : StepAnswer → Answer
-  to_run : RunAnswer → Answer
-  to_watched : RunAnswer → Watch → Answer
-  to_visit : SweepAnswer → Answer
+  to_step : Result Step Refusal → Answer
+  to_run : Result Counts Refusal → Answer
+  to_watched : Result Counts Refusal → Watch → Answer
+  to_visit : Result (Option ℕ) Refusal → Answer
 
 unfoldable pub answer_of : Call → State → Answer
 answer_of (step board revoked) s = to_step (step_answer board revoked s)
