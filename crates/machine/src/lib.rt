@@ -177,7 +177,8 @@ pub fn step(
     }
 }
 
-// n steps. Nothing is refused.
+// n steps. Nothing is refused. Registers, board, memory, tags and bits go from call to call one by one, and in no struct: C lends each by itself, and a step
+// writes three of them and reads two.
 pub fn take_watched(
     regs: &mut [u32],
     board: Board,
