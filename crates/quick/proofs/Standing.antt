@@ -1,5 +1,5 @@
 -- One step of the loop at an entry: PCC stands there, no interrupt is due, so the plain step does what the entry's instruction does. Assumes nothing.
-use Rattle.std.proofs.Common.{◌≡◌, ℕ, ◌+◌, ◌-◌, ◌*◌, ◌^◌, ◌<◌, ◌≤◌, Bool, true, false, cond, ◌&&◌, eqb, leb, List, get_or, sym, refl, ap}
+use Rattle.std.proofs.Common.{Ok, ◌≡◌, ℕ, ◌+◌, ◌-◌, ◌*◌, ◌^◌, ◌<◌, ◌≤◌, Bool, true, false, cond, ◌&&◌, eqb, leb, List, get_or, sym, refl, ap}
 use Rattle.std.proofs.Common.{◌∙◌, ap₂, inl, inr, arith}
 use borrow.Author.Tests.{lt-leb}
 use Rattle.words.specs.Words.{le_bytes}
@@ -11,7 +11,7 @@ use Rattle.state.specs.Status.{MIE}
 use Rattle.state.specs.Timer.{time_of, compare_of, interrupted}
 use Rattle.state.specs.Lent.{State}
 use Rattle.state.specs.declared.Board.{Board}
-use Rattle.fetch.specs.declared.Fetched.{Fetched}
+use Rattle.fetch.specs.Fetch.{Met}
 use Rattle.fetch.specs.declared.Fetched.TheVariants.{Long, Half}
 use Rattle.fetch.proofs.Known.{fetched_there}
 use Rattle.commit.specs.Commit.{apply_effect}
@@ -47,7 +47,7 @@ calm_after base k limit regs after fits s (b, c) h =
 
 module _ (board : Board) (revoked : List ℕ) (s : State) (m a n : ℕ) (x : Instruction) (pcc : pcc_of s.regs ≡ pcc_at m a)
     (due : interrupted s.regs ≡ false) (d : Decoded board.start s.mem m a n x) where
-  abbrev there : Fetched
+  abbrev there : Met
   there = there_of board.start s.mem a
 
   met_there : fetched_in board s ≡ there
@@ -56,8 +56,8 @@ module _ (board : Board) (revoked : List ℕ) (s : State) (m a n : ℕ) (x : Ins
       let o = d.is_open in
       rw (due, pcc) (fetched_there (pcc_at m a) board.start s.mem o.allowed o.is_even o.is_above o.is_inside)
 
-  no_fault : (b : Bool) (l h : ℕ) (regs : List ℕ) → effect_in (cond b (Long l) (Half h)) regs (seen board revoked s)
-      ≡ effect_of (length_in (cond b (Long l) (Half h))) (instruction_in (cond b (Long l) (Half h))) (word_in (cond b (Long l) (Half h))) regs
+  no_fault : (b : Bool) (l h : ℕ) (regs : List ℕ) → effect_in (cond b (Ok (Long l)) (Ok (Half h))) regs (seen board revoked s)
+      ≡ effect_of (length_in (cond b (Ok (Long l)) (Ok (Half h)))) (instruction_in (cond b (Ok (Long l)) (Ok (Half h)))) (word_in (cond b (Ok (Long l)) (Ok (Half h)))) regs
       (seen board revoked s)
   unfolding effect_in trap_or
   no_fault true l h regs = refl
@@ -65,7 +65,7 @@ module _ (board : Board) (revoked : List ℕ) (s : State) (m a n : ℕ) (x : Ins
 
   pub effect_there : effect_at board revoked s ≡ effect_of n x (word_in there) s.regs (seen board revoked s)
   effect_there =
-      ap (λ (f : Fetched). effect_in f s.regs (seen board revoked s)) met_there
+      ap (λ (f : Met). effect_in f s.regs (seen board revoked s)) met_there
       ∙ no_fault (is_long (le_bytes half_bytes s.mem (a - board.start))) (le_bytes long_bytes s.mem (a - board.start))
       (le_bytes half_bytes s.mem (a - board.start)) s.regs
       ∙ ap₂ (λ (b : ℕ) (y : Instruction). effect_of b y (word_in there) s.regs (seen board revoked s)) d.length_is d.reads

@@ -1,7 +1,7 @@
 -- Decoded code that is kept: what an entry is, what a store leaves of the entries, and how long no step needs more than its entry. Document 02, 14. Assumes
 -- nothing.
 use Rattle.std.specs.Prelude.{◌≡◌, ℕ, ◌+◌, ◌-◌, ◌*◌, ◌/◌, ◌%◌, ◌^◌, ◌<◌, ◌≤◌, Bool, true, false, cond, ◌&&◌, ◌⊎◌, List, length, ◌≢◌, nat_lt}
-use Rattle.std.specs.Prelude.{slice_index, slice_index_or, slice_set, Option, None, Some}
+use Rattle.std.specs.Prelude.{slice_index, slice_index_or, slice_set, Option, None, Some, Ok}
 use Rattle.words.specs.Words.{wrap, le_bytes}
 use Rattle.metadata.specs.Rights.{bit}
 use Rattle.metadata.specs.Rights.{EX}
@@ -18,7 +18,7 @@ use Rattle.operations.specs.declared.Operation.TheVariants.{Plain}
 use Rattle.state.specs.Registers.{mstatus_of}
 use Rattle.state.specs.Status.{MIE}
 use Rattle.state.specs.Timer.{time_of, compare_of}
-use Rattle.fetch.specs.declared.Fetched.{Fetched}
+use Rattle.fetch.specs.Fetch.{Met}
 use Rattle.fetch.specs.declared.Fetched.TheVariants.{Long, Half}
 use Rattle.execution.specs.Step.{instruction_in, length_in}
 use Rattle.watch.specs.Watch.{touched_at}
@@ -50,9 +50,9 @@ pub record Open (start size : ℕ) (pcc : Capability) : Type 0 where
   pub allowed : access_cause pcc EX execute_cause pcc.address long_bytes ≡ no_cause
 
 -- what stands at an address, whose four bytes are in memory
-abbrev pub there_of : (start : ℕ) → (mem : List ℕ) → (a : ℕ) → Fetched
+abbrev pub there_of : (start : ℕ) → (mem : List ℕ) → (a : ℕ) → Met
 there_of start mem a =
-    cond (is_long (le_bytes half_bytes mem (a - start))) (Long (le_bytes long_bytes mem (a - start))) (Half (le_bytes half_bytes mem (a - start)))
+    cond (is_long (le_bytes half_bytes mem (a - start))) (Ok (Long (le_bytes long_bytes mem (a - start)))) (Ok (Half (le_bytes half_bytes mem (a - start))))
 
 -- What is known of an address: a fetch there through the word m passes every check, an instruction of some bytes stands there, and PCC is itself after it.
 pub record Decoded (start : ℕ) (mem : List ℕ) (m a bytes : ℕ) (x : Instruction) : Type 0 where
