@@ -9,7 +9,8 @@ ghost use Rattle.bench_api.specs.Packing.{packed, board_of, StepPacked, RunPacke
 ghost use Rattle.bench_api.specs.Watches.{WatchPacked};
 ghost use Rattle.machine.specs.Watching.{watch_of};
 
-use machine::{Counts, Refusal, Step};
+use machine::{Counts, Plain, Refusal, Step};
+use quick::Quick;
 use state::{Board, REPORT_EDITION, Window};
 
 // The places of a number, 2^48, of the trapped steps, 2^24, and of the word that says which granule was the last, 2^32, in an answer.
@@ -125,7 +126,7 @@ pub extern "C" fn oddersnow_run_watched(
         (watch_of start1 length1 count1.old start2 length2 count2.old) count1.new count2.new result }
 {
     let board = board_of(start, window_start, window_size, edition);
-    let answer = machine::run_counting(
+    let answer = machine::run_counting::<Plain>(
         regs, board, mem, tags, revoked, steps, start1, length1, count1, start2, length2, count2,
     );
     pack(answer)
@@ -155,7 +156,7 @@ pub extern "C" fn oddersnow_run_quick(
         (watch_of start1 length1 count1.old start2 length2 count2.old) count1.new count2.new result }
 {
     let board = board_of(start, window_start, window_size, edition);
-    let answer = quick::run_quick_counting(
+    let answer = machine::run_counting::<Quick>(
         regs, board, mem, tags, revoked, steps, start1, length1, count1, start2, length2, count2,
     );
     pack(answer)

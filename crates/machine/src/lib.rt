@@ -177,7 +177,8 @@ pub fn step(
     }
 }
 
-// n steps. Nothing is refused.
+// n steps. Nothing is refused. Registers, board, memory, tags and bits go from call to call one by one, and in no struct: C lends each by itself, and a step
+// writes three of them and reads two.
 pub fn take_watched(
     regs: &mut [u32],
     board: Board,
@@ -251,8 +252,40 @@ pub fn watched_run(
     }
 }
 
-// The same run with the record in place: it stores the record that the run by value gives.
-pub fn run_in_place(
+// An engine: any code that keeps the promise of such a run.
+pub trait Engine {
+    fn watched_run(
+        regs: &mut [u32],
+        board: Board,
+        mem: &mut [u8],
+        tags: &mut [u8],
+        revoked: &[u8],
+        n: u32,
+        w: Watch,
+    ) -> Watched
+        ensures { WatchPromise n board revoked.now (state regs.old mem.old tags.old)
+            (state regs.new mem.new tags.new) w result.watch result.answer };
+}
+
+// The plain engine: one step after the other.
+pub struct Plain;
+
+impl Engine for Plain {
+    fn watched_run(
+        regs: &mut [u32],
+        board: Board,
+        mem: &mut [u8],
+        tags: &mut [u8],
+        revoked: &[u8],
+        n: u32,
+        w: Watch,
+    ) -> Watched {
+        watched_run(regs, board, mem, tags, revoked, n, w)
+    }
+}
+
+// An engine's run with the record in place: it stores the record that the run by value gives.
+pub fn run_in_place<E: Engine>(
     regs: &mut [u32],
     board: Board,
     mem: &mut [u8],
@@ -264,13 +297,13 @@ pub fn run_in_place(
     ensures { WatchPromise n board revoked.now (state regs.old mem.old tags.old)
         (state regs.new mem.new tags.new) watch.old watch.new result }
 {
-    let done = watched_run(regs, board, mem, tags, revoked, n, *watch);
+    let done = E::watched_run(regs, board, mem, tags, revoked, n, *watch);
     *watch = done.watch;
     done.answer
 }
 
 // The same run for callers who have no record: ranges as numbers, and their counts, which rise in place.
-pub fn run_counting(
+pub fn run_counting<E: Engine>(
     regs: &mut [u32],
     board: Board,
     mem: &mut [u8],
@@ -300,7 +333,7 @@ pub fn run_counting(
             count: *count2,
         },
     };
-    let answer = run_in_place(regs, board, mem, tags, revoked, n, &mut w);
+    let answer = run_in_place::<E>(regs, board, mem, tags, revoked, n, &mut w);
     *count1 = w.first.count;
     *count2 = w.second.count;
     answer

@@ -2,6 +2,7 @@
 ghost use Rattle.std.specs.Prelude.{◌≡◌, not};
 ghost use Rattle.state.specs.Checks.{capability_trap, checked, fail_if, in_bounds, access_cause, system_access, bounds_cause, no_cause};
 
+// A cause is a number, and 0 none: mtval holds it, and these functions take any, so an enum would ask more of callers.
 use crate::{
     BOUNDS_CAUSE, CAPABILITY_FAULT, Effect, NO_CAUSE, SEAL_CAUSE, SYSTEM_CAUSE, TAG_CAUSE,
 };

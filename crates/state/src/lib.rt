@@ -137,7 +137,7 @@ pub const REPORT_EDITION: u32 = 0;
 
 pub const LATER_EDITION: u32 = 1;
 
-// What the revocation bits say of an address: it lies outside their window, or its granule is clear or marked.
+// What the revocation bits say of an address: it lies outside their window, or its granule is clear or marked. Names, since an Option of a bool says less.
 #[derive(Clone, Copy)]
 pub enum Revocation {
     Outside,
@@ -145,7 +145,7 @@ pub enum Revocation {
     Marked,
 }
 
-// Where an access of some bytes lies in memory.
+// Where an access of some bytes lies in memory. No Result: each of the three has its own trap or effect at every use, so one match stays plainest.
 #[derive(Clone, Copy)]
 pub enum Place {
     At(u32),

@@ -13,6 +13,8 @@ const MPIE_WEIGHT: u32 = 128;
 
 const ABOVE_MPIE: u32 = 256;
 
+// One function for each of the two bits: by a bit's number they would shift, where these divide by a constant.
+
 // mstatus with another MIE.
 pub fn with_mie(mstatus: u32, v: u32) -> u32
     ensures { result ≡ with_bit mstatus MIE v }

@@ -36,6 +36,7 @@ fn refusal(
 }
 
 // Whether the revocation test takes the tag of what a granule holds. Most granules are not tagged: that is asked first.
+#[tactic(auto, using(crate::proofs::Laws::untagged_stays))]
 fn is_swept(board: Board, mem: &[u8], tags: &[u8], revoked: &[u8], granule: u32) -> bool
     requires { granule < 2 ^ 17 }
     ensures { result ≡ revoked_value board revoked.now (stored_in mem.now tags.now granule) }
@@ -48,6 +49,7 @@ fn is_swept(board: Board, mem: &[u8], tags: &[u8], revoked: &[u8], granule: u32)
 }
 
 // One granule swept. Nothing is refused.
+#[tactic(auto, unfolding(crate::specs::Visits::swept_tags))]
 fn sweep_granule(board: Board, mem: &[u8], tags: &mut [u8], revoked: &[u8], granule: u32)
     requires { granule < 2 ^ 17 }
     ensures { tags.new ≡ swept_tags board revoked.now mem.now tags.old granule }
@@ -58,6 +60,7 @@ fn sweep_granule(board: Board, mem: &[u8], tags: &mut [u8], revoked: &[u8], gran
 }
 
 // The granule to visit after one of a memory of size bytes; none after the last.
+#[tactic(auto, unfolding(crate::specs::Visits::next_after))]
 fn next_after(size: usize, granule: u32) -> Option<u32>
     requires { granule < 2 ^ 17 }
     ensures { result ≡ next_after size granule }

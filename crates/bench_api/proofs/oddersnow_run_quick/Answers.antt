@@ -3,11 +3,11 @@ use Rattle.machine.proofs.Laws as laws
 use Rattle.bench_api.proofs.oddersnow_run_quick.Goals as goal
 
 pub pack-requires : goal.pack-requires
-pack-requires c = let small = laws.run_small _ _ _ _ _ _ c.run_quick_counting-answer.ensures.run_is in (small.1, small.2)
+pack-requires c = let small = laws.run_small _ _ _ _ _ _ c.run_counting-answer.ensures.run_is in (small.1, small.2)
 
 pub returns : goal.returns
 returns c =
-    let counted = rw c.board_of-board.ensures at c.run_quick_counting-answer.ensures in
+    let counted = rw c.board_of-board.ensures at c.run_counting-answer.ensures in
     let p = counted.run_is in
     record {
       run_is = record {
