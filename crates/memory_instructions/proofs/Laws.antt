@@ -1,5 +1,5 @@
 -- A store of this family touches one granule of memory, and no tag other than 0 or 1 is loaded or stored. Assumes nothing.
-use Rattle.std.proofs.Common.{◌≡◌, ℕ, ◌+◌, ◌%◌, ◌≤◌, Bool, true, false, not, ◌&&◌, leb, List, length, sym, refl, true≢false, arith, eqb-true, leb-true}
+use Rattle.std.proofs.Common.{◌≡◌, ℕ, ◌+◌, ◌%◌, ◌≤◌, Bool, true, false, not, ◌&&◌, leb, List, length, refl, arith, eqb-true, leb-true}
 use borrow.Author.Tests.{not-false}
 use Rattle.std.proofs.lemmas.Bool.{and_parts}
 use Rattle.metadata.specs.Rights.{SD, MC, SL, GL, Has, bit}

@@ -1,5 +1,5 @@
 -- What the first place is, by cases and no other; the refusals' numbers; and the promise of a search, by how it ends. Assumes nothing.
-use mathlib.Core.Path.{◌≡◌, refl, sym, ap, ◌∙◌}
+use mathlib.Core.Path.{◌≡◌, refl, sym, ◌∙◌}
 use mathlib.Core.Bool.{Bool, true, false, cond, not, ◌&&◌, ◌||◌, true≢false}
 use mathlib.Core.List.{[]}
 use Rattle.std.specs.Prelude.{Option, Some, None, Result, Ok, Err}
@@ -16,13 +16,12 @@ use Rattle.capability.specs.declared.Capability.{Capability}
 use Rattle.state.specs.Layout.{register_words, capability_count}
 use Rattle.state.specs.Lent.{State}
 use Rattle.state.specs.Checks.{fail_if}
-use Rattle.state.proofs.Laws.{cond_holds}
 use Rattle.machine.specs.Refusals.{most_memory, good_memory, good_window, good_bits, good_words, good_edition, good_bounds, sound, refusal_of}
-use Rattle.machine.specs.Refusals.{number_of, number_in, refusal_named}
+use Rattle.machine.specs.Refusals.{number_of, refusal_named}
 use Rattle.machine.specs.declared.answers.Refusal.{Refusal}
 use Rattle.machine.proofs.Laws.{refusal_named_number, number_positive, good_size}
 use Rattle.reach.specs.Reach.{end, grants_all, reaches_into, places_in, first_of, passes_in, first_reach, board_at, asked_refusal, reach_refusal, reach_answer}
-use Rattle.reach.specs.Reach.{NoneBetween, FirstPlace, none_passes, first_passes, reach_number, found_place, reach_place, packed_reach, ReachPromise}
+use Rattle.reach.specs.Reach.{NoneBetween, FirstPlace, none_passes, first_passes, reach_number, found_place, packed_reach, ReachPromise}
 use Rattle.reach.specs.declared.Query.{Query}
 
 -- ---- the first place

@@ -1,9 +1,9 @@
 -- The search outside a range of granules: a first find that is none of them is the answer, else what is found behind them. The refusals, and the promise.
 -- Assumes nothing.
-use mathlib.Core.Path.{◌≡◌, refl, sym, ap, ◌∙◌}
+use mathlib.Core.Path.{◌≡◌, refl, sym, ◌∙◌}
 use mathlib.Core.Bool.{Bool, true, false, cond, not, ◌&&◌, true≢false}
 use mathlib.Core.List.{[]}
-use Rattle.std.specs.Prelude.{Option, Some, None, Result, Ok, Err}
+use Rattle.std.specs.Prelude.{Option, None, Result, Ok, Err}
 use Prim.Native.Nat.{ℕ, ◌+◌, ◌-◌, ◌*◌, ◌%◌, ◌^◌, ◌≤◌, ◌<◌}
 use native.Mathlib.Omega.{arith}
 use lib.Dec.{eqb, leb, ltb}
@@ -19,7 +19,7 @@ use Rattle.state.specs.Checks.{fail_if}
 use Rattle.machine.specs.declared.answers.Refusal.{Refusal}
 use Rattle.machine.proofs.Laws.{refusal_named_number, number_positive}
 use Rattle.machine.specs.Refusals.{number_of, refusal_named, block_bytes, most_memory, good_memory, good_bits, good_words}
-use Rattle.reach.specs.Reach.{end, places_in, first_of, passes_in, first_reach, board_at, asked_refusal, reach_refusal}
+use Rattle.reach.specs.Reach.{end, places_in, passes_in, first_reach, board_at, asked_refusal, reach_refusal}
 use Rattle.reach.specs.Reach.{NoneBetween, FirstPlace, none_passes, first_passes, reach_number, packed_reach}
 use Rattle.reach.specs.Outside.{is_hidden, passes_outside, first_outside, at_edges, outside_refusal, outside_answer, OutsidePromise}
 use Rattle.reach.specs.Outside.{place_behind, found_hidden}

@@ -1,5 +1,5 @@
 -- The first register that counts; where none does, the search goes on in memory.
-use Rattle.std.proofs.Common.{sym, ◌∙◌, rules, arith}
+use Rattle.std.proofs.Common.{◌∙◌, rules, arith}
 use Rattle.std.proofs.lemmas.Iterator.{first_from_Range}
 use Rattle.state.specs.Lent.{state}
 use Rattle.reach.proofs.Search as laws
