@@ -6,7 +6,7 @@ use crate::Row;
 use crate::places::place;
 use crate::table::{ROWS, TABLE};
 
-// 0 where there is no such row.
+// 0 where there is no such row: rules of what is listed speak of `encode_of`, a word of any row.
 pub fn encode(row: usize, a: u32, b: u32, c: u32) -> u32
     ensures { result ≡ encode_of row a b c }
 {

@@ -311,6 +311,7 @@ pub enum Instruction {
     Memory(MemoryInstruction),
     Capability(CapabilityInstruction),
     System(SystemInstruction),
+    // A case, and no Option of the five: every match over it would be a match in a match.
     Illegal,
 }
 

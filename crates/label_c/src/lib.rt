@@ -1,4 +1,5 @@
-// The cutter and the bounds lookup for C: what crate label promises, under the names of `include/oddersnow.h`: a static library exports its own functions alone.
+// The cutter and the bounds lookup for C: what crate label promises, under the names of `include/oddersnow.h`. A static library exports its own
+// functions alone.
 #![tactic(auto)]
 
 ghost use Rattle.std.specs.Prelude.{◌≡◌};

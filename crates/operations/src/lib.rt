@@ -13,6 +13,7 @@ use instructions::{
 // at, from and other are places of a register's first word; rd and rs1 are registers.
 #[derive(Clone, Copy)]
 pub enum Operation {
+    // Left to the plain step: a case, and no Option of the others, as with an instruction.
     Plain,
     Put {
         at: u32,

@@ -153,7 +153,8 @@ load_may kind rd rs1 address start o c mem =
     (placed (λ (e : Effect). MayStore (stored_by e) o) (λ (p : Place). load_at p kind rd address mem) tt tt (λ i. tt)
     (place_of start (length mem) address (load_width kind)))
 
-load_capability_may : (rd rs1 address : ℕ) (o : Option says.Store) (c : Capability) (l : Lent) → MayStore (stored_by (load_capability_effect rd rs1 address c l)) o
+load_capability_may : (rd rs1 address : ℕ) (o : Option says.Store) (c : Capability) (l : Lent)
+    → MayStore (stored_by (load_capability_effect rd rs1 address c l)) o
 unfolding load_capability_effect load_capability_at
 load_capability_may rd rs1 address o c l =
     checked_holds (λ (e : Effect). MayStore (stored_by e) o) rs1 _ _ (λ n v. tt)
@@ -165,7 +166,8 @@ store_may : (kind : StoreKind) (rs1 address value start size at : ℕ) (c : Capa
 unfolding store_effect store_at
 store_may kind rs1 address value start size at c h =
     checked_holds (λ (e : Effect). MayStore (stored_by e) (Some (store at (store_width kind)))) rs1 _ _ (λ n v. tt)
-    (place_may (λ (e : Effect). MayStore (stored_by e) (Some (store at (store_width kind)))) (λ (p : Place). store_at p kind address value) start size address _ tt tt
+    (place_may (λ (e : Effect). MayStore (stored_by e) (Some (store at (store_width kind)))) (λ (p : Place). store_at p kind address value) start
+    size address _ tt tt
     (λ l. ap (λ (x : ℕ). Some (store x (store_width kind))) (h l)))
 
 store_capability_may : (rs1 address start size at : ℕ) (c v : Capability) → (start ≤ address → at ≡ address - start)
@@ -173,7 +175,8 @@ store_capability_may : (rs1 address start size at : ℕ) (c v : Capability) → 
 unfolding store_capability_effect store_capability_at
 store_capability_may rs1 address start size at c v h =
     checked_holds (λ (e : Effect). MayStore (stored_by e) (Some (store at granule_bytes))) rs1 _ _ (λ n x. tt)
-    (place_may (λ (e : Effect). MayStore (stored_by e) (Some (store at granule_bytes))) (λ (p : Place). store_capability_at p address v) start size address _ tt tt
+    (place_may (λ (e : Effect). MayStore (stored_by e) (Some (store at granule_bytes))) (λ (p : Place). store_capability_at p address v) start size
+    address _ tt tt
     (λ l. ap (λ (x : ℕ). Some (store x granule_bytes)) (h l)))
 
 -- ---- registers by their places

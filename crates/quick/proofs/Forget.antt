@@ -228,7 +228,8 @@ module _ (start : ℕ) (mem : List ℕ) (low high : ℕ) (keys : List ℕ) (code
   entries_after x (Some s) aligned w m es j l h =
       let k = left_of low high start s keys j l h in
       rw k.0
-      (entry_after start mem low high j (get_or keys j 0) (get_or code j absent).bytes (get_or code j absent).op s.at s.width aligned (es j l (λ z. h (k.0 ∙ z))) k.1 x w m)
+      (entry_after start mem low high j (get_or keys j 0) (get_or code j absent).bytes (get_or code j absent).op s.at s.width aligned (es j l (λ z. h
+      (k.0 ∙ z))) k.1 x w m)
 
   -- after a plain step none is left, unless it trapped: then memory is as it was
   pub entries_cleared : (alone : Bool) (after keys' : List ℕ) → ClearedUnless alone keys keys' → (alone ≡ true → after ≡ mem)

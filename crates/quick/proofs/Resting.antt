@@ -1,5 +1,6 @@
 -- Plain steps at once, of which nothing is known: what the loop keeps stays, with no entry left. Assumes nothing.
-use Rattle.std.proofs.Common.{◌≡◌, ℕ, zero, suc, ◌+◌, ◌-◌, ◌%◌, ◌^◌, ◌<◌, ◌≤◌, cond, List, length, get_or, sym, refl, ap, ◌∙◌, inl, inr, arith, Bool, true, false}
+use Rattle.std.proofs.Common.{◌≡◌, ℕ, zero, suc, ◌+◌, ◌-◌, ◌%◌, ◌^◌, ◌<◌, ◌≤◌, cond, List}
+use Rattle.std.proofs.Common.{length, get_or, sym, refl, ap, ◌∙◌, inl, inr, arith, Bool, true, false}
 use Rattle.watch.specs.declared.Watch.{Watch}
 use Rattle.quick.specs.declared.Found.{Found}
 use Rattle.state.specs.Memory.{granule_bytes}

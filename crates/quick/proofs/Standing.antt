@@ -57,7 +57,8 @@ module _ (board : Board) (revoked : List ℕ) (s : State) (m a n : ℕ) (x : Ins
       rw (due, pcc) (fetched_there (pcc_at m a) board.start s.mem o.allowed o.is_even o.is_above o.is_inside)
 
   no_fault : (b : Bool) (l h : ℕ) (regs : List ℕ) → effect_in (cond b (Ok (Long l)) (Ok (Half h))) regs (seen board revoked s)
-      ≡ effect_of (length_in (cond b (Ok (Long l)) (Ok (Half h)))) (instruction_in (cond b (Ok (Long l)) (Ok (Half h)))) (word_in (cond b (Ok (Long l)) (Ok (Half h)))) regs
+      ≡ effect_of (length_in (cond b (Ok (Long l)) (Ok (Half h)))) (instruction_in (cond b (Ok (Long l)) (Ok (Half h)))) (word_in (cond b (Ok (Long
+      l)) (Ok (Half h)))) regs
       (seen board revoked s)
   unfolding effect_in trap_or
   no_fault true l h regs = refl

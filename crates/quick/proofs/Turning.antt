@@ -75,7 +75,8 @@ noted_is nothing size start o w h e = rw e refl
 noted_is (bytes n i v) size start o w h e = rw e refl
 noted_is (whole i v) size start o w h e = rw e refl
 
-pub done_counts : (start : ℕ) (o : Option Store) (trapped size : ℕ) (w : Watch) (e : Effect) → retires e ≡ true → Within size (stored_by e) → StoredAt (stored_by e) o
+pub done_counts : (start : ℕ) (o : Option Store) (trapped size : ℕ) (w : Watch) (e : Effect) → retires e ≡ true → Within size (stored_by e)
+    → StoredAt (stored_by e) o
     → kept trapped (noted_at w start o) ≡ kept_after start e (kept trapped w)
 unfolding kept_after
 done_counts start o trapped size w e r h a = rw (r, noted_is (stored_by e) size start o w h a) refl
@@ -190,12 +191,14 @@ module _ (board : Board) (revoked : List ℕ) (n : ℕ) (s₀ : State) (w₀ : W
           → Running board revoked n s₀ w₀ after code keys' rows' low high base limit watch' trapped (k + 1)
       way_done h far watch' w keys' f =
           let d =
-          turn_done board revoked s after low high i (get_or keys i 0) (get_or code i absent).bytes (get_or code i absent).op t here r.whole_file pcc_here due_here turned h in
+          turn_done board revoked s after low high i (get_or keys i 0) (get_or code i absent).bytes (get_or code i absent).op t here r.whole_file
+          pcc_here due_here turned h in
           rw f (running_on board revoked n s₀ w₀ s after code keys rows low high base limit watch trapped k r more fits d.0 trapped watch'
           (forgotten low high board.start (said t) keys) rows' base limit
           (ap (λ (x : Watch). kept trapped x) w ∙ done_counts board.start (said t) trapped (length s.mem) watch does d.1 within d.2)
           (kept_entries after (said t) d.0
-          (turn_may board revoked s after low high i (get_or keys i 0) (get_or code i absent).bytes (get_or code i absent).op t here r.whole_file pcc_here due_here turned h))
+          (turn_may board revoked s after low high i (get_or keys i 0) (get_or code i absent).bytes (get_or code i absent).op t here r.whole_file
+          pcc_here due_here turned h))
           good (calm_after base k limit s.regs after.regs far d.3 r.calm_holds ready.0))
 
       -- a turn that is done and stored nothing: the entries and the record stay
@@ -209,7 +212,8 @@ module _ (board : Board) (revoked : List ℕ) (n : ℕ) (s₀ : State) (w₀ : W
           → Running board revoked n s₀ w₀ last code keys' rows' low high base' limit' watch' (trapped + b) (k + 1)
       way_left h last a b watch' base' limit' g w c keys' f =
           let d =
-          turn_left board revoked s after low high i (get_or keys i 0) (get_or code i absent).bytes (get_or code i absent).op t here r.whole_file pcc_here due_here turned h in
+          turn_left board revoked s after low high i (get_or keys i 0) (get_or code i absent).bytes (get_or code i absent).op t here r.whole_file
+          pcc_here due_here turned h in
           let p = plain_step board revoked s last a b (g ∙ ap (λ (x : State). iterate 1 board revoked (ran x 0 0)) d.0) in
           rw f (running_on board revoked n s₀ w₀ s last code keys rows low high base limit watch trapped k r more fits p.0 (trapped + b) watch'
           (forgotten low high board.start (said t) keys) rows' base' limit'
@@ -218,7 +222,8 @@ module _ (board : Board) (revoked : List ℕ) (n : ℕ) (s₀ : State) (w₀ : W
           (kept_entries last (said t) p.0 d.1) good c)
 
   -- with no entry: a plain step of which nothing is known
-  pub way_plain : (last : State) (a b : ℕ) (watch' : Watch) (alone : Bool) (keys' : List ℕ) (base' limit' : ℕ) → ran last a b ≡ iterate 1 board revoked (ran s 0 0)
+  pub way_plain : (last : State) (a b : ℕ) (watch' : Watch) (alone : Bool) (keys' : List ℕ) (base' limit' : ℕ)
+      → ran last a b ≡ iterate 1 board revoked (ran s 0 0)
       → watch' ≡ watched_by 1 board revoked s watch → (alone ≡ true → b ≡ 0 → ⊥) → ClearedUnless alone keys keys' → Calm base' (k + 1) limit' last.regs
       → Running board revoked n s₀ w₀ last code keys' rows low high base' limit' watch' (trapped + b) (k + 1)
   way_plain last a b watch' alone keys' base' limit' g w told-alone cleared c =

@@ -89,7 +89,8 @@ fn is_byte_clear(tags: &[u8], granule: u32) -> bool
     granule % TAGS_OF_BYTE == 0 && words::load8(tags, (granule / TAGS_OF_BYTE) as usize) == 0
 }
 
-// How many granules from one on are passed over, none of which counts: all of a byte of tags that is clear, else this one. 0 where it counts.
+// How many granules from one on are passed over, none of which counts: all of a byte of tags that is clear, else this one. 0 where it counts:
+// the loop adds what it answers, so a number serves it as it is.
 #[tactic(auto, unfolding(crate::specs::Search::clear_from))]
 fn clear_from(mem: &[u8], tags: &[u8], q: Query, granule: u32) -> u32
     requires { granule < 2 ^ 17 }

@@ -205,7 +205,8 @@ module _ (hidden : ℕ → Bool) where
       run_answered : (n : ℕ) → run_answer n board revoked a ≡ run_answer n board revoked b
       unfolding run_answer
       run_answered n =
-          answered (refusal_of n board revoked a) (refusal_of n board revoked b) (refusal_alike hidden a b alike n board revoked) (λ k. Err (refusal_named k)) _ _
+          answered (refusal_of n board revoked a) (refusal_of n board revoked b) (refusal_alike hidden a b alike n board revoked) (λ k. Err
+          (refusal_named k)) _ _
           (λ z. let k = runs_of n n z in ap₂ (λ x y. Ok (counts x y)) k.same_retired k.same_trapped)
 
       pub watch_answered : (n : ℕ) (w : Watch) → watch_left n board revoked a w ≡ watch_left n board revoked b w

@@ -54,7 +54,8 @@ number (to_visit a) = packed_visit a
 module _ (board : Board) (revoked : List ℕ) (s : State) where
   step_number_lem : packed_step board revoked s ≡ number (to_step (step_answer board revoked s))
   unfolding step_answer
-  step_number_lem = go (step_refusal board revoked s) (refusal_number 1 board revoked s) (eqb (step_refusal board revoked s) 0) refl (retires (effect_at board revoked s))
+  step_number_lem = go (step_refusal board revoked s) (refusal_number 1 board revoked s) (eqb (step_refusal board revoked s) 0) refl (retires
+      (effect_at board revoked s))
     where
       go : (r : ℕ) → IsNumber r → (t : Bool) → eqb r 0 ≡ t → (u : Bool)
           → packed r (cond t (cond u 0 1) 0) (cond t (cond u 1 0) 0)
