@@ -158,48 +158,44 @@ fn advance(s: Scan, b: u8) -> Scan
     }
 }
 
-// The first line from an index on.
-pub(crate) fn first_line(text: &[u8], from: usize) -> Line
-    requires { from ≤ length text.now }
-    ensures { Lined text.now from result.scan result.end }
+// The first line of a text.
+pub(crate) fn first_line(text: &[u8]) -> Line
+    ensures { Lined text.now 0 result.scan result.length }
 {
     let mut scan = begin(Field::Word);
-    for (i, b) in text[from..].iter().enumerate() {
+    for (i, b) in text.iter().enumerate() {
         if *b == b'\n' {
-            return Line {
-                scan,
-                end: from + i,
-            };
+            return Line { scan, length: i };
         }
         scan = advance(scan, *b);
     }
     Line {
         scan,
-        end: text.len(),
+        length: text.len(),
     }
 }
 
-// A name's letters from an index on, with zeros after them.
-fn name_in(text: &[u8], at: usize, n: usize) -> [u8; 16]
-    requires { (at + n ≤ length text.now) × (n ≤ 16) }
-    ensures { result ≡ padded (take n (drop at text.now)) }
+// Some letters, with zeros after them.
+fn name_of(letters: &[u8]) -> [u8; 16]
+    requires { length letters.now ≤ 16 }
+    ensures { result ≡ padded letters.now }
 {
     let mut name = [0; 16];
-    name[..n].copy_from_slice(&text[at..at + n]);
+    name[..letters.len()].copy_from_slice(letters);
     name
 }
 
-// The region of the line from an index on that left the state s, where the line may end there.
+// The region of a text's first line that left the state s, where the line may end there.
 #[tactic(auto, unfolding(crate::specs::Scanning::whole, crate::specs::Scanning::region_told, crate::specs::Scanning::region_in))]
-pub(crate) fn region_in(text: &[u8], from: usize, s: Scan) -> Option<Region>
-    requires { whole s ≡ true → (from + 7 + s.letters ≤ length text.now) × (s.letters ≤ 16) }
-    ensures { result ≡ region_told (drop from text.now) s }
+pub(crate) fn region_in(text: &[u8], s: Scan) -> Option<Region>
+    requires { whole s ≡ true → (7 + s.letters ≤ length text.now) × (s.letters ≤ 16) }
+    ensures { result ≡ region_told text.now s }
 {
     if s.field != Field::Rights || s.rights == 0 {
         return None;
     }
     Some(Region {
-        name: name_in(text, from + NAME_PLACE, s.letters),
+        name: name_of(&text[NAME_PLACE..NAME_PLACE + s.letters]),
         start: s.start,
         size: s.size,
         rights: s.rights,
