@@ -18,19 +18,6 @@ swap true b c = refl
 swap false true c = refl
 swap false false c = refl
 
--- what the test of a byte tells
-pub expected_place : (p b : ℕ) → expected p b ≡ true → p < 17
-unfolding expected
-expected_place p b h = go (eqb p 8) refl h
-  where
-    go : (t : Bool) → eqb p 8 ≡ t → cond t (eqb b tab) (is_digit b && ltb p 17) ≡ true → p < 17
-    go true e k = let q = eqb-true p 8 e in omega arith
-    go false e k = ltb-true p 17 ((and-eq-true_iff (is_digit b) (ltb p 17)).0 k).1
-
-pub expected_digit : (p b : ℕ) → eqb p 8 ≡ false → expected p b ≡ true → digit_of b < 16
-unfolding expected
-expected_digit p b e h = digit_lt b ((and-eq-true_iff (is_digit b) (ltb p 17)).0 (rw e at h)).0
-
 -- what was read after the bytes of a line; the number stays
 read_fields : Option Fields → List ℕ → Option Fields
 read_fields o [] = o

@@ -1,48 +1,32 @@
 // The state after one more byte of the input.
-ghost use Rattle.std.specs.Prelude.{◌≡◌, true};
-ghost use Rattle.cut_lines.specs.Scanning.{advanced, expected, has_begun, longer, read_line, stepped, value_with};
+ghost use Rattle.std.specs.Prelude.{◌≡◌};
+ghost use Rattle.cut_lines.specs.Scanning.{advanced, has_begun, longer, read_line, stepped};
 
 use crate::{Fields, LINE, Scan, TAB_PLACE};
-use text::{HEX, digit_of};
+use text::digit_of;
 
 impl Fields {
-    // Whether a line may have the byte here.
-    #[tactic(auto, unfolding(crate::specs::Scanning::expected))]
-    fn expects(self, b: u8) -> bool
-        ensures { result ≡ expected self.place b }
-    {
-        if self.place == TAB_PLACE {
-            b == b'\t'
-        } else {
-            digit_of(b) < HEX && self.place < LINE
-        }
-    }
-
-    // The digits so far and a byte more.
-    #[tactic(auto, using(crate::proofs::Reading::expected_digit), unfolding(crate::specs::Scanning::value_with))]
-    fn value_with(self, b: u8) -> u64
-        requires { expected self.place b ≡ true }
-        ensures { result ≡ value_with self.place self.value b }
-    {
-        if self.place == TAB_PLACE {
-            self.value
-        } else {
-            (self.value << 4) + digit_of(b)
-        }
-    }
-
-    // A byte more, if a line may have it here.
-    #[tactic(auto, using(crate::proofs::Reading::expected_place), unfolding(crate::specs::Scanning::longer))]
+    // A byte more, if a line may have it here: a tab at its place, a digit at any other.
+    #[tactic(auto, unfolding(crate::specs::Scanning::longer, crate::specs::Scanning::expected, crate::specs::Scanning::value_with))]
     fn with(self, b: u8) -> Option<Fields>
         ensures { result ≡ longer self b }
     {
-        if self.expects(b) {
-            Some(Fields {
+        if self.place == TAB_PLACE {
+            return if b == b'\t' {
+                Some(Fields {
+                    place: self.place + 1,
+                    ..self
+                })
+            } else {
+                None
+            };
+        }
+        match digit_of(b) {
+            Some(d) if self.place < LINE => Some(Fields {
                 place: self.place + 1,
-                value: self.value_with(b),
-            })
-        } else {
-            None
+                value: (self.value << 4) + d,
+            }),
+            _ => None,
         }
     }
 }

@@ -15,7 +15,8 @@ use lib.Seq.{take-suc, take-append_seam, append_snoc, drop_at}
 use Rattle.text.specs.Digits.{digit_of, glyph, digits}
 use Rattle.text.specs.Writing.{tab}
 use Rattle.sheets.specs.Sheet.{word, is_letter, letters_of, name_of, all_zero, rights_text, line_text, formed}
-use Rattle.sheets.specs.Scanning.{scan, start_scan, spoiled, in_word, in_name, in_number, in_start, in_size, in_rights, right_of, with_digit, advanced, line_read, whole}
+use Rattle.sheets.specs.Scanning.{scan, start_scan, spoiled, in_word, in_name, in_number, in_start, in_size, in_rights, right_of, with_digit, advanced}
+use Rattle.sheets.specs.Scanning.{line_read, whole}
 use Rattle.sheets.specs.Scanning.{padded, name_place, region_in, scan_of, region_of}
 use Rattle.sheets.specs.declared.Field.TheVariants.{Word, Name, Start, Size, Rights}
 use Rattle.sheets.specs.declared.Scan.{Scan}

@@ -100,24 +100,27 @@ close end (Err e) = Err e
 
 -- ---- the loop: after the regions so far the answer is that for what is left
 
-pub record Going (image : Bool) (text : List ℕ) (before : List Region) (i : ℕ) : Type 0 where
-  pub within : i ≤ length text
+pub record Going (image : Bool) (text : List ℕ) (before : List Region) (rest : List ℕ) : Type 0 where
+  pub within : length rest ≤ length text
+  pub tail : rest ≡ drop (length text - length rest) text
   pub few : length before ≤ 64
-  pub rest : read_from image before [] (drop i text) ≡ read_of image text
+  pub reads : read_from image before [] rest ≡ read_of image text
 
-pub going_start : (image : Bool) (text : List ℕ) → Going image text [] 0
+pub going_start : (image : Bool) (text : List ℕ) → Going image text [] text
 unfolding read_of
-going_start image text = record { within = omega arith; few = omega arith; rest = refl }
+going_start image text =
+    let z : length text - length text ≡ 0 = omega arith in
+    record { within = omega arith; tail = rw z; few = omega arith; reads = refl }
 
--- an empty line ends where it begins
-empty_there : (l : List ℕ) (i end : ℕ) → end ≡ i + length l → eqb i end ≡ is_empty l
+-- an empty line has no length
+empty_there : (l : List ℕ) (n : ℕ) → n ≡ length l → eqb n 0 ≡ is_empty l
 unfolding is_empty
-empty_there [] i end e = eq-eqb i end (omega arith)
-empty_there (b ∷ l) i end e = ne_eqb i end (λ k. omega arith)
+empty_there [] n e = eq-eqb n 0 e
+empty_there (b ∷ l) n e = ne_eqb n 0 (λ k. omega arith)
 
 -- no image's sheet ends here
-pub stays : {image : Bool} {i end : ℕ} → ((image ≡ true) × (i ≡ end → ⊥)) ⊎ (image ≡ false) → (image && eqb i end) ≡ false
-stays {image} {i} {end} (inl h) = rw (h.0, ne_eqb i end h.1)
+pub stays : {image : Bool} {n : ℕ} → ((image ≡ true) × (n ≡ 0 → ⊥)) ⊎ (image ≡ false) → (image && eqb n 0) ≡ false
+stays {image} {n} (inl h) = rw (h.0, ne_eqb n 0 h.1)
 stays (inr h) = rw h
 
 begun : (l : List ℕ) → 0 < length l → is_empty l ≡ false
@@ -130,18 +133,19 @@ pub room : (before : List Region) (r : Region) → admitted before r ≡ true �
 unfolding admitted
 room before r a = ltb-true (length before) 64 ((and-eq-true_iff (ltb (length before) 64) _).0 a).0
 
+none_left : (l : List ℕ) → length l ≡ 0 → l ≡ []
+none_left [] z = refl
+none_left (b ∷ l) z = absurd (omega arith)
+
 some_none : {r : Region} → Some r ≡ None → ⊥
 some_none e = let z : ◌≡◌ {A = ℕ} 0 1 = cc in omega arith
 
 some_same : {r t : Region} → Some r ≡ Some t → r ≡ t
 some_same e = cc
 
-module _ {image : Bool} {text : List ℕ} {before : List Region} {i : ℕ} (g : Going image text before i) where
-  left_length : length (drop i text) ≡ length text - i
-  left_length = length-drop i text
-
+module _ {image : Bool} {text : List ℕ} {before : List Region} {rest : List ℕ} (g : Going image text before rest) where
   abbrev line : List ℕ
-  line = first_line (drop i text)
+  line = first_line rest
 
   bad_here : read_of image text ≡ bad (length before + 1) → Reads image text (Err (bad_at (length before + 1)))
   unfolding reading_of answer_of
@@ -154,96 +158,101 @@ module _ {image : Bool} {text : List ℕ} {before : List Region} {i : ℕ} (g : 
       place : length text - length (drop end text) ≡ end
       place = omega (arith, length-drop end text)
 
+      ended_there : Ok (record { sheet = before; end = end }) ≡ reading_of text (sheet before (drop end text))
+      ended_there = sym (ap (λ (n : ℕ). Ok (record { sheet = before; end = n })) place)
+
       go : (t : Bool) → cond t (bad 1) (sheet before (drop end text)) ≡ read_of image text
           → Reads image text (close end (cond t (Err (bad_at 1)) (Ok before)))
       go true k = record { reading_is = ap (reading_of text) k; answer_is = k; fits = tt }
-      go false k = record { reading_is = sym (ap (λ (n : ℕ). Ok (record { sheet = before; end = n })) place) ∙ ap (reading_of text) k; answer_is = k; fits = (g.few, h) }
-
-  pub line_short : {s : Scan} {end : ℕ} → Lined text i s end → end ≤ length text
-  line_short l = omega (arith, l.end_is, line_le (drop i text), left_length, g.within)
+      go false k = record { reading_is = ended_there ∙ ap (reading_of text) k; answer_is = k; fits = (g.few, h) }
 
   -- the text's end within a line, and at a line's start
-  pub refused_last : {s : Scan} {end : ℕ} → Lined text i s end → i < length text → end ≡ length text
-      → Reads image text (Err (bad_at (length before + 1)))
+  pub refused_last : {s : Scan} {n : ℕ} → Lined rest 0 s n → 0 < length rest → n ≡ length rest → Reads image text (Err (bad_at (length before + 1)))
   unfolding at_end
-  refused_last {s} {end} l h e =
-      let same : length (first_line (drop i text)) ≡ length (drop i text) = omega (arith, l.end_is, left_length, g.within) in
-      let last = read_last image before [] (drop i text) same in
-      let old = begun (drop i text) (omega (arith, left_length)) in
-      bad_here (sym g.rest ∙ last ∙ rw (old, and-false))
+  refused_last l h e =
+      let same : length line ≡ length rest = omega (arith, l.end_is) in
+      bad_here (sym g.reads ∙ read_last image before [] rest same ∙ rw (begun rest h, and-false))
 
-  pub closed_end : length text ≤ i → image ≡ false → Reads image text (close i (ended_as before))
+  pub closed_end : length rest ≡ 0 → image ≡ false → Reads image text (close (length text) (ended_as before))
   unfolding at_end read_from is_empty
-  closed_end h f =
-      let none : drop i text ≡ [] = drop_of_length-le text h in
-      closed_here i g.within (ap (ended before) none ∙ (rw (none, f) at g.rest) ∙ rw f)
+  closed_end z f =
+      let none : rest ≡ [] = none_left rest z in
+      let gone : drop (length text) text ≡ [] = drop_of_length-le text (omega arith) in
+      closed_here (length text) (omega arith) (ap (ended before) gone ∙ (rw (none, f) at g.reads) ∙ rw f)
 
-  pub refused_end : length text ≤ i → image ≡ true → Reads image text (Err (bad_at (length before + 1)))
+  pub refused_end : length rest ≡ 0 → image ≡ true → Reads image text (Err (bad_at (length before + 1)))
   unfolding at_end read_from
-  refused_end h f =
-      let none : drop i text ≡ [] = drop_of_length-le text h in
-      bad_here (sym (rw (none, f) at g.rest ∙ rw f))
+  refused_end z f = let none : rest ≡ [] = none_left rest z in bad_here (sym (rw (none, f) at g.reads ∙ rw f))
+
+  -- what follows n bytes more
+  further : (n : ℕ) → drop n rest ≡ drop (length text - length rest + n) text
+  further n = ap (drop n) g.tail ∙ drop-drop n (length text - length rest) text
 
   -- a line that a newline ends
-  module _ {s : Scan} {end : ℕ} (l : Lined text i s end) (h : end ≡ length text → ⊥) where
-    at_newline_lem : at_newline image before line (drop (end + 1) text) (read_from image (before ++ (region_of line ∷ [])) [] (drop (end + 1) text))
+  module _ {s : Scan} {n : ℕ} (l : Lined rest 0 s n) (h : n ≡ length rest → ⊥) where
+    pub short : n < length rest
+    short = omega (arith, l.end_is, line_le rest)
+
+    at_newline_lem : at_newline image before line (drop (n + 1) rest) (read_from image (before ++ (region_of line ∷ [])) [] (drop (n + 1) rest))
         ≡ read_of image text
     at_newline_lem =
-        let n = length line in
-        let short : length line < length (drop i text) = omega (arith, l.end_is, line_short l, left_length, g.within) in
-        let m : i + suc n ≡ end + 1 = omega (arith, l.end_is) in
-        let e : drop (suc n) (drop i text) ≡ drop (end + 1) text = drop-drop (suc n) i text ∙ ap (λ (k : ℕ). drop k text) m in
-        rw (← e) (sym (read_line image before [] (drop i text) short) ∙ g.rest)
+        let k : length line < length rest = omega (arith, l.end_is, short) in
+        let m : suc (length line) ≡ n + 1 = omega (arith, l.end_is) in
+        rw m at (sym (read_line image before [] rest k) ∙ g.reads)
 
-    stop_is : (image && eqb i end) ≡ (image && is_empty line)
-    stop_is = ap (λ (t : Bool). image && t) (empty_there line i end l.end_is)
+    stop_is : (image && eqb n 0) ≡ (image && is_empty line)
+    stop_is = ap (λ (t : Bool). image && t) (empty_there line n (omega (arith, l.end_is)))
 
-    pub stopped : (image && eqb i end) ≡ true → Reads image text (close (end + 1) (ended_as before))
+    pub stopped : n ≡ 0 → (image && eqb n 0) ≡ true → Reads image text (close (length text - length rest + 1) (ended_as before))
     unfolding at_newline
-    stopped f = closed_here (end + 1) (omega (arith, line_short l, h)) (rw (sym stop_is ∙ f) at at_newline_lem)
+    stopped z f =
+        let e : n + 1 ≡ 1 = omega arith in
+        closed_here (length text - length rest + 1) (omega (arith, short, g.within)) (rw (sym stop_is ∙ f, e, further 1) at at_newline_lem)
 
-    refused_line : (image && eqb i end) ≡ false → takes before line ≡ false → Reads image text (Err (bad_at (length before + 1)))
+    refused_line : (image && eqb n 0) ≡ false → takes before line ≡ false → Reads image text (Err (bad_at (length before + 1)))
     unfolding at_newline
     refused_line f t = bad_here (sym (rw (sym stop_is ∙ f, t) at at_newline_lem))
 
     -- a whole line: its name is there, and its region
-    pub told : whole s ≡ true → (i + 7 + s.letters ≤ length text) × (s.letters ≤ 16) × (region_in (drop i text) s ≡ region_of line)
+    pub told : whole s ≡ true → (7 + s.letters ≤ length rest) × (s.letters ≤ 16) × (region_in rest s ≡ region_of line)
     told w =
         let t : Told s line = rw l.scan_is (line_told line (ap whole (sym l.scan_is) ∙ w)) in
-        (omega (arith, t.within, l.end_is, line_short l), t.few, region_there (drop i text) s t.within ∙ ap (region_in line) l.scan_is)
+        (omega (arith, t.within, line_le rest), t.few, region_there rest s t.within ∙ ap (region_in line) l.scan_is)
 
-    pub refused_shape : (image && eqb i end) ≡ false → region_told (drop i text) s ≡ None → Reads image text (Err (bad_at (length before + 1)))
+    pub refused_shape : (image && eqb n 0) ≡ false → region_told rest s ≡ None → Reads image text (Err (bad_at (length before + 1)))
     unfolding takes region_told
-    refused_shape f n = go (whole s) refl n
+    refused_shape f e = go (whole s) refl e
       where
-        go : (t : Bool) → whole s ≡ t → cond t (Some (region_in (drop i text) s)) None ≡ None → Reads image text (Err (bad_at (length before + 1)))
+        go : (t : Bool) → whole s ≡ t → cond t (Some (region_in rest s)) None ≡ None → Reads image text (Err (bad_at (length before + 1)))
         go true w k = absurd (some_none k)
         go false w k = refused_line f (rw (ap whole (sym l.scan_is) ∙ w))
 
     -- the region that a whole line tells
-    takes_is : {r : Region} → region_told (drop i text) s ≡ Some r → (takes before line ≡ admitted before r) × (region_of line ≡ r)
+    takes_is : {r : Region} → region_told rest s ≡ Some r → (takes before line ≡ admitted before r) × (region_of line ≡ r)
     unfolding takes region_told
-    takes_is {r} n = go (whole s) refl n
+    takes_is {r} e = go (whole s) refl e
       where
-        go : (t : Bool) → whole s ≡ t → cond t (Some (region_in (drop i text) s)) None ≡ Some r
-            → (takes before line ≡ admitted before r) × (region_of line ≡ r)
+        go : (t : Bool) → whole s ≡ t → cond t (Some (region_in rest s)) None ≡ Some r → (takes before line ≡ admitted before r) × (region_of line ≡ r)
         go true w k =
-            let e : region_of line ≡ r = sym (told w).2 ∙ some_same k in
-            (rw (ap whole (sym l.scan_is) ∙ w, e), e)
+            let q : region_of line ≡ r = sym (told w).2 ∙ some_same k in
+            (rw (ap whole (sym l.scan_is) ∙ w, q), q)
         go false w k = absurd (some_none (sym k))
 
-    pub refused_region : (image && eqb i end) ≡ false → {r : Region} → region_told (drop i text) s ≡ Some r → admitted before r ≡ false
+    pub refused_region : (image && eqb n 0) ≡ false → {r : Region} → region_told rest s ≡ Some r → admitted before r ≡ false
         → Reads image text (Err (bad_at (length before + 1)))
-    refused_region f n a = refused_line f ((takes_is n).0 ∙ a)
+    refused_region f e a = refused_line f ((takes_is e).0 ∙ a)
 
-    pub turned : (image && eqb i end) ≡ false → {r : Region} → region_told (drop i text) s ≡ Some r → admitted before r ≡ true
-        → Going image text (before ++ (r ∷ [])) (end + 1)
+    pub turned : (image && eqb n 0) ≡ false → {r : Region} → region_told rest s ≡ Some r → admitted before r ≡ true
+        → Going image text (before ++ (r ∷ [])) (drop (n + 1) rest)
     unfolding at_newline
-    turned f {r} n a =
+    turned f {r} e a =
         let k : length before < 64 = room before r a in
-        let t = takes_is n in
+        let t = takes_is e in
+        let d : length (drop (n + 1) rest) ≡ length rest - (n + 1) = length-drop (n + 1) rest in
+        let p : length text - length rest + (n + 1) ≡ length text - length (drop (n + 1) rest) = omega (arith, d, short, g.within) in
         record {
-          within = omega (arith, line_short l, h);
+          within = omega (arith, d, g.within);
+          tail = further (n + 1) ∙ ap (λ (i : ℕ). drop i text) p;
           few = omega (arith, length-append before (r ∷ []));
-          rest = rw (sym stop_is ∙ f, t.0 ∙ a, t.1) at at_newline_lem;
+          reads = rw (sym stop_is ∙ f, t.0 ∙ a, t.1) at at_newline_lem;
         }

@@ -55,11 +55,11 @@ pub struct Scan {
     pub rights: u32,
 }
 
-// A line: the state at its end, and the index of its newline or of the text's end.
+// A line: the state at its end, and its length without a newline.
 #[derive(Clone, Copy, Debug, PartialEq, Eq)]
 pub struct Line {
     pub scan: Scan,
-    pub end: usize,
+    pub length: usize,
 }
 
 // The number of a sheet's first bad line, from 1.
@@ -95,30 +95,29 @@ pub fn read(text: &[u8], image: bool) -> Result<Reading, BadLine>
     ensures { Reads image text.now result }
 {
     let mut sheet = Sheet::new();
-    let mut from = 0;
-    while from < text.len() {
-        let line = first_line(text, from);
-        let end = line.end;
+    let mut rest = text;
+    while !rest.is_empty() {
+        let line = first_line(rest);
         let bad = BadLine {
             line: sheet.regions().len() + 1,
         };
-        if end == text.len() {
+        if line.length == rest.len() {
             return Err(bad);
         }
-        if image && from == end {
+        if image && line.length == 0 {
             let sheet = sheet.ended()?;
             return Ok(Reading {
                 sheet,
-                end: end + 1,
+                end: text.len() - rest.len() + 1,
             });
         }
-        let Some(r) = region_in(text, from, line.scan) else {
+        let Some(r) = region_in(rest, line.scan) else {
             return Err(bad);
         };
         if !sheet.admit(r) {
             return Err(bad);
         }
-        from = end + 1;
+        rest = &rest[line.length + 1..];
     }
     if image {
         return Err(BadLine {
@@ -126,5 +125,8 @@ pub fn read(text: &[u8], image: bool) -> Result<Reading, BadLine>
         });
     }
     let sheet = sheet.ended()?;
-    Ok(Reading { sheet, end: from })
+    Ok(Reading {
+        sheet,
+        end: text.len(),
+    })
 }

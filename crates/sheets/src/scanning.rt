@@ -5,7 +5,7 @@ ghost use Rattle.sheets.specs.Scanning.{Lined, advanced, in_name, in_rights, in_
 
 use crate::names::{NAME_BYTES, is_letter};
 use crate::{Field, Line, Region, Scan};
-use text::{HEX, digit_of};
+use text::digit_of;
 
 // The word that begins a line.
 const WORD: [u8; 6] = [b'r', b'e', b'g', b'i', b'o', b'n'];
@@ -92,21 +92,18 @@ fn in_number(s: Scan, b: u8) -> Scan
     let first = s.field == Field::Start;
     let n = s.count;
     if n < DIGITS {
-        let d = digit_of(b);
-        if HEX <= d {
-            begin(Field::Spoiled)
-        } else if first {
-            Scan {
+        match digit_of(b) {
+            Some(d) if first => Scan {
                 count: n + 1,
                 start: with_digit(s.start, d),
                 ..s
-            }
-        } else {
-            Scan {
+            },
+            Some(d) => Scan {
                 count: n + 1,
                 size: with_digit(s.size, d),
                 ..s
-            }
+            },
+            None => begin(Field::Spoiled),
         }
     } else if b == b'\t' {
         Scan {
@@ -161,48 +158,44 @@ fn advance(s: Scan, b: u8) -> Scan
     }
 }
 
-// The first line from an index on.
-pub(crate) fn first_line(text: &[u8], from: usize) -> Line
-    requires { from ≤ length text.now }
-    ensures { Lined text.now from result.scan result.end }
+// The first line of a text.
+pub(crate) fn first_line(text: &[u8]) -> Line
+    ensures { Lined text.now 0 result.scan result.length }
 {
     let mut scan = begin(Field::Word);
-    for (i, b) in text[from..].iter().enumerate() {
+    for (i, b) in text.iter().enumerate() {
         if *b == b'\n' {
-            return Line {
-                scan,
-                end: from + i,
-            };
+            return Line { scan, length: i };
         }
         scan = advance(scan, *b);
     }
     Line {
         scan,
-        end: text.len(),
+        length: text.len(),
     }
 }
 
-// A name's letters from an index on, with zeros after them.
-fn name_in(text: &[u8], at: usize, n: usize) -> [u8; 16]
-    requires { (at + n ≤ length text.now) × (n ≤ 16) }
-    ensures { result ≡ padded (take n (drop at text.now)) }
+// Some letters, with zeros after them.
+fn name_of(letters: &[u8]) -> [u8; 16]
+    requires { length letters.now ≤ 16 }
+    ensures { result ≡ padded letters.now }
 {
     let mut name = [0; 16];
-    name[..n].copy_from_slice(&text[at..at + n]);
+    name[..letters.len()].copy_from_slice(letters);
     name
 }
 
-// The region of the line from an index on that left the state s, where the line may end there.
+// The region of a text's first line that left the state s, where the line may end there.
 #[tactic(auto, unfolding(crate::specs::Scanning::whole, crate::specs::Scanning::region_told, crate::specs::Scanning::region_in))]
-pub(crate) fn region_in(text: &[u8], from: usize, s: Scan) -> Option<Region>
-    requires { whole s ≡ true → (from + 7 + s.letters ≤ length text.now) × (s.letters ≤ 16) }
-    ensures { result ≡ region_told (drop from text.now) s }
+pub(crate) fn region_in(text: &[u8], s: Scan) -> Option<Region>
+    requires { whole s ≡ true → (7 + s.letters ≤ length text.now) × (s.letters ≤ 16) }
+    ensures { result ≡ region_told text.now s }
 {
     if s.field != Field::Rights || s.rights == 0 {
         return None;
     }
     Some(Region {
-        name: name_in(text, from + NAME_PLACE, s.letters),
+        name: name_of(&text[NAME_PLACE..NAME_PLACE + s.letters]),
         start: s.start,
         size: s.size,
         rights: s.rights,

@@ -1,6 +1,6 @@
 -- Numbers as ASCII text: hexadecimal digits in lower case, decimal numbers, and words in signed decimal.
 -- Assumes nothing.
-use Rattle.std.specs.Prelude.{Bool, true, cond, ◌&&◌, List, [], ◌∷◌, ◌++◌, ℕ, zero, suc, ◌+◌, ◌-◌, ◌*◌, ◌/◌, ◌%◌, ◌^◌, ltb}
+use Rattle.std.specs.Prelude.{Bool, true, cond, ◌&&◌, List, [], ◌∷◌, ◌++◌, ℕ, zero, suc, ◌+◌, ◌-◌, ◌*◌, ◌/◌, ◌%◌, ◌^◌, ltb, Option, Some, None}
 
 -- the value of a lower-case hexadecimal digit (0 to 9 are 48 to 57, a to f are 97 to 102), and 16 for any other byte
 unfoldable pub digit_of : (byte : ℕ) → ℕ
@@ -8,6 +8,10 @@ digit_of b = cond (ltb b 48) 16 (cond (ltb b 58) (b - 48) (cond (ltb b 97) 16 (c
 
 abbrev pub is_digit : (byte : ℕ) → Bool
 is_digit b = ltb (digit_of b) 16
+
+-- the value, where the byte is a digit
+abbrev pub digit_told : (byte : ℕ) → Option ℕ
+digit_told b = cond (is_digit b) (Some (digit_of b)) None
 
 unfoldable pub all_digits : List ℕ → Bool
 all_digits [] = true

@@ -3,13 +3,13 @@
 // that holds both must be lent again for each part, and its callers still need the index.
 #![tactic(auto)]
 
-ghost use Rattle.std.specs.Prelude.{[], ◌∷◌, ◌≡◌, ◌≤◌, ◌<◌, length};
-ghost use Rattle.text.specs.Digits.{digit_of, digits, places_of, decimal, signed};
+ghost use Rattle.std.specs.Prelude.{[], ◌∷◌, ◌≡◌, ◌≤◌, ◌<◌, length, IfSome};
+ghost use Rattle.text.specs.Digits.{digit_told, digits, places_of, decimal, signed};
 ghost use Rattle.text.specs.Digits.{glyph};
 ghost use Rattle.text.specs.Writing.{Delivers, Puts};
 
-// The bases in which numbers are written; no digit's value is as large as the first.
-pub const HEX: u64 = 16;
+// The bases in which numbers are written.
+const HEX: u64 = 16;
 
 const DECIMAL: u64 = 10;
 
@@ -19,16 +19,16 @@ const LETTERS: u8 = 87;
 // The words from here on are negative.
 const SIGN: u32 = 0x8000_0000;
 
-// The value of a lower-case hexadecimal digit, and 16 for any other byte: no Option, since the
-// definition is this number, and `is it one` and `is it below 16` are one test.
+// The value of a lower-case hexadecimal digit.
 #[tactic(auto, unfolding(crate::specs::Digits::digit_of))]
-pub fn digit_of(b: u8) -> u64
-    ensures { (result ≡ digit_of b) × (result ≤ 16) }
+pub fn digit_of(b: u8) -> Option<u64>
+    ensures told { result ≡ digit_told b }
+    ensures below { IfSome result (λ d. d < 16) }
 {
     match b {
-        b'0'..=b'9' => (b - b'0') as u64,
-        b'a'..=b'f' => (b - LETTERS) as u64,
-        _ => HEX,
+        b'0'..=b'9' => Some((b - b'0') as u64),
+        b'a'..=b'f' => Some((b - LETTERS) as u64),
+        _ => None,
     }
 }
 

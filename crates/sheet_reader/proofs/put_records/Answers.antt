@@ -10,4 +10,5 @@ loop-r-init c = puts_none c.args.out.now 0
 
 pub loop-r-preserved : goal.loop-r-preserved
 loop-r-preserved c =
-    rw (words_more c.args.regions.now _ c.loop-r.r-index c.loop-r-test.true) at (puts_then c.loop-r.invariant (rw c.record_of.ensures at c.put_bytes-at.ensures))
+    rw (words_more c.args.regions.now _ c.loop-r.r-index c.loop-r-test.true) at
+    (puts_then c.loop-r.invariant (rw c.record_of.ensures at c.put_bytes-at.ensures))

@@ -7,5 +7,5 @@ use Rattle.sheets.proofs.scanning.first_line.Given as goal
 
 abbrev pub invariant-loop-i : goal.invariant-loop-i
 invariant-loop-i l =
-    let all = drop l.from l.text in
-    (line_read l.scan (first_line (drop l.i all)) ≡ line_read start_scan (first_line all)) × (l.i + length (first_line (drop l.i all)) ≡ length (first_line all))
+    (line_read l.scan (first_line (drop l.i l.text)) ≡ line_read start_scan (first_line l.text)) ×
+    (l.i + length (first_line (drop l.i l.text)) ≡ length (first_line l.text))
