@@ -133,7 +133,7 @@ unfoldable pub line_of : Result Choice NoFit → ℕ
 line_of (Ok c) = 0
 line_of (Err e) = refusal_line e
 
--- what an answer hands back: the part, empty where there is none, the number and a bad sheet's line
+-- the same of an answer: the part, empty where there is none, the number and the line
 abbrev pub part_in : Result Fitting NoFit → List ℕ
 part_in (Ok f) = f.payload.now
 part_in (Err e) = []
@@ -146,6 +146,7 @@ abbrev pub line_in : Result Fitting NoFit → ℕ
 line_in (Ok f) = 0
 line_in (Err e) = refusal_line e
 
+-- what is handed back: the part, the number and a bad sheet's line
 pub record Handed (board image image2 part : List ℕ) (number line : ℕ) : Type 0 where
   pub part_is : part ≡ payload_of (outcome board image image2)
   pub number_is : number ≡ verdict_of (choice_of image image2 (outcome board image image2))

@@ -13,9 +13,8 @@ use Rattle.text.proofs.Putting.{delivered_take}
 use Rattle.sheets.specs.Records.{sheet_words, AreRecords, judged}
 use Rattle.sheets.specs.Scanning.{read_of}
 use Rattle.sheets.specs.Sheet.{sheet_text, Answer, sheet, bad, IsSheet}
-use Rattle.sheets.specs.declared.Region.{Region}
 use Rattle.sheets.specs.declared.SheetError.{SheetError}
-use Rattle.sheets.specs.declared.SheetError.TheVariants.{Bad, NoRoom}
+use Rattle.sheets.specs.declared.SheetError.TheVariants.{Bad}
 use Rattle.std.specs.Prelude.{Result, Ok, Err}
 use Rattle.sheets.proofs.Answers.{read_says}
 use Rattle.sheets.proofs.Records.{judged_says, records_judged}

@@ -23,7 +23,7 @@ fn name_of(a: u32, b: u32, c: u32, d: u32) -> [u8; 16]
 
 // The region of a record's words.
 #[tactic(auto, unfolding(sheets::specs::Records::record_at))]
-fn region_of(words: &[u32; 7]) -> Region
+fn region_of(words: &[u32; RECORD_WORDS]) -> Region
     ensures { result ≡ record_at words.now 0 }
 {
     let [a, b, c, d, start, size, rights] = *words;

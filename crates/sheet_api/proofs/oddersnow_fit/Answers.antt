@@ -1,5 +1,5 @@
 -- `oddersnow_fit`: what `fit` hands back, with the payload's place by the part's length. Assumes nothing.
-use Rattle.std.proofs.Common.{◌≡◌, ℕ, ◌-◌, ◌≤◌, List, length, refl, sym, ◌∙◌}
+use Rattle.std.proofs.Common.{◌≡◌, ℕ, ◌-◌, ◌≤◌, List, length, refl, ◌∙◌}
 use Rattle.fit.specs.Fit.{choice_of, outcome, place_of, image_number, refusal_number, of_image, Handed}
 use Rattle.fit.specs.declared.Image.{Image}
 use Rattle.fit.specs.declared.Image.TheVariants.{First, Second}
