@@ -66,6 +66,8 @@ def files(*patterns):
 
 # A page that sets old words beside today's: what it names need not be there any more.
 OLD_WORDS = ("docs/PORT.md", "docs/DESIGN-PASS.md")
+# And one whose blocks are clauses and definitions, in which a number before a word is no size.
+TEXT_OF_CODE = ("docs/DESIGN-PASS.md", "sizes")
 
 
 def documents():
@@ -484,7 +486,7 @@ def main():
     for part in sys.argv[1:] or [*PARTS, *WHOLE_TREE, "itself"]:
         if part in PARTS:
             for path in documents():
-                if path in OLD_WORDS and part in ("names", "paths", "sizes"):
+                if path in OLD_WORDS and part in ("names", "paths") or (path, part) == TEXT_OF_CODE:
                     continue
                 faults += [f"{path}:{n}: {text}" for n, text in PARTS[part](tree, Document(path))]
         if part == "names":
