@@ -155,8 +155,10 @@ apart : (x v a b : ℕ) → x ≡ v % 2 ^ 64 → v ≡ a * 2 ^ 32 + b → a < 2 
 apart x v a b h e f g = omega arith
 
 -- both fields of a well-formed line out of the value
-fields_read : (n : ℕ) (line : List ℕ) → well_formed line ≡ true → outcome (read_line (start_of n) line).fields ≡ cut_text (requested line)
-unfolding well_formed nothing_read outcome requested
+pub fields_read : (n : ℕ) (line : List ℕ) → well_formed line ≡ true
+    → (f : Fields) × ((read_line (start_of n) line).fields ≡ Some f)
+    × (f.value / 2 ^ 32 ≡ number_of (take 8 line)) × (f.value % 2 ^ 32 ≡ number_of (drop 9 line))
+unfolding well_formed nothing_read
 fields_read n line h =
     let t = (and-eq-true_iff (eqb (length line) 17) (all_digits (take 8 line) && (eqb (get_or line 8 0) tab && all_digits (drop 9 line)))).0 h in
     let u = (and-eq-true_iff (all_digits (take 8 line)) (eqb (get_or line 8 0) tab && all_digits (drop 9 line))).0 t.1 in
@@ -170,7 +172,14 @@ fields_read n line h =
     (number_after (number_of (take 8 line)) (drop 9 line) eight)
     (number_word (take 8 line) (length-take-le 8 line (omega arith)) u.0)
     (number_word (drop 9 line) eight w.1) in
-    rw (line_read (start_of n) line, value, a.0, a.1) refl
+    (record { place = 17; value = value_from 0 0 line % 2 ^ 64 }, rw (line_read (start_of n) line) value, a.0, a.1)
+
+cut_read : (n : ℕ) (line : List ℕ) → well_formed line ≡ true → outcome (read_line (start_of n) line).fields ≡ cut_text (requested line)
+unfolding outcome requested
+cut_read n line h =
+    let f = fields_read n line h in
+    let whole : eqb f.0.place 17 ≡ true = rw f.1 at (well_read n line ∙ h) in
+    rw (f.1, whole, f.2, f.3) refl
 
 bad_read : (o : Option Fields) → is_whole o ≡ false → outcome o ≡ bad_text
 unfolding outcome
@@ -183,5 +192,5 @@ unfolding answered line_text
 answered_line n line = go (well_formed line) refl
   where
     go : (t : Bool) → well_formed line ≡ t → answered (read_line (start_of n) line) ≡ line_text n line
-    go true e = rw (number_read (start_of n) line, fields_read n line e, e)
+    go true e = rw (number_read (start_of n) line, cut_read n line e, e)
     go false e = rw (number_read (start_of n) line, bad_read (read_line (start_of n) line).fields (well_read n line ∙ e), e)

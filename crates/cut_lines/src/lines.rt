@@ -23,7 +23,8 @@ const WORD: u64 = 0x1_0000_0000;
 pub(crate) fn need_room(out: &[u8], at: usize) -> Result<(), NoRoom>
     ensures { is_ok result ≡ has_room out.now at }
 {
-    if out.len().saturating_sub(at) < LONGEST {
+    // Twice a test: a byte of the input asks it, and by `saturating_sub` it is built thrice as long.
+    if at > out.len() || out.len() - at < LONGEST {
         return Err(NoRoom);
     }
     Ok(())

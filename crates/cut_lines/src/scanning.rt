@@ -21,12 +21,14 @@ impl Fields {
                 None
             };
         }
-        match digit_of(b) {
-            Some(d) if self.place < LINE => Some(Fields {
+        let d = digit_of(b)?;
+        if self.place < LINE {
+            Some(Fields {
                 place: self.place + 1,
                 value: (self.value << 4) + d,
-            }),
-            _ => None,
+            })
+        } else {
+            None
         }
     }
 }

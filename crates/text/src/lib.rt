@@ -8,8 +8,8 @@ ghost use Rattle.text.specs.Digits.{digit_told, digits, places_of, decimal, sign
 ghost use Rattle.text.specs.Digits.{glyph};
 ghost use Rattle.text.specs.Writing.{Delivers, Puts};
 
-// The bases in which numbers are written.
-const HEX: u64 = 16;
+// The bases in which numbers are written; no digit's value is as large as the first.
+pub const HEX: u64 = 16;
 
 const DECIMAL: u64 = 10;
 

@@ -19,7 +19,10 @@ pub struct Watch {
     pub second: Range,
 }
 
-// One more, unless the count has stopped: at the largest word.
+// Where a count stops.
+pub const MOST_HITS: u32 = u32::MAX;
+
+// One more, unless the count has stopped.
 #[tactic(auto, unfolding(crate::specs::Watch::one_more_hit))]
 fn one_more(count: u32) -> u32
     ensures { result ≡ one_more_hit count }
