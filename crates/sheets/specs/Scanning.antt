@@ -172,6 +172,13 @@ pub record Takes (may : Bool) (before : List Region) (r : Region) (after : List 
 unfoldable pub ended_as : List Region → Result (List Region) BadLine
 ended_as rs = cond (eqb (length rs) 0) (Err (bad_at 1)) (Ok rs)
 
+-- a reading that is a bad line, and one of a sheet that ends at an index
+abbrev pub refused_at : (line : ℕ) → Result Reading BadLine
+refused_at n = Err (bad_at n)
+
+unfoldable pub closed_at : (regions : List Region) (end : ℕ) → Result Reading BadLine
+closed_at rs end = cond (eqb (length rs) 0) (refused_at 1) (Ok (record { sheet = rs; end = end }))
+
 -- the answer that a reading holds
 unfoldable pub answer_of : (text : List ℕ) → Result Reading BadLine → Answer
 answer_of text (Ok r) = sheet r.sheet (drop r.end text)

@@ -7,14 +7,15 @@ mod regions;
 mod scanning;
 mod tests;
 
-ghost use Rattle.std.specs.Prelude.{◌≡◌};
+ghost use Rattle.std.specs.Prelude.{◌≡◌, take};
 ghost use Rattle.sheets.specs.declared.SheetError.TheVariants.{Bad};
-ghost use Rattle.sheets.specs.Scanning.{Reads};
+ghost use Rattle.sheets.specs.Scanning.{Reads, closed_at, refused_at};
 
-pub use names::{NAME_BYTES, letters};
+pub use names::{NAME_BYTES, letters, same};
 pub use refusals::Refusal;
-pub use regions::Sheet;
+pub use regions::{Sheet, nothing};
 use scanning::{first_line, region_in};
+pub use tests::follows;
 
 // At most so many regions to a sheet.
 pub const MOST_REGIONS: usize = 64;
@@ -84,10 +85,26 @@ impl From<BadLine> for SheetError {
 }
 
 // A sheet that was read, and the index after its end.
-#[derive(Drop)]
+#[derive(Clone, Copy)]
 pub struct Reading {
     pub sheet: Sheet,
     pub end: usize,
+}
+
+// A bad line.
+pub fn refused(line: usize) -> Result<Reading, BadLine>
+    ensures { result ≡ refused_at line }
+{
+    Err(BadLine { line })
+}
+
+// The sheet of the first of some regions, that ends at an index: without a region its first line is bad.
+#[tactic(auto, unfolding(crate::specs::Scanning::closed_at, crate::specs::Scanning::ended_as))]
+pub fn closed(regions: [Region; 64], count: usize, end: usize) -> Result<Reading, BadLine>
+    ensures { result ≡ closed_at (take count regions) end }
+{
+    let sheet = Sheet::first(regions, count).ended()?;
+    Ok(Reading { sheet, end })
 }
 
 // Reads a sheet: a whole text, or an image's text up to an empty line.

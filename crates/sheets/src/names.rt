@@ -1,6 +1,6 @@
 // Names in sixteen bytes: letters, and zeros after them.
 ghost use Rattle.std.specs.Prelude.{◌≡◌, ◌≤◌, length, drop};
-ghost use Rattle.sheets.specs.Sheet.{all_zero, is_letter, letters_of};
+ghost use Rattle.sheets.specs.Sheet.{all_zero, is_letter, letters_of, same};
 
 // The bytes that hold a name.
 pub const NAME_BYTES: usize = 16;
@@ -26,4 +26,12 @@ pub(crate) fn zero_from(name: [u8; 16], from: usize) -> bool
     ensures { result ≡ all_zero (drop from name) }
 {
     name.iter().skip(from).all(|b| *b == 0)
+}
+
+// Whether two names are one.
+#[tactic(auto, unfolding(crate::specs::Sheet::same))]
+pub fn same(a: [u8; 16], b: [u8; 16]) -> bool
+    ensures { result ≡ same a b }
+{
+    a == b
 }

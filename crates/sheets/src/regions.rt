@@ -1,10 +1,11 @@
 // The regions of a sheet, one after the other.
-ghost use Rattle.std.specs.Prelude.{[], ◌≡◌, ◌≤◌, length};
+ghost use Rattle.std.specs.Prelude.{[], ◌≡◌, ◌≤◌, length, take};
 ghost use Rattle.sheets.specs.Sheet.{admitted, follows};
+ghost use Rattle.sheets.specs.Places.{nowhere};
 ghost use Rattle.sheets.specs.Scanning.{Takes, ended_as};
 
 use crate::tests::{admits, formed};
-use crate::{BadLine, Region};
+use crate::{BadLine, MOST_REGIONS, Region};
 use std::marker::Model;
 
 const NO_REGION: Region = Region {
@@ -14,22 +15,35 @@ const NO_REGION: Region = Region {
     rights: 0,
 };
 
-// At most 64 regions: a contract sees the list of them.
-#[derive(Drop)]
+// No region.
+pub fn nothing() -> Region
+    ensures { result ≡ nowhere }
+{
+    NO_REGION
+}
+
+// At most 64 regions, and blank places after them: a contract sees the list of the regions, which gives the places back.
+#[derive(Clone, Copy)]
 pub struct Sheet {
     places: [Region; 64],
     count: usize,
 }
 
 impl Model for Sheet {
-    ghost use Rattle.std.specs.Prelude.{List, take, ◌≤◌};
+    ghost use Rattle.std.specs.Prelude.{List};
     ghost use Rattle.sheets.specs.declared.Region.{Region};
 
     ghost Value = { List Region };
 
-    ghost view = { λ s. take s.count s.places };
+    ghost use Rattle.sheets.specs.Places.{regions_of, HasPlaces, places_of, gives_back};
 
-    ghost invariant = { λ s. s.count ≤ 64 };
+    ghost view = { regions_of };
+
+    ghost invariant = { HasPlaces };
+
+    ghost inverse = { places_of };
+
+    ghost inverse_ok = { gives_back };
 }
 
 impl Sheet {
@@ -41,6 +55,16 @@ impl Sheet {
             places: [NO_REGION; 64],
             count: 0,
         }
+    }
+
+    // The first of some regions.
+    pub(crate) fn first(regions: [Region; 64], count: usize) -> Sheet
+        ensures { result ≡ take count regions }
+    {
+        let count = count.min(MOST_REGIONS);
+        let mut places = regions;
+        places[count..].fill(NO_REGION);
+        Sheet { places, count }
     }
 
     // Its regions.

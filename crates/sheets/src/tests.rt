@@ -3,9 +3,10 @@ ghost use Rattle.std.specs.Prelude.{◌≡◌};
 ghost use Rattle.sheets.specs.Sheet.{admitted};
 ghost use Rattle.sheets.specs.Sheet.{clash};
 ghost use Rattle.sheets.specs.Sheet.{clashes};
+ghost use Rattle.sheets.specs.Sheet.{follows};
 ghost use Rattle.sheets.specs.Sheet.{formed};
 
-use crate::names::{letters, zero_from};
+use crate::names::{letters, same, zero_from};
 use crate::{MOST_REGIONS, Region};
 
 // All addresses.
@@ -25,11 +26,11 @@ pub(crate) fn formed(r: Region) -> bool
 }
 
 // Whether two regions have one name, or a byte in common.
-#[tactic(auto, unfolding(crate::specs::Sheet::clash, crate::specs::Sheet::same))]
+#[tactic(auto, unfolding(crate::specs::Sheet::clash))]
 fn clash(a: Region, b: Region) -> bool
     ensures { result ≡ clash a b }
 {
-    a.name == b.name
+    same(a.name, b.name)
         || u64::from(a.start) < u64::from(b.start) + u64::from(b.size)
             && u64::from(b.start) < u64::from(a.start) + u64::from(a.size)
 }
@@ -50,4 +51,12 @@ pub(crate) fn admits(regions: &[Region], r: Region) -> bool
         && 0 < r.size
         && u64::from(r.start) + u64::from(r.size) <= SPACE
         && !clashes(regions, r)
+}
+
+// Whether a line can say a region, and it may be the next one after any others.
+#[tactic(auto, unfolding(crate::specs::Sheet::follows))]
+pub fn follows(regions: &[Region], r: Region) -> bool
+    ensures { result ≡ follows regions.now r }
+{
+    formed(r) && admits(regions, r)
 }
