@@ -1,16 +1,15 @@
 -- Laws of the lists that the code walks: names and regions.
 -- Assumes nothing.
-use mathlib.Core.Bool.{Bool, true, false, cond, ◌&&◌, ◌||◌}
+use mathlib.Core.Bool.{true, false, or-false}
 use mathlib.Core.Path.{◌≡◌, refl, sym, ◌∙◌}
 use mathlib.Core.List.{List, [], ◌∷◌, ◌++◌, append_assoc, append-nil}
 use Prim.Native.Nat.{ℕ, suc, ◌+◌, ◌-◌, ◌≤◌, ◌<◌}
-use native.Mathlib.Nat.{suc_inj}
+use native.Mathlib.Numerals.{add-one}
 use native.Mathlib.Omega.{arith}
-use lib.Dec.{ltb, eqb}
-use lib.ListN.{length}
-use Rattle.std.specs.Cmp.Lexicographic.{slice_partial_cmp}
-use Rattle.std.specs.Ordering.{is_lt, is_some_and, nat_cmp, partial_ordering_then}
-use Rattle.std.proofs.Common.{Less, Equal, Greater}
+use borrow.Author.Tests.{eq-eqb, ne_eqb, le-ltb}
+use lib.Dec.{ltb}
+use lib.ListN.{length, get_or, drop, drop_of_length-le}
+use lib.Seq.{drop-cons}
 use Rattle.std.specs.Prelude.{None, Some}
 use Rattle.text.specs.Writing.{newline, Puts}
 use Rattle.text.proofs.Putting.{puts_none, puts_then, puts_length}
@@ -19,20 +18,22 @@ use Rattle.sheets.specs.Scanning.{no_name}
 use Rattle.sheets.specs.declared.Region.{Region}
 use Rattle.sheet_compare.specs.Compare.{less, next_name, names_after, differing, names_text}
 
--- names of one length: what `<` says of them
-pub less_is : (a b : List ℕ) → length a ≡ length b → is_some_and is_lt (slice_partial_cmp (λ x y. Some (nat_cmp x y)) a b) ≡ less a b
-unfolding less
-less_is [] [] e = refl
-less_is [] (y ∷ b) e = absurd (omega arith)
-less_is (x ∷ a) [] e = absurd (omega arith)
-less_is (x ∷ a) (y ∷ b) e = go (ltb x y) (eqb x y) (less_is a b (suc_inj e))
-  where
-    go : (t u : Bool) → is_some_and is_lt (slice_partial_cmp (λ x y. Some (nat_cmp x y)) a b) ≡ less a b
-        → is_some_and is_lt (partial_ordering_then (Some (cond t Less (cond u Equal Greater)))
-        (slice_partial_cmp (λ x y. Some (nat_cmp x y)) a b)) ≡ (t || (u && less a b))
-    go true u h = refl
-    go false true h = h
-    go false false h = refl
+-- names, from index i on
+module _ (a b : List ℕ) (i : ℕ) where
+  pub less_turn : i < length a → i < length b → get_or a i 0 ≡ get_or b i 0 → less (drop (i + 1) a) (drop (i + 1) b) ≡ less (drop i a) (drop i b)
+  unfolding less
+  less_turn h k e =
+      let x = get_or a i 0 in
+      let y = get_or b i 0 in
+      rw (add-one i, drop-cons a i 0 h, drop-cons b i 0 k, eq-eqb x y e, le-ltb x y (omega arith))
+
+  pub less_here : i < length a → i < length b → (get_or a i 0 ≡ get_or b i 0 → ⊥) → ltb (get_or a i 0) (get_or b i 0) ≡ less (drop i a) (drop i b)
+  unfolding less
+  less_here h k e = rw (drop-cons a i 0 h, drop-cons b i 0 k, ne_eqb (get_or a i 0) (get_or b i 0) e, or-false)
+
+  pub less_end : length a ≤ i → less (drop i a) (drop i b) ≡ false
+  unfolding less
+  less_end h = rw (drop_of_length-le a {i = i} h)
 
 -- the names that are left
 module _ (a b : List Region) where

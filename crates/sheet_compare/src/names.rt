@@ -11,11 +11,16 @@ use text::put_byte;
 // Two sheets have at most so many names.
 const MOST_NAMES: usize = 128;
 
-// Whether a name comes before another.
+// Whether a name comes before another. By its own loop: the library's `<` of arrays takes three times as long for each letter in common.
 fn less(a: &[u8; 16], b: &[u8; 16]) -> bool
     ensures { result ≡ less a.now b.now }
 {
-    a < b
+    for i in 0..NAME_BYTES {
+        if a[i] != b[i] {
+            return a[i] < b[i];
+        }
+    }
+    false
 }
 
 // Whether a region is among those of a sheet: with the same name, start, size and rights.
