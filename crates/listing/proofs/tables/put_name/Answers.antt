@@ -6,4 +6,4 @@ use Rattle.listing.proofs.tables.put_name.Goals as goal
 
 pub returns : goal.returns
 unfolding names name_of
-returns c = rw (c.as_bytes.ensures.value, field_at (λ (r : Row). r.0.now)) at c.put_bytes.ensures
+returns c = rw (c.as_bytes.ensures.value, field_at (λ (r : Row). r.0.now)) at c.put_each.ensures
