@@ -132,8 +132,8 @@ pub(crate) fn key_of(base: u64, address: u32) -> u64
 
 // The entry that step k stands at, for a key of a slot.
 pub(crate) fn entry_for(
-    k: u32,
-    limit: u32,
+    k: u64,
+    limit: u64,
     keys: &[u64; 2048],
     slot: usize,
     key: u64,

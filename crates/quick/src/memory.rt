@@ -137,8 +137,6 @@ pub(crate) fn take_byte(
 }
 
 // LH, LHU.
-// Not compiled into the turn, for which the others' turns are shorter.
-#[inline(never)]
 pub(crate) fn take_small(
     kind: LoadKind,
     at: u32,
@@ -234,8 +232,6 @@ fn put_small(mem: &mut [u8], kind: StoreKind, at: usize, v: u32)
 }
 
 // SB, SH.
-// Not compiled into the turn, as `take_small` is not.
-#[inline(never)]
 pub(crate) fn take_store_small(
     kind: StoreKind,
     from: u32,

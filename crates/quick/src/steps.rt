@@ -47,19 +47,21 @@ pub(crate) fn take_quick(
         ≡ iterate n board revoked.now (ran (state regs.old mem.old tags.old) 0 0))
         × (result.watch ≡ watched_by n board revoked.now (state regs.old mem.old tags.old) w) }
 {
+    // Steps are counted in 64 bits: in 32 the built loop holds the count twice, and each step takes one or two of the host's instructions more.
+    let most = n as u64;
     let mut code = [entries::ABSENT; ENTRIES];
     let mut keys = [0u64; ENTRIES];
     let mut rows = [0u64; ROW_WORDS];
     let mut low = NO_LOW;
     let mut high: u64 = 0;
     let mut base = pace::base_of(regs);
-    let mut limit = pace::limit_from(regs, 0, n);
+    let mut limit = pace::limit_from(regs, 0, most);
     let mut luck = Luck::new();
     let mut missed = false;
     let mut watch = w;
     let mut trapped: u32 = 0;
-    let mut k: u32 = 0;
-    while k < n {
+    let mut k: u64 = 0;
+    while k < most {
         let pc = regs[PCC_PLACE];
         let slot = entries::slot_of(pc);
         if let Some(i) = entries::entry_for(k, limit, &keys, slot, entries::key_of(base, pc)) {
@@ -81,7 +83,7 @@ pub(crate) fn take_quick(
             watch = p.watch;
             trapped += p.counts.trapped;
             base = pace::base_of(regs);
-            limit = pace::limit_while(luck.spend(k), regs, k, n);
+            limit = pace::limit_while(luck.spend(k), regs, k, most);
             continue;
         }
         let tried = pace::is_tried(missed, luck.spend(k));
@@ -97,14 +99,17 @@ pub(crate) fn take_quick(
             missed = true;
             continue;
         }
-        let m = luck.steps_now(n - k);
-        let p = machine::take_watched(regs, board, mem, tags, revoked, m, watch);
+        let m = luck.steps_now(most - k);
+        let p = machine::take_watched(regs, board, mem, tags, revoked, m as u32, watch);
         watch = p.watch;
         trapped += p.counts.trapped;
-        entries::clear_unless(&mut keys, entries::stored_nothing(m, p.counts.trapped));
+        entries::clear_unless(
+            &mut keys,
+            entries::stored_nothing(m as u32, p.counts.trapped),
+        );
         base = pace::base_of(regs);
         k += m;
-        limit = pace::limit_from(regs, k, n);
+        limit = pace::limit_from(regs, k, most);
         missed = false;
         luck.rested(k);
     }

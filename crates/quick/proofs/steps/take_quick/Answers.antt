@@ -252,10 +252,6 @@ loop-k-preserved-in-Some-found c =
       l.invariant.3,
     )
 
-pub overflow_sub-n : goal.overflow_sub-n
-overflow_sub-n c =
-    omega (arith, c.loop-k-test.true)
-
 pub overflow_add-trapped-in-loop-k : goal.overflow_add-trapped-in-loop-k
 overflow_add-trapped-in-loop-k c =
     let r = c.loop-k.invariant.0 in
