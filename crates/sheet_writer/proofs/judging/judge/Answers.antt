@@ -34,12 +34,12 @@ returns-then-not-is_empty c =
     let k = c.as_chunks.ensures in
     let n : length c.as_chunks.result.0.now ≡ c.loop-i.i = omega arith in
     let t : length c.args.words.now / 7 ≤ c.loop-i.i = omega arith in
-    let e = eqb-false (length c.as_chunks.result.1.now) 0 (sym c.is_empty.ensures ∙ c.if-not-is_empty.true) in
-    rw n (going_odd c.loop-i.invariant t (λ z. e (k.back_len ∙ z)))
+    let e = eqb-false _ 0 (sym c.is_empty.ensures ∙ c.if-not-is_empty.true) in
+    rw n (going_odd c.loop-i.invariant t (λ z. e (omega (arith, k.back_len, z))))
 
 pub returns : goal.returns
 returns c =
     let k = c.as_chunks.ensures in
     let t : length c.args.words.now / 7 ≤ c.loop-i.i = omega arith in
-    let e = eqb-true (length c.as_chunks.result.1.now) 0 (sym c.is_empty.ensures ∙ c.if-not-is_empty.false) in
-    rw c.ended.ensures (going_ended c.loop-i.invariant t (sym k.back_len ∙ e))
+    let e = eqb-true _ 0 (sym c.is_empty.ensures ∙ c.if-not-is_empty.false) in
+    rw c.ended.ensures (going_ended c.loop-i.invariant t (omega (arith, k.back_len, e)))
